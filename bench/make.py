@@ -11,7 +11,7 @@ import sys
 UNIT, CODE, BSS, RELOC32, EXT = 0x3E7, 0x3E9, 0x3EB, 0x3EC, 0x3EF
 SYMBOL, DEBUG, END, HEADER = 0x3F0, 0x3F1, 0x3F2, 0x3F3
 
-# one hunk of one longword, open behind its code
+# one hunk of one longword, open after its code
 ONE_HUNK = [HEADER, 0, 1, 0, 0, 1, CODE, 1, 0x4E754E71]
 
 

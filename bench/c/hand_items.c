@@ -155,7 +155,7 @@ static uint32_t width_of(uint32_t kind)
     return 0;
 }
 
-/* What stands behind the word of a block of a hunk with so many bytes. */
+/* What stands after the word of a block of a hunk with so many bytes. */
 static int body(struct walk *w, struct hunk_block *row, uint32_t declared, uint32_t hunks,
                 int *content, uint64_t *size)
 {

@@ -302,7 +302,7 @@ struct hunk_answer hunk_end(const struct hunk_loader *loader);
  * HUNK_STRANGE  the loader's numbers are none that a loader may have.
  * Else the same as hunk_feed has answered, where it answered a fault.
  *
- * All that is known to come is asked for at once, as the rest of a content, and behind it the
+ * All that is known to come is asked for at once, as the rest of a content, and after it the
  * longwords that the end of the file has at least.
  */
 struct hunk_answer hunk_want(const struct hunk_loader *loader);

@@ -112,7 +112,7 @@ export function nameOf(bytes, row) {
   return text;
 }
 
-/** The memory of an instance: what a call is given is put behind the module's own data. */
+/** The memory of an instance: what a call is given is put after the module's own data. */
 class Room {
   constructor(instance) {
     this.exports = instance.exports;

@@ -288,7 +288,7 @@ def _segments(memory: Any, sizes: Sequence[int]) -> list[bytes]:
 
 
 def table(data: Data, budget: int = BUDGET) -> list[Hunk]:
-    """The hunks that the header at the front of the bytes declares. Bytes behind it are not read."""
+    """The hunks that the header at the front of the bytes declares. Bytes after it are not read."""
     rows = _rows(_table, _ROW, _bytes(data), _number(budget, 64, "budget"), counted="hunk")
     return [Hunk(size, _MEMORY[memory], extra, 0, i) for i, (_, extra, size, memory) in enumerate(rows)]
 
@@ -296,7 +296,7 @@ def table(data: Data, budget: int = BUDGET) -> list[Hunk]:
 def load(data: Data, base: Union[int, Sequence[int]] = 0x1000, budget: int = BUDGET) -> list[bytes]:
     """The bytes of each hunk of the load file at the front of the bytes, relocated.
 
-    `base` is the address of the first hunk, and the others lie right behind it; or a list with an address for each."""
+    `base` is the address of the first hunk, and the others lie right after it; or a list with an address for each."""
     data = _bytes(data)
     sizes = [hunk.size for hunk in table(data, budget)]
     memory = (c_uint8 * sum(sizes))()

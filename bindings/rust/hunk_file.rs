@@ -149,7 +149,7 @@ pub struct Entry<'a> {
     pub value: u32,
     /// The name that it defines or refers to.
     pub name: &'a [u8],
-    /// The number of its first reference, and of that behind its last.
+    /// The number of its first reference, and of that after its last.
     references: (usize, usize),
 }
 

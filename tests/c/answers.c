@@ -6,7 +6,7 @@
 #define MOST_HUNKS 65536
 
 static struct guarded file_bytes = {1 << 20, NULL};
-static struct guarded row_room = {(MOST_HUNKS + BEHIND) * sizeof(struct hunk_row), NULL};
+static struct guarded row_room = {(MOST_HUNKS + AFTER) * sizeof(struct hunk_row), NULL};
 static struct guarded front_room = {PAGE, NULL};
 static struct guarded base_room = {MOST_HUNKS * 4, NULL};
 static struct guarded memory_room = {(1 << 24) + PAGE, NULL};
@@ -85,10 +85,10 @@ static int read_table(struct loaded *f)
         expect(rows[h].memory == 3 || rows[h].extra == 0, f->name, "attributes");
     }
     expect(sum == f->table.count, f->name, "the sum of the rows");
-    rows = marked(&row_room, (f->table.hunk + BEHIND) * sizeof *rows);
-    told = hunk_table(f->bytes, f->table.place, sum, rows, f->table.hunk + BEHIND);
+    rows = marked(&row_room, (f->table.hunk + AFTER) * sizeof *rows);
+    told = hunk_table(f->bytes, f->table.place, sum, rows, f->table.hunk + AFTER);
     expect(same(told, f->table), f->name, "hunk_table of the header alone");
-    expect(all_marked(rows + f->table.hunk, BEHIND * sizeof *rows), f->name, "rows behind");
+    expect(all_marked(rows + f->table.hunk, AFTER * sizeof *rows), f->name, "rows after");
     f->rows = rows;
     return 1;
 }
@@ -130,7 +130,7 @@ static void answers(struct loaded *f)
         print_refusal(f->table);
         return;
     }
-    size_t room = f->table.count + BEHIND;
+    size_t room = f->table.count + AFTER;
     uint8_t *memory = marked(&memory_room, room);
     struct hunk_answer a = hunk_load_packed(f->bytes, f->len, f->base, memory, room);
     if (a.number != HUNK_OK) {
@@ -138,7 +138,7 @@ static void answers(struct loaded *f)
         print_refusal(a);
         return;
     }
-    expect(all_marked(memory + f->table.count, BEHIND), f->name, "memory behind the hunks");
+    expect(all_marked(memory + f->table.count, AFTER), f->name, "memory after the hunks");
     expect(a.hunk == f->table.hunk && a.count == f->table.count, f->name, "what was loaded");
     expect(a.place >= f->table.place && a.place <= f->len, f->name, "bytes of the file");
     uint64_t at = 0;
@@ -147,7 +147,7 @@ static void answers(struct loaded *f)
         at += f->rows[h].bytes;
     }
     load_listed(f, a, memory);
-    /* All of the file is needed, and no byte behind it. */
+    /* All of the file is needed, and no byte after it. */
     uint8_t *again = marked(&again_room, room);
     struct hunk_answer whole = hunk_load_packed(f->bytes, a.place, f->base, again, room);
     expect(same(whole, a), f->name, "the file alone");

@@ -89,7 +89,7 @@ fn wrong_calls(load: &[Row], objects: &[Row]) -> Vec<String> {
     let mut ram = [0xAA; 8];
     let mut names = Vec::new();
     let text = |result: Result<usize, Error>| result.unwrap_err().to_string();
-    // The offset is the third longword of the relocation block, which stands behind a unit of 2 longwords and CODE of 3.
+    // The offset is the third longword of the relocation block, which stands after a unit of 2 longwords and CODE of 3.
     let finding = |place, fault| Finding { place, unit: 0, hunk: 0, offset: 2, fault };
     let row = Hunk { unit: 0, number: 0, size: 4, memory: Memory::Any, kind: None };
     let read = hunk::read(&one).unwrap();

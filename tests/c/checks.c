@@ -4,9 +4,9 @@
 #include "tabled.h"
 
 static struct guarded file_bytes = {1 << 20, NULL};
-static struct guarded row_room = {(MOST_ROWS + BEHIND) * sizeof(struct hunk_finding), NULL};
-static struct guarded text_room = {(1 << 20) + BEHIND, NULL};
-static struct guarded again_room = {(1 << 20) + BEHIND, NULL};
+static struct guarded row_room = {(MOST_ROWS + AFTER) * sizeof(struct hunk_finding), NULL};
+static struct guarded text_room = {(1 << 20) + AFTER, NULL};
+static struct guarded again_room = {(1 << 20) + AFTER, NULL};
 static struct guarded table_room[TABLES];
 
 /* A file as it was read, and what both calls answer of it, but for `number` and `count`. */
@@ -170,10 +170,10 @@ static int check(struct checked *f)
         expect(same(small, answer_of(f, HUNK_NO_ROOM, findings)), f->name, "a row too few");
         expect(all_marked(rows, (findings - 1) * sizeof *rows), f->name, "rows that are too few");
     }
-    rows = marked(&row_room, (findings + BEHIND) * sizeof *rows);
-    struct hunk_answer more = hunk_check(f->bytes, f->of.place, rows, findings + BEHIND);
+    rows = marked(&row_room, (findings + AFTER) * sizeof *rows);
+    struct hunk_answer more = hunk_check(f->bytes, f->of.place, rows, findings + AFTER);
     expect(same(more, all), f->name, "a check of the file alone");
-    expect(all_marked(rows + findings, BEHIND * sizeof *rows), f->name, "rows behind");
+    expect(all_marked(rows + findings, AFTER * sizeof *rows), f->name, "rows after");
     print_summary(f, findings);
     return 1;
 }
@@ -205,10 +205,10 @@ static void strip(const struct checked *f, const char *folder)
     struct hunk_answer small = hunk_strip(f->bytes, f->len, again, len - 1);
     expect(same(small, asked), f->name, "a byte too few");
     expect(all_marked(again, len - 1), f->name, "text that is too short");
-    again = marked(&again_room, len + BEHIND);
-    struct hunk_answer more = hunk_strip(f->bytes, f->of.place, again, len + BEHIND);
+    again = marked(&again_room, len + AFTER);
+    struct hunk_answer more = hunk_strip(f->bytes, f->of.place, again, len + AFTER);
     expect(same(more, all), f->name, "a strip of the file alone");
-    expect(all_marked(again + len, BEHIND), f->name, "text behind");
+    expect(all_marked(again + len, AFTER), f->name, "text after");
     expect(memcmp(again, text, len) == 0, f->name, "the texts of two strips");
 
     again = marked(&again_room, len);

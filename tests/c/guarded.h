@@ -13,7 +13,7 @@
 
 #define PAGE 65536
 #define MARK 0xA5
-#define BEHIND 64 /* bytes, or rows, that have to stay as they were */
+#define AFTER 64 /* bytes, or rows, that have to stay as they were */
 
 static int failures;
 

@@ -93,10 +93,10 @@ static void checked(const char *name, uint32_t hunks, size_t count, size_t left)
     uint8_t *text = marked(&text_room, len);
     a = hunk_strip(file, len, text, len);
     expect(same(a, (struct hunk_answer){HUNK_OK, hunks, len, left}), name, "hunk_strip");
-    expect(all_marked(text + left, len - left), name, "the text behind a stripped file");
+    expect(all_marked(text + left, len - left), name, "the text after a stripped file");
 }
 
-/* hunk_blocks, of blocks that stand one behind the other from the first byte up to the last. */
+/* hunk_blocks, of blocks that stand one after the other from the first byte up to the last. */
 static void blocks_listed(const char *name, struct hunk_answer all, uint64_t first, uint64_t last)
 {
     struct hunk_block *table = marked(&row_room, all.count * sizeof *table);
@@ -230,11 +230,11 @@ static void many_hunks(void)
     size_t lists = len, kept = len;
     kept += put_lists();
     PUT(MANY, 0x3F1, 0);
-    size_t behind = len;
+    size_t after = len;
     PUT(1, 0x3F2);
     PUT(MOST_HUNKS - 1, 0x3EB, 1, 0x3F2);
     loaded("many hunks", table, 2 * MANY * BASE + BASE + 4 * (MOST_HUNKS - 1));
-    checked("many hunks", MOST_HUNKS, 0, kept + len - behind);
+    checked("many hunks", MOST_HUNKS, 0, kept + len - after);
     struct hunk_answer blocks = {HUNK_OK, MOST_HUNKS, len, 6 + MANY + 2 * (MOST_HUNKS - 1)};
     blocks_listed("many hunks", blocks, table.place, len);
     lists_listed("many hunks", MOST_HUNKS, lists, 1);
@@ -280,12 +280,12 @@ static void many_units(void)
     size_t entries = len;
     kept += put_entries();
     PUT(MANY, 0x3F1, 0);
-    size_t behind = len;
+    size_t after = len;
     PUT(1, 0x3F2);
     PUT(MANY - 1, 0x3EB, 1, 0x3F2);
     size_t units = len;
     PUT(MANY - 1, 0x3E7, 0);
-    checked("many units", 0, MANY, kept + len - behind);
+    checked("many units", 0, MANY, kept + len - after);
     struct hunk_answer blocks = {HUNK_OK, 0, len, 6 + MANY + 2 * (MANY - 1)};
     blocks_listed("many units", blocks, 8, units);
     lists_listed("many units", 0, lists, 0);

@@ -144,11 +144,11 @@ static uint64_t wanted(const struct streamed *f, const struct hunk_loader *loade
     expect((at + a.count) % 4 == 0, f->name, "whole longwords are wanted");
     expect((a.count == 0) == (hunk_end(loader).number == HUNK_OK), f->name, "more is wanted");
     if (f->wanted.number == HUNK_OK)
-        expect(at + a.count <= f->wanted.place, f->name, "no byte behind the file is wanted");
+        expect(at + a.count <= f->wanted.place, f->name, "no byte after the file is wanted");
     return a.count;
 }
 
-/* Just what is wanted is fed, as long as there is as much: all of the file, and no byte behind it. */
+/* Just what is wanted is fed, as long as there is as much: all of the file, and no byte after it. */
 static void fed_as_wanted(const struct streamed *f)
 {
     struct hunk_loader *loader = marked(&loader_room, sizeof *loader);
@@ -171,7 +171,7 @@ static void fed_as_wanted(const struct streamed *f)
         expect(f->wanted.number != HUNK_OK, f->name, "more is wanted than there is");
 }
 
-/* The whole of the bytes behind the header, in pieces of so many: what is taken, and the end. */
+/* The whole of the bytes after the header, in pieces of so many: what is taken, and the end. */
 static void streamed(const struct streamed *f, size_t most)
 {
     struct hunk_loader *loader = marked(&loader_room, sizeof *loader);
@@ -210,10 +210,10 @@ static void streamed(const struct streamed *f, size_t most)
         return;
     expect(at == end.place, f->name, "the bytes of a stream");
     expect(memcmp(memory, f->image, room) == 0, f->name, "the memory of a stream");
-    struct hunk_answer behind = hunk_feed(loader, f->places, f->table.hunk, memory, room,
+    struct hunk_answer after = hunk_feed(loader, f->places, f->table.hunk, memory, room,
                                           piece_of(f->bytes, 4), 4);
     struct hunk_answer none = {HUNK_OK, end.hunk, end.place, 0};
-    expect(same(behind, none), f->name, "behind the end of a stream");
+    expect(same(after, none), f->name, "after the end of a stream");
 }
 
 int main(int argc, char **argv)

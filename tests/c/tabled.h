@@ -111,7 +111,7 @@ static inline uint64_t text_len(const struct listed *f, uint64_t at, uint64_t le
     return i;
 }
 
-/* Whether this is the name of an item at this byte, and where the item goes on behind it. */
+/* Whether this is the name of an item at this byte, and where the item goes on after it. */
 static inline uint64_t name_end(const struct listed *f, uint64_t place, uint64_t name, uint64_t len)
 {
     uint64_t room = 4 * (uint64_t)(long_at(f, place) & 0xFFFFFF);

@@ -28,11 +28,11 @@ static void tabulate(struct listed *f, int table)
         expect(same(small, few), f->name, "a row too few");
         expect(all_marked(again, (count - 1) * size), f->name, "rows that are too few");
     }
-    again = marked(&again_room, (count + BEHIND) * size);
-    struct hunk_answer more = call(table, f->bytes, f->of.place, again, count + BEHIND);
+    again = marked(&again_room, (count + AFTER) * size);
+    struct hunk_answer more = call(table, f->bytes, f->of.place, again, count + AFTER);
     expect(same(more, all), f->name, "a table of the file alone");
     expect(memcmp(again, rows, count * size) == 0, f->name, "the rows of two tables");
-    expect(all_marked(again + count * size, BEHIND * size), f->name, "rows behind");
+    expect(all_marked(again + count * size, AFTER * size), f->name, "rows after");
     f->rows[table] = rows;
     f->counts[table] = count;
 }
@@ -40,10 +40,10 @@ static void tabulate(struct listed *f, int table)
 /* All calls refuse what is no file for the same. */
 static void refuse(const struct listed *f, int table)
 {
-    size_t room = BEHIND * row_bytes[table];
+    size_t room = AFTER * row_bytes[table];
     uint8_t *rows = marked(&again_room, room);
     expect(same(call(table, f->bytes, f->len, NULL, 0), f->of), f->name, "no file, without rows");
-    expect(same(call(table, f->bytes, f->len, rows, BEHIND), f->of), f->name, "no file");
+    expect(same(call(table, f->bytes, f->len, rows, AFTER), f->of), f->name, "no file");
     expect(all_marked(rows, room), f->name, "rows after a refusal");
 }
 
@@ -68,7 +68,7 @@ static void call_without_bytes(void)
     expect(same(hunk_feed(&loader, NULL, 0, NULL, 0, NULL, 0), strange), "no piece", "a loader");
 }
 
-/* ---- The items of a block, which each function prints; it gives the byte behind them. */
+/* ---- The items of a block, which each function prints; it gives the byte after them. */
 
 static uint64_t print_symbols(struct listed *f, const struct hunk_block *b)
 {
@@ -125,7 +125,7 @@ static uint64_t print_references(struct listed *f, const struct hunk_entry *e, u
     return at;
 }
 
-/* An entry that goes on at this byte behind its name. */
+/* An entry that goes on at this byte after its name. */
 static uint64_t print_entry(struct listed *f, const struct hunk_entry *e, uint64_t at)
 {
     static const char *const definitions[] = {"SYMB", "DEF", "ABS"};
@@ -164,8 +164,8 @@ static uint64_t print_entries(struct listed *f, const struct hunk_block *b)
 
 /* ---- Blocks. */
 
-/* What a block holds behind its word: lists up to OFFSETS, a size from A_SIZE on, and from CONTENT
- * on so many longwords behind it. */
+/* What a block holds after its word: lists up to OFFSETS, a size from A_SIZE on, and from CONTENT
+ * on so many longwords after it. */
 enum holds { ITS_SYMBOLS, ITS_ENTRIES, OFFSETS, NOTHING, A_SIZE, CONTENT, DATA, A_NAME };
 
 /* The last one stands for all others. */
@@ -232,7 +232,7 @@ static void print_block(const struct listed *f, const struct hunk_block *b,
     }
 }
 
-/* The lines of what a block holds, and the byte behind it. */
+/* The lines of what a block holds, and the byte after it. */
 static uint64_t print_items(struct listed *f, const struct hunk_block *b,
                             const struct block_kind *k)
 {
@@ -290,7 +290,7 @@ static void print_hunk(const struct listed *f, const struct hunk_block *b)
     printf("hunk %" PRIu64 " %" PRIu64 " bytes\n", b->hunk, bytes);
 }
 
-/* The lines of all blocks, which stand one behind the other, from this byte on. */
+/* The lines of all blocks, which stand one after the other, from this byte on. */
 static void print_blocks(struct listed *f, uint64_t at)
 {
     int opens = 1;
@@ -354,7 +354,7 @@ static void list(struct listed *f)
 
 int main(int argc, char **argv)
 {
-    again_room.size = (MOST_ROWS + BEHIND) * sizeof(struct hunk_block);
+    again_room.size = (MOST_ROWS + AFTER) * sizeof(struct hunk_block);
     if (argc < 2 || !make_guarded(&file_bytes) || !make_guarded(&again_room) ||
         !make_rooms(row_room))
         return 3;

@@ -35,7 +35,7 @@ function refusalText({ kind, refusal }) {
 }
 
 function acceptedText(about) {
-  const rest = about.length < file.bytes.length ? `; ${counted(file.bytes.length - about.length, "byte")} behind it are not read` : "";
+  const rest = about.length < file.bytes.length ? `; ${counted(file.bytes.length - about.length, "byte")} after it are not read` : "";
   if (about.hunks > 0) {
     return `A load file: ${counted(about.hunks, "hunk")}, ${counted(about.declared, "byte")} in memory${rest}.`;
   }
@@ -62,7 +62,7 @@ function markOfFile(file, findings) {
     const finding = lastAt(findings, at);
     const tone = isIn(at, picked) ? "picked" : "";
     if (finding >= 0 && at < findings[finding] + 4) return { tone: `finding ${tone}`, title: "a finding" };
-    if (at >= about.length) return { tone: "behind", title: "behind the file" };
+    if (at >= about.length) return { tone: "after", title: "after the file" };
     const block = lastAt(file.blockPlaces, at);
     const kind = block < 0 || at >= file.blocks.get(block, "place") + file.blocks.get(block, "bytes")
       ? null : file.blocks.get(block, "kind");

@@ -67,7 +67,7 @@ static struct hunk *lay_out(uint32_t address, const struct hunk_row *declared)
     return hunks;
 }
 
-/* The hunk, which is this one or one behind it. */
+/* The hunk, which is this one or one after it. */
 static const struct hunk *find(const struct hunk *h, uint64_t unit, uint64_t hunk)
 {
     while (h->unit != unit || h->hunk != hunk)

@@ -1,6 +1,6 @@
 /* Loads a hunk file as it comes, and prints the sum of the bytes of each hunk: stream [BASE] < FILE
  *
- * It reads no byte behind the file: what follows on a pipe stays there. No call of the library asks
+ * It reads no byte after the file: what follows on a pipe stays there. No call of the library asks
  * for memory. */
 #include "hunk.h"
 #include <inttypes.h>

@@ -2,7 +2,7 @@
 *
 * It adds four longs into a BSS of another hunk, and returns the sum and the distance from the end
 * of its own hunk to where it stands:
-*   11111111 + 02222222 + 00333333 + 00044444 = 136AAAAA, and 4 where the hunks lie one right behind
+*   11111111 + 02222222 + 00333333 + 00044444 = 136AAAAA, and 4 where the hunks lie one right after
 *   the other: D0 136AAAAE, at every base. The BSS is then 00000000 136AAAAA 00000000.
 
             section code

@@ -38,7 +38,7 @@ def decoder() -> capstone.Cs:
 def instructions(code: bytes, start: int) -> Iterator[Line]:
     """The instructions of a piece of a CODE hunk, and as data what is cut off at its end."""
     end = start + len(code)
-    # Capstone may look at a few bytes behind an instruction that is cut off.
+    # Capstone may look at a few bytes after an instruction that is cut off.
     for it in decoder().disasm(code + bytes(SPARE), start):
         if it.address + it.size > end:
             yield from longs(code[it.address - start :], it.address)

@@ -71,14 +71,14 @@ at_ext_size entries word name = on_zero (AtExtSize entries word name) refl (at_e
 at_ext_value : (entries : List ExtEntry) (word : ℕ) (name : List ℕ) → Completes (Open (AtExtValue entries word name))
 at_ext_value entries word name = on_zero (AtExtValue entries word name) refl (at_ext_word (entries ++ external word name 0 [] ∷ []))
 
-behind_name : (s : Option ExtShape) (entries : List ExtEntry) (word : ℕ) (name : List ℕ) → Completes (shaped s entries word name)
-behind_name (Some Definition) entries word name = at_ext_value entries word name
-behind_name (Some References) entries word name = at_ext_count entries word name 0
-behind_name (Some Common) entries word name = at_ext_size entries word name
-behind_name None entries word name = at_ext_word entries
+after_name : (s : Option ExtShape) (entries : List ExtEntry) (word : ℕ) (name : List ℕ) → Completes (shaped s entries word name)
+after_name (Some Definition) entries word name = at_ext_value entries word name
+after_name (Some References) entries word name = at_ext_count entries word name 0
+after_name (Some Common) entries word name = at_ext_size entries word name
+after_name None entries word name = at_ext_word entries
 
 ext_named : (entries : List ExtEntry) (word : ℕ) (done : List ℕ) (owed : ℕ) → Completes (name_external entries word done owed)
-ext_named entries word done zero = behind_name (ext_shape (word / 2 ^ 24)) entries word done
+ext_named entries word done zero = after_name (ext_shape (word / 2 ^ 24)) entries word done
 ext_named entries word done (suc owed) = on_zero (InExtName entries word done owed) refl (ext_named entries word (done ++ 0 ∷ []) owed)
 
 -- ---- every place in a block

@@ -1,4 +1,4 @@
--- No part of a block behind its word is refused, and the longwords of a block are longs.
+-- No part of a block after its word is refused, and the longwords of a block are longs.
 use Rattle.std.proofs.Common.{◌≡◌, ◌≢◌, ℕ, ◌^◌, ltb, List, [], ◌∷◌, ◌++◌, length, refl, arith, Option, Some, None}
 use Rattle.std.specs.List.{flat_map, AllByRecursion}
 use Rattle.std.proofs.lemmas.Bool.{lt-ltb}
@@ -49,16 +49,16 @@ shape_passes : (s : Option ExtShape) (e : ExtEntry) → FitsShape s e → refuse
 shape_passes None e h = absurd h
 shape_passes _ e h = refl
 
-behind_passes : (s : Option ExtShape) (e : ExtEntry) → IsLong e.value → IsPayload (2 ^ 32) e.offsets → PartsPass (ext_parts_by s e)
-behind_passes (Some Definition) e v o = (((λ d. cc), refl, v), tt)
-behind_passes (Some References) e v o = (((λ d. cc), refl, o.0), offsets_pass e.offsets o.1)
-behind_passes (Some Common) e v o = (((λ d. cc), refl, v), (((λ d. cc), refl, o.0), offsets_pass e.offsets o.1))
-behind_passes None e v o = tt
+after_passes : (s : Option ExtShape) (e : ExtEntry) → IsLong e.value → IsPayload (2 ^ 32) e.offsets → PartsPass (ext_parts_by s e)
+after_passes (Some Definition) e v o = (((λ d. cc), refl, v), tt)
+after_passes (Some References) e v o = (((λ d. cc), refl, o.0), offsets_pass e.offsets o.1)
+after_passes (Some Common) e v o = (((λ d. cc), refl, v), (((λ d. cc), refl, o.0), offsets_pass e.offsets o.1))
+after_passes None e v o = tt
 
 entry_passes : (e : ExtEntry) → IsExtEntry e → PartsPass (ext_parts e)
 entry_passes e h =
     let s = ext_shape (ext_type e) in
-    (((λ d. cc), shape_passes s e h.shape, h.entry_word.fits), All-append PartPasses (each parts.EntryName e.name) (ext_parts_by s e) (name_passes e.name h.entry_word.longs) (behind_passes s e h.value h.offsets))
+    (((λ d. cc), shape_passes s e h.shape, h.entry_word.fits), All-append PartPasses (each parts.EntryName e.name) (ext_parts_by s e) (name_passes e.name h.entry_word.longs) (after_passes s e h.value h.offsets))
 
 pub body_passes : (word : ℕ) (b : BlockBody) → FitsWord word b → PartsPass (body_parts b)
 body_passes word (Name ws) h =

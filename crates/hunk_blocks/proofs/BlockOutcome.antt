@@ -12,13 +12,13 @@ use Rattle.hunk_blocks.specs.BlockSteps.{Inside, BlockNext, Open, Whole, part_of
 use Rattle.hunk_blocks.proofs.{Admitted.{block}, BlockCompletion.{completes, run_fits}}
 use Rattle.hunk_blocks.proofs.{BlockLongs.block_longs, BlockPrefix.block_prefix}
 use Rattle.hunk_blocks.proofs.BlockProgress.{read_inside, read_next, NextFits, step_fits, step_reads}
-use Rattle.hunk_blocks.proofs.OneBlockFault.{Alone, AtWord, Behind, alone, block_reads, alone_inside, part_not_word}
+use Rattle.hunk_blocks.proofs.OneBlockFault.{Alone, AtWord, After, alone, block_reads, alone_inside, part_not_word}
 use Rattle.hunk_blocks.proofs.Outcomes.{Keeps, run, front, judged, completed}
 use Rattle.hunk_blocks.proofs.{BodyFaults.expects_word, Decoding.{front_bytes, no_block}, FaultLaws.words-append}
 
 -- ---- what is read so far
 
--- a block word that is not refused, and what fits behind it
+-- a block word that is not refused, and what fits after it
 pub record Inner (mode : Mode) (n : BlockNext) (word : ℕ) (ws : List ℕ) : Type 0 where
   pub fits : IsLong word
   pub ok : refuse_alone_word mode word ≡ None
@@ -28,7 +28,7 @@ pub record Inner (mode : Mode) (n : BlockNext) (word : ℕ) (ws : List ℕ) : Ty
 module _ (mode : Mode) where
   abbrev pub SoFar : Alone → List ℕ → Type 0
   SoFar AtWord ws = ws ≡ []
-  SoFar (Behind n) ws = (word : ℕ) × Inner mode n word ws
+  SoFar (After n) ws = (word : ℕ) × Inner mode n word ws
 
   -- a word and a body that fits it
   pub block_is : (word : ℕ) (b : BlockBody) → IsLong word → refuse_alone_word mode word ≡ None → FitsWord word b → IsBlock (block word b) × IsOfMode mode (block word b)
@@ -72,24 +72,24 @@ module _ (mode : Mode) where
       expected AtWord before role h e =
           let same : parts.BlockWord ≡ role = cc in
           subst (Expects (blocks mode) before) same (subst (λ ws. Expects (blocks mode) ws parts.BlockWord) (sym h) (expects_word mode))
-      expected (Behind (Open x)) before role h e =
+      expected (After (Open x)) before role h e =
           let same : part_of x ≡ role = cc in
           subst (Expects (blocks mode) before) same (expects_inside x h.0 before h.1)
-      expected (Behind (Whole b)) before role h e = absurd cc
+      expected (After (Whole b)) before role h e = absurd cc
 
       go : (s : Alone) (before : List ℕ) (role : Part) (w : ℕ) → SoFar s before → alone.expects s ≡ Some role → IsLong w → refuse_alone mode role w ≡ None → SoFar (alone.step s w) (before ++ w ∷ [])
       go AtWord before role w h e l ok =
           let same : parts.BlockWord ≡ role = cc in
           (w, subst (λ ws. Inner mode (begin_body (kind w)) w (ws ++ w ∷ [])) (sym h) (begins_inside w l (ap (λ (r : Part). refuse_alone mode r w) same ∙ ok)))
-      go (Behind (Open x)) before role w h e l ok =
+      go (After (Open x)) before role w h e l ok =
           let same : part_of x ≡ role = cc in
           (h.0, steps_inside x h.0 before w h.1 l (sym (alone_inside mode (part_of x) w (part_not_word x)) ∙ ap (λ (r : Part). refuse_alone mode r w) same ∙ ok))
-      go (Behind (Whole b)) before role w h e l ok = absurd cc
+      go (After (Whole b)) before role w h e l ok = absurd cc
 
       ended : (s : Alone) (before : List ℕ) → SoFar s before → alone.expects s ≡ None → (v : BlockValue) × (IsBlock v × IsOfMode mode v) × (words (block_parts v) ≡ before)
       ended AtWord before h e = absurd cc
-      ended (Behind (Open x)) before h e = absurd cc
-      ended (Behind (Whole b)) before h e = (block h.0 b, block_is h.0 b h.1.fits h.1.ok h.1.inside, sym h.1.words_are)
+      ended (After (Open x)) before h e = absurd cc
+      ended (After (Whole b)) before h e = (block h.0 b, block_is h.0 b h.1.fits h.1.ok h.1.inside, sym h.1.words_are)
 
 -- ---- the laws
 

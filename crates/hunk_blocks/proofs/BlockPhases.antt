@@ -126,7 +126,7 @@ same_part test value _ offset = refl
 pub refuse_phase : (x : Inside) (w : ℕ) → refuse_inside (part_of x) w ≡ refuse_inside (part_at (phase_of x)) w
 refuse_phase x w = same_part (λ (part : Part). refuse_inside part w) refl x (λ r. refl)
 
--- Behind a block word no phase is that of one.
+-- After a block word no phase is that of one.
 pub phase_no_word : (x : Inside) → part_at (phase_of x) ≢ parts.BlockWord
 phase_no_word x e = search rules
 
@@ -136,24 +136,24 @@ phase_no_word x e = search rules
 pub record OneSkipped (p : Phase) (left w : ℕ) : Type 0 where
   pub passes : refuse_inside (part_at p) w ≡ None
   pub run_is : skipped (scan.step p w) ≡ left
-  pub behind_is : skip_all (scan.step p w) ≡ scan.behind p
+  pub after_is : skip_all (scan.step p w) ≡ scan.after p
 
 pub one_skipped : (p : Phase) (left w : ℕ) → skip p ≡ suc left → OneSkipped p left w
-one_skipped (phases.Content longs zero) left w e = record { passes = refl; run_is = omega (arith, e); behind_is = refl }
-one_skipped (phases.Content longs (suc owed)) left w e = record { passes = refl; run_is = omega (arith, e); behind_is = refl }
-one_skipped (phases.Payload zero) left w e = record { passes = refl; run_is = omega (arith, e); behind_is = refl }
-one_skipped (phases.Payload (suc owed)) left w e = record { passes = refl; run_is = omega (arith, e); behind_is = refl }
-one_skipped (phases.Offset target zero) left w e = record { passes = refl; run_is = omega (arith, e); behind_is = refl }
-one_skipped (phases.Offset target (suc owed)) left w e = record { passes = refl; run_is = omega (arith, e); behind_is = refl }
-one_skipped (phases.Symbol zero) left w e = record { passes = refl; run_is = omega (arith, e); behind_is = refl }
-one_skipped (phases.Symbol (suc owed)) left w e = record { passes = refl; run_is = omega (arith, e); behind_is = refl }
-one_skipped (phases.ExtFront zero) left w e = record { passes = refl; run_is = omega (arith, e); behind_is = refl }
-one_skipped (phases.ExtFront (suc owed)) left w e = record { passes = refl; run_is = omega (arith, e); behind_is = refl }
-one_skipped (phases.ExtRest zero) left w e = record { passes = refl; run_is = omega (arith, e); behind_is = refl }
-one_skipped (phases.ExtRest (suc owed)) left w e = record { passes = refl; run_is = omega (arith, e); behind_is = refl }
+one_skipped (phases.Content longs zero) left w e = record { passes = refl; run_is = omega (arith, e); after_is = refl }
+one_skipped (phases.Content longs (suc owed)) left w e = record { passes = refl; run_is = omega (arith, e); after_is = refl }
+one_skipped (phases.Payload zero) left w e = record { passes = refl; run_is = omega (arith, e); after_is = refl }
+one_skipped (phases.Payload (suc owed)) left w e = record { passes = refl; run_is = omega (arith, e); after_is = refl }
+one_skipped (phases.Offset target zero) left w e = record { passes = refl; run_is = omega (arith, e); after_is = refl }
+one_skipped (phases.Offset target (suc owed)) left w e = record { passes = refl; run_is = omega (arith, e); after_is = refl }
+one_skipped (phases.Symbol zero) left w e = record { passes = refl; run_is = omega (arith, e); after_is = refl }
+one_skipped (phases.Symbol (suc owed)) left w e = record { passes = refl; run_is = omega (arith, e); after_is = refl }
+one_skipped (phases.ExtFront zero) left w e = record { passes = refl; run_is = omega (arith, e); after_is = refl }
+one_skipped (phases.ExtFront (suc owed)) left w e = record { passes = refl; run_is = omega (arith, e); after_is = refl }
+one_skipped (phases.ExtRest zero) left w e = record { passes = refl; run_is = omega (arith, e); after_is = refl }
+one_skipped (phases.ExtRest (suc owed)) left w e = record { passes = refl; run_is = omega (arith, e); after_is = refl }
 one_skipped _ left w e = absurd (omega (arith, e))
 
-pub none_skipped : (p : Phase) → skip p ≡ 0 → scan.behind p ≡ Some p
+pub none_skipped : (p : Phase) → skip p ≡ 0 → scan.after p ≡ Some p
 none_skipped (phases.Content longs owed) e = absurd (omega (arith, e))
 none_skipped (phases.Payload owed) e = absurd (omega (arith, e))
 none_skipped (phases.Offset target owed) e = absurd (omega (arith, e))
@@ -163,7 +163,7 @@ none_skipped (phases.ExtRest owed) e = absurd (omega (arith, e))
 none_skipped _ e = refl
 
 -- One longword of a run in a block.
-pub skips_inside : (x : Inside) (left w : ℕ) → skip (phase_of x) ≡ suc left → (refuse_inside (part_of x) w ≡ None) × (skipped (next_phase (step_inside x w)) ≡ left) × (skip_all (next_phase (step_inside x w)) ≡ scan.behind (phase_of x))
+pub skips_inside : (x : Inside) (left w : ℕ) → skip (phase_of x) ≡ suc left → (refuse_inside (part_of x) w ≡ None) × (skipped (next_phase (step_inside x w)) ≡ left) × (skip_all (next_phase (step_inside x w)) ≡ scan.after (phase_of x))
 skips_inside x left w e =
     let o = one_skipped (phase_of x) left w e in
-    (refuse_phase x w ∙ o.passes, ap skipped (step_phase x w) ∙ o.run_is, ap skip_all (step_phase x w) ∙ o.behind_is)
+    (refuse_phase x w ∙ o.passes, ap skipped (step_phase x w) ∙ o.run_is, ap skip_all (step_phase x w) ∙ o.after_is)

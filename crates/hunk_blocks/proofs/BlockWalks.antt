@@ -10,7 +10,7 @@ use Rattle.hunk_blocks.specs.{declared.phase.Phase.Phase, PhaseSteps.{part_at, s
 use Rattle.hunk_blocks.specs.ReaderPhase.{phase_of, next_phase}
 use Rattle.hunk_blocks.proofs.{Admitted.block, BlockOutcome.{SoFar, keeps, block_is, goes_on_none}}
 use Rattle.hunk_blocks.proofs.Decoding.{front_bytes}
-use Rattle.hunk_blocks.proofs.OneBlockFault.{Alone, AtWord, Behind, alone, part_not_word, alone_inside}
+use Rattle.hunk_blocks.proofs.OneBlockFault.{Alone, AtWord, After, alone, part_not_word, alone_inside}
 use Rattle.hunk_blocks.proofs.{Outcomes.front, BlockPhases.{phase_no_word, step_phase, begin_phase, refuse_phase}}
 use Rattle.hunk_blocks.proofs.KeptWalks.{HasRuns, StandsAt, Walks, starts, stands, word_refused, word_passes}
 use Rattle.hunk_blocks.specs.declared.phase.Phase.TheVariants as phases
@@ -18,7 +18,7 @@ use Rattle.hunk_blocks.specs.PhaseSteps as scan
 
 abbrev pub position_of : Alone → Option Phase
 position_of AtWord = Some phases.BlockWord
-position_of (Behind n) = next_phase n
+position_of (After n) = next_phase n
 
 module _ (mode : Mode) where
   pub runs : HasRuns (blocks mode) alone (keeps mode) position_of skipped skip_all
@@ -43,16 +43,16 @@ module _ (mode : Mode) (bytes : List ℕ) (fit : IsBytes bytes) where
   next w AtWord phase e =
       let same : phases.BlockWord ≡ phase = cc in
       subst (λ (p : Phase). Next AtWord p w) same (record { role = parts.BlockWord; expects = refl; refuse_is = refl; step_is = begin_phase (kind w) })
-  next w (Behind (Open x)) phase e =
+  next w (After (Open x)) phase e =
       let same : phase_of x ≡ phase = cc in
-      subst (λ (p : Phase). Next (Behind (Open x)) p w) same
+      subst (λ (p : Phase). Next (After (Open x)) p w) same
       (record {
         role = part_of x;
         expects = refl;
         refuse_is = alone_inside mode (part_of x) w (part_not_word x) ∙ refuse_phase x w ∙ sym (alone_inside mode (part_at (phase_of x)) w (phase_no_word x));
         step_is = step_phase x w;
       })
-  next w (Behind (Whole b)) phase e = absurd cc
+  next w (After (Whole b)) phase e = absurd cc
 
   module _ (at : ℕ) (phase : Phase) (h : BlockWalks mode bytes at (Some phase)) (l : at < length (longs bytes)) (w : ℕ) (is : w ≡ get_or (longs bytes) at 0) where
     s : StandsAt (blocks mode) alone (keeps mode) position_of skipped skip_all (longs bytes) at (Some phase)
@@ -67,7 +67,7 @@ module _ (mode : Mode) (bytes : List ℕ) (fit : IsBytes bytes) where
         inl (word_refused (blocks mode) alone (keeps mode) position_of skipped skip_all (longs bytes) (longs_fit bytes fit) at (Some phase) s l n.role n.expects reason
         (n.refuse_is ∙ ap (refuse_alone mode (part_at phase)) (sym is) ∙ e))
 
-    -- The walk goes on behind it.
+    -- The walk goes on after it.
     pub passes : refuse_alone mode (part_at phase) w ≡ None → BlockWalks mode bytes (at + (1 + skipped (scan.step phase w))) (skip_all (scan.step phase w))
     passes e =
         word_passes (blocks mode) alone (keeps mode) position_of skipped skip_all (longs bytes) (longs_fit bytes fit) at (Some phase) s l n.role n.expects (runs mode)
@@ -80,8 +80,8 @@ module _ (mode : Mode) (bytes : List ℕ) (fit : IsBytes bytes) where
     where
       go : (t : Alone) → SoFar mode t (take at (longs bytes)) → position_of t ≡ None → HasBlockText mode bytes (4 * at)
       go AtWord f e = absurd cc
-      go (Behind (Open x)) f e = absurd cc
-      go (Behind (Whole b)) f e =
+      go (After (Open x)) f e = absurd cc
+      go (After (Whole b)) f e =
           let i = f.1 in
           let v = block_is mode f.0 b i.fits i.ok i.inside in
           let t : block_text (block f.0 b) ≡ take at (longs bytes) = sym i.words_are in
@@ -100,8 +100,8 @@ module _ (mode : Mode) (bytes : List ℕ) (fit : IsBytes bytes) where
   -- a state in a block that goes on
   open_role : (s : Alone) → (position_of s ≡ None → ⊥) → (role : Part) × (alone.expects s ≡ Some role)
   open_role AtWord open_still = (parts.BlockWord, refl)
-  open_role (Behind (Open x)) open_still = (part_of x, refl)
-  open_role (Behind (Whole b)) open_still = absurd (open_still refl)
+  open_role (After (Open x)) open_still = (part_of x, refl)
+  open_role (After (Whole b)) open_still = absurd (open_still refl)
 
   -- The input ends in it.
   pub ends_early : (at : ℕ) (p : Option Phase) → BlockWalks mode bytes at p → length (longs bytes) ≤ at → (p ≡ None → length (longs bytes) < at) → HasBlockFault mode bytes (4 * length (longs bytes)) reasons.Truncated

@@ -1,4 +1,4 @@
--- What stands behind a block word, by the kind of the block.
+-- What stands after a block word, by the kind of the block.
 use Rattle.std.proofs.Common.{◌≡◌, ℕ, ◌+◌, Bool, true, false, ◌^◌, List, ◌++◌, sym, ap, subst, ◌∙◌, arith}
 use Rattle.std.specs.Prelude.{IsTrue, ⊤}
 use Rattle.hunk_words.specs.{declared.block_word.Kind.Kind, Bits.{is_relocation, kind}}
@@ -12,14 +12,14 @@ use Rattle.hunk_blocks.specs.declared.body_view.BodyView.TheVariants as bodies
 use Rattle.hunk_blocks.proofs.{BlockText.{begin_relocation, begin_unknown}, PartTexts.body_text_is}
 
 -- by where a block of its kind begins
-abbrev pub StandsBehind : BlockNext → List ℕ → Type 0
-StandsBehind (Open (AtCount c)) rest = BeginsWithSome (IsPayload (2 ^ 32)) counted_text rest
-StandsBehind (Open (AtSize ForBss)) rest = ⊤
-StandsBehind (Open (AtSize s)) rest = BeginsWithSome IsSized sized_text rest
-StandsBehind (Open (AtGroup groups)) rest = BeginsWithList IsGroup group_text rest
-StandsBehind (Open (AtExtWord entries)) rest = BeginsWithList IsExtEntry ext_text rest
-StandsBehind (Open (AtEntry entries)) rest = BeginsWithList IsSymbolEntry symbol_text rest
-StandsBehind _ rest = ⊤
+abbrev pub StandsAfter : BlockNext → List ℕ → Type 0
+StandsAfter (Open (AtCount c)) rest = BeginsWithSome (IsPayload (2 ^ 32)) counted_text rest
+StandsAfter (Open (AtSize ForBss)) rest = ⊤
+StandsAfter (Open (AtSize s)) rest = BeginsWithSome IsSized sized_text rest
+StandsAfter (Open (AtGroup groups)) rest = BeginsWithList IsGroup group_text rest
+StandsAfter (Open (AtExtWord entries)) rest = BeginsWithList IsExtEntry ext_text rest
+StandsAfter (Open (AtEntry entries)) rest = BeginsWithList IsSymbolEntry symbol_text rest
+StandsAfter _ rest = ⊤
 
 -- a count and a payload come next
 abbrev pub is_counted : BlockNext → Bool
@@ -27,7 +27,7 @@ is_counted (Open (AtCount c)) = true
 is_counted _ = false
 
 module _ (word : ℕ) (rest : List ℕ) (b : BeginsWithSome (FitsWord word) body_text rest) where
-  stands : (body : BlockBody) → FitsWord word body → rest ≡ text_of body ++ b.more → StandsBehind (begin_body (kind word)) rest
+  stands : (body : BlockBody) → FitsWord word body → rest ≡ text_of body ++ b.more → StandsAfter (begin_body (kind word)) rest
   stands (Name ws) h e = rw h.0 (record { value = ws; is = (omega (arith, h.1.0), h.1.1); more = b.more; begins = e })
   stands (Code top ws) h e = rw h.0 (record { value = (top, ws); is = (h.1, h.2); more = b.more; begins = e })
   stands (Data top ws) h e = rw h.0 (record { value = (top, ws); is = (h.1, h.2); more = b.more; begins = e })
@@ -39,18 +39,18 @@ module _ (word : ℕ) (rest : List ℕ) (b : BeginsWithSome (FitsWord word) body
   stands End h e = rw h tt
   stands _ h e = rw h.0 (record { value = _; is = h.1; more = b.more; begins = e })
 
-  pub body_stands : (k : Kind) → k ≡ kind word → StandsBehind (begin_body k) rest
-  body_stands k same = subst (λ j. StandsBehind (begin_body j) rest) (sym same) (stands b.value b.is (b.begins ∙ ap (λ l. l ++ b.more) (body_text_is b.value)))
+  pub body_stands : (k : Kind) → k ≡ kind word → StandsAfter (begin_body k) rest
+  body_stands k same = subst (λ j. StandsAfter (begin_body j) rest) (sym same) (stands b.value b.is (b.begins ∙ ap (λ l. l ++ b.more) (body_text_is b.value)))
 
   pub counted_stands : (k : Kind) → k ≡ kind word → IsTrue (is_counted (begin_body k)) → BeginsWithSome (IsPayload (2 ^ 32)) counted_text rest
   counted_stands k same counted = at (begin_body k) (body_stands k same) counted
     where
-      at : (n : BlockNext) → StandsBehind n rest → IsTrue (is_counted n) → BeginsWithSome (IsPayload (2 ^ 32)) counted_text rest
+      at : (n : BlockNext) → StandsAfter n rest → IsTrue (is_counted n) → BeginsWithSome (IsPayload (2 ^ 32)) counted_text rest
       at (Open (AtCount c)) s h = s
       at _ s h = absurd cc
 
   pub groups_stand : (k : Kind) → k ≡ kind word → IsTrue (is_relocation k) → BeginsWithList IsGroup group_text rest
-  groups_stand k same h = subst (λ (n : BlockNext). StandsBehind n rest) (begin_relocation k h) (body_stands k same)
+  groups_stand k same h = subst (λ (n : BlockNext). StandsAfter n rest) (begin_relocation k h) (body_stands k same)
 
 -- ---- what no memory was found for
 

@@ -1,4 +1,4 @@
--- A text is cut into its value and what stands behind it.
+-- A text is cut into its value and what stands after it.
 use Rattle.std.proofs.Common.{◌≡◌, ◌≢◌, ℕ, zero, suc, ◌<◌, ◌≤◌, List, [], ◌∷◌, ◌++◌, length, refl, sym, ap, ap₂, subst, ◌∙◌, append_assoc, length-append, arith, Option, Some, None}
 use Rattle.std.proofs.Math.Seq.{take-append_seam, drop-append_seam}
 use Rattle.std.specs.{Prelude.IsTrue, List.{flat_map, AllByRecursion}}
@@ -21,7 +21,7 @@ cut value rest = record { value = value; rest = rest }
 
 pub longs_cut_is : (count : ℕ) (words rest : List ℕ) → count ≡ length words → longs_cut count (words ++ rest) ≡ cut words rest
 longs_cut_is count words rest e =
-    ap (λ (n : ℕ). longs_cut n (words ++ rest)) e ∙ ap₂ (λ (front behind : List ℕ). cut front behind) (take-append_seam words rest) (drop-append_seam words rest)
+    ap (λ (n : ℕ). longs_cut n (words ++ rest)) e ∙ ap₂ (λ (front after : List ℕ). cut front after) (take-append_seam words rest) (drop-append_seam words rest)
 
 pub counted_cut_is : (words rest : List ℕ) → counted_cut (counted_text words ++ rest) ≡ cut words rest
 counted_cut_is words rest = longs_cut_is (length words) words rest refl
@@ -42,9 +42,9 @@ group_cut_is g rest =
 
 pub symbol_spelled : (word value : ℕ) (name rest : List ℕ) → length name ≡ name_longs word → symbol_cut ((word ∷ (name ++ value ∷ [])) ++ rest) ≡ cut (entry word name value) rest
 symbol_spelled word value name rest n =
-    let behind : Cut (List ℕ) → Cut SymbolEntry = λ named. cut_map (λ last. entry word named.value last) (long_cut named.rest) in
+    let after : Cut (List ℕ) → Cut SymbolEntry = λ named. cut_map (λ last. entry word named.value last) (long_cut named.rest) in
     ap (λ (l : List ℕ). symbol_cut (word ∷ l)) (append_assoc name (value ∷ []) rest)
-    ∙ ap behind (longs_cut_is (name_longs word) name (value ∷ rest) (sym n))
+    ∙ ap after (longs_cut_is (name_longs word) name (value ∷ rest) (sym n))
 
 pub symbol_cut_is : (s : SymbolEntry) (rest : List ℕ) → IsSymbolEntry s → symbol_cut (symbol_text s ++ rest) ≡ cut s rest
 symbol_cut_is s rest h = ap (λ (l : List ℕ). symbol_cut (l ++ rest)) (symbol_text_is s) ∙ symbol_spelled s.word s.value s.name rest h.entry_word.count
@@ -60,10 +60,10 @@ entry_cut_is e rest h =
     let shape = ext_shape (ext_type e) in
     let last = shaped_text shape (e.value, e.offsets) in
     let make : List ℕ → ℕ × List ℕ → ExtEntry = λ name shaped. record { word = e.word; name = name; value = shaped.0; offsets = shaped.1 } in
-    let behind : Cut (List ℕ) → Cut ExtEntry = λ name. cut_map (make name.value) (shaped_cut shape name.rest) in
+    let after : Cut (List ℕ) → Cut ExtEntry = λ name. cut_map (make name.value) (shaped_cut shape name.rest) in
     ap (λ (l : List ℕ). entry_cut (l ++ rest)) (ext_text_is e)
     ∙ ap (λ (l : List ℕ). entry_cut (e.word ∷ l)) (append_assoc e.name last rest)
-    ∙ ap behind (longs_cut_is (name_longs e.word) e.name (last ++ rest) (sym h.entry_word.count))
+    ∙ ap after (longs_cut_is (name_longs e.word) e.name (last ++ rest) (sym h.entry_word.count))
     ∙ ap (cut_map (make e.name)) (shaped_cut_is shape (e.value, e.offsets) rest (fits_shaped shape e h h.shape))
 
 -- ---- lists
@@ -72,8 +72,8 @@ entry_cut_is e rest h =
 pub record AreCut {A : Type 0} (Is : A → Type 0) (text : A → List ℕ) (one : List ℕ → Cut A) : Type 0 where
   pub cut_is : (x : A) (rest : List ℕ) → Is x → one (text x ++ rest) ≡ cut x rest
   pub word : A → ℕ
-  pub behind : A → List ℕ
-  pub text_is : (x : A) → text x ≡ word x ∷ behind x
+  pub after : A → List ℕ
+  pub text_is : (x : A) → text x ≡ word x ∷ after x
   pub goes_on : (x : A) → Is x → word x ≢ 0
 
 module _ {A : Type 0} {Is : A → Type 0} {text : A → List ℕ} {one : List ℕ → Cut A} (are : AreCut Is text one) where
@@ -91,9 +91,9 @@ module _ {A : Type 0} {Is : A → Type 0} {text : A → List ℕ} {one : List �
       let more : List ℕ = list_text text xs ++ rest in
       let words : list_text text (x ∷ xs) ++ rest ≡ text x ++ more =
       ap (λ l. l ++ rest) (append_assoc (text x) (flat_map text xs) (0 ∷ [])) ∙ append_assoc (text x) (list_text text xs) rest in
-      let first : text x ++ more ≡ are.word x ∷ (are.behind x ++ more) = ap (λ l. l ++ more) (are.text_is x) in
+      let first : text x ++ more ≡ are.word x ∷ (are.after x ++ more) = ap (λ l. l ++ more) (are.text_is x) in
       ap (items_cut one (suc most)) (words ∙ first)
-      ∙ item_first (are.word x) most (are.behind x ++ more) (cut x more) (are.goes_on x h.0) (ap one (sym first) ∙ are.cut_is x more h.0)
+      ∙ item_first (are.word x) most (are.after x ++ more) (cut x more) (are.goes_on x h.0) (ap one (sym first) ∙ are.cut_is x more h.0)
       ∙ ap (cut_map (λ ys. x ∷ ys)) (items_cut_are xs most rest h.1 (omega (arith, few)))
 
   few_items : (xs : List A) → length xs ≤ length (flat_map text xs)
@@ -107,11 +107,11 @@ module _ {A : Type 0} {Is : A → Type 0} {text : A → List ℕ} {one : List �
 
   -- ---- one item after the other
 
-  -- behind the last item
+  -- after the last item
   pub list_cut_ends : (words rest : List ℕ) → words ≡ 0 ∷ rest → list_cut one words ≡ cut [] rest
   list_cut_ends words rest e = ap (list_cut one) e ∙ list_cut_is [] rest tt
 
-  -- The list is the first item and the list behind it.
+  -- The list is the first item and the list after it.
   pub record GoesOn (words : List ℕ) : Type 0 where
     pub is : Is (one words).value
     pub text_in_front : words ≡ text (one words).value ++ (one words).rest
@@ -139,7 +139,7 @@ module _ {A : Type 0} {Is : A → Type 0} {text : A → List ℕ} {one : List �
 
 pub groups_are_cut : AreCut IsGroup group_text group_cut
 groups_are_cut =
-    record { cut_is = λ g rest h. group_cut_is g rest; word = λ g. length g.offsets; behind = λ g. g.target ∷ g.offsets; text_is = group_text_is; goes_on = λ g h. some_offsets g.offsets h.some }
+    record { cut_is = λ g rest h. group_cut_is g rest; word = λ g. length g.offsets; after = λ g. g.target ∷ g.offsets; text_is = group_text_is; goes_on = λ g h. some_offsets g.offsets h.some }
   where
     some_offsets : (offsets : List ℕ) → offsets ≢ [] → length offsets ≢ 0
     some_offsets [] some e = some refl
@@ -147,10 +147,10 @@ groups_are_cut =
 
 pub entries_are_cut : AreCut IsExtEntry ext_text entry_cut
 entries_are_cut =
-    record { cut_is = entry_cut_is; word = λ e. e.word; behind = λ e. e.name ++ shaped_text (ext_shape (ext_type e)) (e.value, e.offsets); text_is = ext_text_is; goes_on = λ e h. h.entry_word.goes_on }
+    record { cut_is = entry_cut_is; word = λ e. e.word; after = λ e. e.name ++ shaped_text (ext_shape (ext_type e)) (e.value, e.offsets); text_is = ext_text_is; goes_on = λ e h. h.entry_word.goes_on }
 
 pub symbols_are_cut : AreCut IsSymbolEntry symbol_text symbol_cut
-symbols_are_cut = record { cut_is = symbol_cut_is; word = λ s. s.word; behind = λ s. s.name ++ s.value ∷ []; text_is = symbol_text_is; goes_on = λ s h. h.entry_word.goes_on }
+symbols_are_cut = record { cut_is = symbol_cut_is; word = λ s. s.word; after = λ s. s.name ++ s.value ∷ []; text_is = symbol_text_is; goes_on = λ s h. h.entry_word.goes_on }
 
 -- ---- bodies and blocks
 

@@ -38,11 +38,11 @@ front_same bytes a b n m h k = (block_same a b (longs (drop n bytes)) (longs (dr
 -- ---- a block that is read
 
 module _ (bytes : List ℕ) (h : BeginsWithSomeBlock bytes) where
-  behind : List ℕ
-  behind = longs (drop h.size bytes)
+  after : List ℕ
+  after = longs (drop h.size bytes)
 
-  stands : longs bytes ≡ block_text h.value ++ behind
-  unfolding behind
+  stands : longs bytes ≡ block_text h.value ++ after
+  unfolding after
   stands = front_longs bytes h.value h.size h.front
 
   pub word_there : 0 < length (longs bytes)
@@ -52,9 +52,9 @@ module _ (bytes : List ℕ) (h : BeginsWithSomeBlock bytes) where
   pub word_read : (old mid : Unread) (word long : ℕ) → old.rest ≡ longs bytes → Reads old mid (long ∷ []) → word ≡ long → longs bytes ≡ word ∷ mid.rest
   word_read old mid word long begins r e = sym begins ∙ r.front ∙ ap (λ w. w ∷ mid.rest) (sym e)
 
-  -- `mid` is the reader behind its word
+  -- `mid` is the reader after its word
   module _ (word : ℕ) (mid : Unread) (first : longs bytes ≡ word ∷ mid.rest) where
-    cut_off : word ∷ mid.rest ≡ h.value.word ∷ (body_text h.value.body ++ behind)
+    cut_off : word ∷ mid.rest ≡ h.value.word ∷ (body_text h.value.body ++ after)
     cut_off = sym first ∙ stands
 
     same : h.value.word ≡ word
@@ -64,13 +64,13 @@ module _ (bytes : List ℕ) (h : BeginsWithSomeBlock bytes) where
     fits = subst (λ (w : ℕ). FitsWord w h.value.body) same h.front.block.body
 
     pub body_there : BeginsWithSome (FitsWord word) body_text mid.rest
-    body_there = let f = cut_off in record { value = h.value.body; is = fits; more = behind; begins = cc }
+    body_there = let f = cut_off in record { value = h.value.body; is = fits; more = after; begins = cc }
 
-    -- and `new` the one behind its body
+    -- and `new` the one after its body
     module _ (new : Unread) (body : BlockBody) (r : ReadsValue (body_cut word) mid new body) where
-      both : cut h.value.body behind ≡ cut body new.rest
-      unfolding body_there behind
-      both = sym (ap (body_cut word) body_there.begins ∙ body_cut_is word h.value.body behind fits) ∙ r.spelled
+      both : cut h.value.body after ≡ cut body new.rest
+      unfolding body_there after
+      both = sym (ap (body_cut word) body_there.begins ∙ body_cut_is word h.value.body after fits) ∙ r.spelled
 
       block_is : h.value ≡ block word body
       block_is = ap₂ (λ (w : ℕ) (b : BlockBody). block w b) same (ap (λ (c : Cut BlockBody). c.value) both)
@@ -89,7 +89,7 @@ module _ (bytes : List ℕ) (h : BeginsWithSomeBlock bytes) where
             r.further,
             ap length first,
             ap length stands,
-            length-append (block_text h.value) behind,
+            length-append (block_text h.value) after,
             ap (λ (c : Cut BlockBody). length c.rest) both,
             ap (λ (b : BlockValue). length (block_text b)) block_is,
             length-bytes_of (block_text (block word body)),

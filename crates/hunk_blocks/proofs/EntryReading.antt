@@ -1,4 +1,4 @@
--- What stands behind the name of an EXT entry.
+-- What stands after the name of an EXT entry.
 use Rattle.std.proofs.Common.{◌≡◌, ℕ, List, ◌∷◌, ◌++◌, length, sym, ap, subst, ◌∙◌, append_assoc, Option}
 use Rattle.hunk_words.specs.Bits.{name_longs, entry_type}
 use Rattle.hunk_blocks.specs.{declared.ext_shape.ExtShape.ExtShape, ExtKinds.ext_shape, Entries.{IsShaped, shaped_text}}

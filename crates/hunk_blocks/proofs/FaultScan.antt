@@ -71,7 +71,7 @@ module _ {State Role : Type 0} (m : Machine State Role) (refuse : Role → ℕ �
       passed l.0 w at (m.expects s) (first_refused (m.step s w) (at + 4) ws) run.0 (ap (refuse l.0) (sym same) ∙ ok.0)
       ∙ scan_front (m.step s w) t ls ws more (at + 4) (subst (λ (x : ℕ). Leads m (m.step s x) ls t) same run.1) ok.1 tail
 
-  -- Nor of what has a text in front, behind which nothing is expected.
+  -- Nor of what has a text in front, after which nothing is expected.
   scan_whole : (s t : State) (ls : List (Role × ℕ)) (ws : List ℕ) (at : ℕ) → Leads m s ls t → Passes ls → m.expects t ≡ None → first_refused s at (words ls ++ ws) ≡ None
   unfolding first_refused
   scan_whole s t [] [] at run ok end = refl
@@ -125,7 +125,7 @@ module _ {Value State Role : Type 0} (g : Grammar Value Role) (m : Machine State
     one_fault at at2 reason reason2 (inr h) (inl k) = absurd (front_passes ws at2 reason2 k (short at h.1).1)
     one_fault at at2 reason reason2 (inr h) (inr k) = ((short at h.1).0 ∙ sym (short at2 k.1).0, h.0 ∙ sym k.0)
 
-  -- nor of what has a text in front, behind which nothing is expected
+  -- nor of what has a text in front, after which nothing is expected
   pub whole_passes : (v : Value) → g.Is v → m.expects (r.end v) ≡ None → (ws rest : List ℕ) (at : ℕ) (reason : Reason) → ws ≡ words (g.labelled v) ++ rest → HasRefusal g ws at reason → ⊥
   whole_passes v is end ws rest at reason e h =
       let some = refused_is ws at reason h in

@@ -22,12 +22,12 @@ longs-first bytes at word some e =
     first [] h same = absurd (omega (arith, h))
     first (x ∷ xs) h same = ap (λ (w : ℕ). w ∷ xs) (sym same)
 
--- the longwords behind a number of them
-pub longs-behind : (bytes : List ℕ) (at count : ℕ) → longs (drop (at + 4 * count) bytes) ≡ drop count (longs (drop at bytes))
-longs-behind bytes at count = ap longs (sym (drop-drop (4 * count) at bytes)) ∙ longs-drop (drop at bytes) count (4 * count) refl
+-- the longwords after a number of them
+pub longs-after : (bytes : List ℕ) (at count : ℕ) → longs (drop (at + 4 * count) bytes) ≡ drop count (longs (drop at bytes))
+longs-after bytes at count = ap longs (sym (drop-drop (4 * count) at bytes)) ∙ longs-drop (drop at bytes) count (4 * count) refl
 
--- the longwords from a place on, cut behind a number of them
+-- the longwords from a place on, cut after a number of them
 pub longs-cut : (bytes words : List ℕ) (at count : ℕ) → words ≡ slice_range bytes at (at + 4 * count) → longs (drop at bytes) ≡ longs words ++ longs (drop (at + 4 * count) bytes)
 longs-cut bytes words at count w =
     sym (take-append-drop count (longs (drop at bytes)))
-    ∙ ap₂ (λ xs ys. xs ++ ys) (sym (ap longs w ∙ longs-take (drop at bytes) count (at + 4 * count - at) (omega arith))) (sym (longs-behind bytes at count))
+    ∙ ap₂ (λ xs ys. xs ++ ys) (sym (ap longs w ∙ longs-take (drop at bytes) count (at + 4 * count - at) (omega arith))) (sym (longs-after bytes at count))

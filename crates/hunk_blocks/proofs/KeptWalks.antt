@@ -6,19 +6,19 @@ use Rattle.hunk_words.specs.{declared.reason.Reason.Reason, Longs.{IsLong, AreLo
 use Rattle.hunk_blocks.specs.Faults.{Grammar, HasRefusal}
 use Rattle.hunk_blocks.proofs.{FaultScan.Machine, Fronts.{All-left, All-right}, Outcomes.Keeps}
 
--- The position of a state, how many longwords come there that no test looks at, and the position behind them.
-module _ {Value State Role Pos : Type 0} (g : Grammar Value Role) (m : Machine State Role) (k : Keeps g m) (pos : State → Pos) (run : Pos → ℕ) (behind : Pos → Pos) where
+-- The position of a state, how many longwords come there that no test looks at, and the position after them.
+module _ {Value State Role Pos : Type 0} (g : Grammar Value Role) (m : Machine State Role) (k : Keeps g m) (pos : State → Pos) (run : Pos → ℕ) (after : Pos → Pos) where
   -- one longword of a run, of which this number is left
   pub record OnePasses (s : State) (left w : ℕ) : Type 0 where
     pub role : Role
     pub expects : m.expects s ≡ Some role
     pub passes : g.refuse role w ≡ None
     pub run_is : run (pos (m.step s w)) ≡ left
-    pub behind_is : behind (pos (m.step s w)) ≡ behind (pos s)
+    pub after_is : after (pos (m.step s w)) ≡ after (pos s)
 
   pub record HasRuns : Type 0 where
     pub one : (s : State) (before : List ℕ) (left w : ℕ) → k.SoFar s before → run (pos s) ≡ suc left → OnePasses s left w
-    pub none : (s : State) → run (pos s) ≡ 0 → behind (pos s) ≡ pos s
+    pub none : (s : State) → run (pos s) ≡ 0 → after (pos s) ≡ pos s
 
   -- It stands at this longword.
   pub record StandsAt (ws : List ℕ) (at : ℕ) (p : Pos) : Type 0 where
@@ -49,7 +49,7 @@ module _ {Value State Role Pos : Type 0} (g : Grammar Value Role) (m : Machine S
     state : State
     so_far : k.SoFar state (before ++ ws)
     run_is : run (pos state) + length ws ≡ run (pos s)
-    behind_is : behind (pos state) ≡ behind (pos s)
+    after_is : after (pos state) ≡ after (pos s)
 
   passes_one : HasRuns → (s : State) (before : List ℕ) (w : ℕ) (ws : List ℕ) → k.SoFar s before → IsLong w → suc (length ws) ≤ run (pos s) → ((t : State) (done : List ℕ) → k.SoFar t done → length ws ≤ run (pos t) → Passed t done ws) → Passed s before (w ∷ ws)
   passes_one runs s before w ws h l few rest = go (run (pos s)) refl
@@ -63,11 +63,11 @@ module _ {Value State Role Pos : Type 0} (g : Grammar Value Role) (m : Machine S
             state = n.state;
             so_far = subst (k.SoFar n.state) (append_assoc before (w ∷ []) ws) n.so_far;
             run_is = omega (arith, n.run_is, o.run_is, e);
-            behind_is = n.behind_is ∙ o.behind_is;
+            after_is = n.after_is ∙ o.after_is;
           }
 
   passes_run : HasRuns → (s : State) (before ws : List ℕ) → k.SoFar s before → AreLongs ws → length ws ≤ run (pos s) → Passed s before ws
-  passes_run runs s before [] h l few = record { state = s; so_far = subst (k.SoFar s) (sym (append-nil before)) h; run_is = omega arith; behind_is = refl }
+  passes_run runs s before [] h l few = record { state = s; so_far = subst (k.SoFar s) (sym (append-nil before)) h; run_is = omega arith; after_is = refl }
   passes_run runs s before (w ∷ ws) h l few = passes_one runs s before w ws h l.0 (omega (arith, few)) (λ t done d more. passes_run runs t done ws d l.1 more)
 
   module _ (ws : List ℕ) (fit : AreLongs ws) (at : ℕ) (p : Pos) (s : StandsAt ws at p) (l : at < length ws) (role : Role) (expects : m.expects s.state ≡ Some role) where
@@ -117,7 +117,7 @@ module _ {Value State Role Pos : Type 0} (g : Grammar Value Role) (m : Machine S
             beyond = beyond;
           }
 
-      some_passed : at + (1 + run q) ≤ length ws → StandsAt ws (at + (1 + run q)) (behind q)
+      some_passed : at + (1 + run q) ≤ length ws → StandsAt ws (at + (1 + run q)) (after q)
       unfolding rest next
       some_passed some =
           let many : length (take (run q) rest) ≡ run q = length-take-le (run q) rest (omega (arith, length-drop (at + 1) ws, some)) in
@@ -126,10 +126,10 @@ module _ {Value State Role Pos : Type 0} (g : Grammar Value Role) (m : Machine S
           record {
             state = n.state;
             so_far = subst (k.SoFar n.state) (sym (take-add (at + 1) (run q) ws) ∙ ap (λ (i : ℕ). take i ws) place) n.so_far;
-            position_is = sym (runs.none n.state (omega (arith, n.run_is, many, run_is))) ∙ n.behind_is ∙ ap behind e;
+            position_is = sym (runs.none n.state (omega (arith, n.run_is, many, run_is))) ∙ n.after_is ∙ ap after e;
             whole = some;
           }
 
-      -- The walk goes on behind it and its run.
-      pub word_passes : Walks ws (at + (1 + run q)) (behind q)
+      -- The walk goes on after it and its run.
+      pub word_passes : Walks ws (at + (1 + run q)) (after q)
       word_passes = elim (cases_lt (length ws) (at + (1 + run q))) [ inl beyond ↦ inr (all_passed beyond) | inr some ↦ inl (some_passed some) ]

@@ -1,5 +1,5 @@
 pub mod Admitted
-pub mod Along
+pub mod AlongText
 pub mod BlockCompletion
 pub mod BlockLongs
 pub mod BlockOutcome

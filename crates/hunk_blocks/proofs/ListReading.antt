@@ -9,9 +9,9 @@ use Rattle.hunk_blocks.proofs.Lists.{flat_map-more, map-more}
 module _ {A : Type 0} {Is : A → Type 0} {text : A → List ℕ} {one : List ℕ → Cut A} (are : AreCut Is text one) where
   -- ---- one item
 
-  module _ (a : Unread) (word : ℕ) (behind : List ℕ) (list : BeginsWithList Is text a.rest) (begins : a.rest ≡ word ∷ behind) (some : word ≢ 0) where
+  module _ (a : Unread) (word : ℕ) (after : List ℕ) (list : BeginsWithList Is text a.rest) (begins : a.rest ≡ word ∷ after) (some : word ≢ 0) where
     on : GoesOn are a.rest
-    on = list_goes_on are a.rest list word behind begins some
+    on = list_goes_on are a.rest list word after begins some
 
     pub item_there : BeginsWithSome Is text a.rest
     item_there = record { value = (one a.rest).value; is = on.is; more = (one a.rest).rest; begins = on.text_in_front }
@@ -35,19 +35,19 @@ module _ {A : Type 0} {Is : A → Type 0} {text : A → List ℕ} {one : List �
   -- Some of the items were read, and the list goes on.
   pub record Passes (old new : Unread) : Type 0 where
     pub left : BeginsWithList Is text new.rest
-    pub behind : (list_cut one new.rest).rest ≡ (list_cut one old.rest).rest
+    pub after : (list_cut one new.rest).rest ≡ (list_cut one old.rest).rest
     pub further : new.place + 4 * length new.rest ≡ old.place + 4 * length old.rest
 
-  pub item_passed : (a b c : Unread) (word : ℕ) (behind : List ℕ) (x : A) → Passes a b → b.rest ≡ word ∷ behind → word ≢ 0 → ReadsValue one b c x → Passes a c
-  item_passed a b c word behind x p e some r =
-      let f = item_first b word behind p.left e some c x r in
-      record { left = f.left; behind = ap (λ (l : Cut (List A)). l.rest) (sym f.first) ∙ p.behind; further = r.further ∙ p.further }
+  pub item_passed : (a b c : Unread) (word : ℕ) (after : List ℕ) (x : A) → Passes a b → b.rest ≡ word ∷ after → word ≢ 0 → ReadsValue one b c x → Passes a c
+  item_passed a b c word after x p e some r =
+      let f = item_first b word after p.left e some c x r in
+      record { left = f.left; after = ap (λ (l : Cut (List A)). l.rest) (sym f.first) ∙ p.after; further = r.further ∙ p.further }
 
-  pub list_passed : (a b c : Unread) (word : ℕ) (behind : List ℕ) → Passes a b → b.rest ≡ word ∷ behind → word ≡ 0 → (read : ℕ) → Reads b c (read ∷ []) → (start : Unread) → start ≡ a → ReadsValue (list_cut one) a c (list_cut one start.rest).value
-  list_passed a b c word behind p e none read r start begin =
-      let same : read ∷ c.rest ≡ word ∷ behind = sym r.front ∙ e in
+  pub list_passed : (a b c : Unread) (word : ℕ) (after : List ℕ) → Passes a b → b.rest ≡ word ∷ after → word ≡ 0 → (read : ℕ) → Reads b c (read ∷ []) → (start : Unread) → start ≡ a → ReadsValue (list_cut one) a c (list_cut one start.rest).value
+  list_passed a b c word after p e none read r start begin =
+      let same : read ∷ c.rest ≡ word ∷ after = sym r.front ∙ e in
       let ends : b.rest ≡ 0 ∷ c.rest = r.front ∙ ap (λ w. w ∷ c.rest) (let f = same in let g : read ≡ word = cc in g ∙ none) in
-      let rest : (list_cut one a.rest).rest ≡ c.rest = sym p.behind ∙ ap (λ (l : Cut (List A)). l.rest) (list_cut_ends are b.rest c.rest ends) in
+      let rest : (list_cut one a.rest).rest ≡ c.rest = sym p.after ∙ ap (λ (l : Cut (List A)). l.rest) (list_cut_ends are b.rest c.rest ends) in
       record { spelled = ap₂ (λ (u : Unread) (l : List ℕ). cut (list_cut one u.rest).value l) (sym begin) rest; further = omega (arith, r.further, ap length r.front, p.further) }
 
   -- ---- as an iterator sees it
@@ -55,13 +55,13 @@ module _ {A : Type 0} {Is : A → Type 0} {text : A → List ℕ} {one : List �
   abbrev seen : Unread → Placed (List A)
   seen u = record { place = u.place; value = (list_cut one u.rest).value }
 
-  module _ {T : Type 0} (view : T → A) (a : Unread) (now : Placed (List A)) (same : seen a ≡ now) (list : BeginsWithList Is text a.rest) (word : ℕ) (behind : List ℕ) (begins : a.rest ≡ word ∷ behind) where
+  module _ {T : Type 0} (view : T → A) (a : Unread) (now : Placed (List A)) (same : seen a ≡ now) (list : BeginsWithList Is text a.rest) (word : ℕ) (after : List ℕ) (begins : a.rest ≡ word ∷ after) where
     pub none_given : word ≡ 0 → GivesFirst view text now None now
-    none_given none = (ap (λ (p : Placed (List A)). p.value) (sym same) ∙ ap (λ (l : Cut (List A)). l.value) (list_cut_ends are a.rest behind (begins ∙ ap (λ w. w ∷ behind) none)), refl)
+    none_given none = (ap (λ (p : Placed (List A)). p.value) (sym same) ∙ ap (λ (l : Cut (List A)). l.value) (list_cut_ends are a.rest after (begins ∙ ap (λ w. w ∷ after) none)), refl)
 
     pub first_given : word ≢ 0 → (b : Unread) (item : T) → ReadsValue one a b (view item) → GivesFirst view text now (Some item) (seen b)
     first_given some b item r =
-        let f = item_first a word behind list begins some b (view item) r in
+        let f = item_first a word after list begins some b (view item) r in
         (ap (λ (p : Placed (List A)). p.value) (sym same) ∙ ap (λ (l : Cut (List A)). l.value) f.first, f.place ∙ ap (λ (p : Placed (List A)). p.place + 4 * length (text (view item))) same)
 
 -- an item given is one less to come

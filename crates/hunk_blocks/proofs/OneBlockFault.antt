@@ -15,27 +15,27 @@ pub use Rattle.hunk_blocks.proofs.BlockLongs.{PartsPass, body_passes}
 
 pub data Alone : Type 0 where
   AtWord : Alone
-  Behind : BlockNext → Alone
+  After : BlockNext → Alone
 
 abbrev pub expects : Alone → Option Part
 expects AtWord = Some parts.BlockWord
-expects (Behind (Open x)) = Some (part_of x)
-expects (Behind (Whole b)) = None
+expects (After (Open x)) = Some (part_of x)
+expects (After (Whole b)) = None
 
 abbrev pub step : Alone → ℕ → Alone
-step AtWord w = Behind (begin_body (kind w))
-step (Behind (Open x)) w = Behind (step_inside x w)
-step (Behind (Whole b)) w = Behind (Whole b)
+step AtWord w = After (begin_body (kind w))
+step (After (Open x)) w = After (step_inside x w)
+step (After (Whole b)) w = After (Whole b)
 
 abbrev pub alone : Machine Alone Part
 alone = record { start = AtWord; expects = expects; step = step }
 
-follows_leads : (n end : BlockNext) (ps : List (Part × ℕ)) → Follows n ps end → Leads alone (Behind n) ps (Behind end)
-follows_leads n end [] h = ap (λ (x : BlockNext). Behind x) h
+follows_leads : (n end : BlockNext) (ps : List (Part × ℕ)) → Follows n ps end → Leads alone (After n) ps (After end)
+follows_leads n end [] h = ap (λ (x : BlockNext). After x) h
 follows_leads (Open x) end (p ∷ ps) h = (ap (λ (part : Part). Some part) h.0, follows_leads (step_inside x p.1) end ps h.1)
 follows_leads (Whole b) end (p ∷ ps) h = absurd h
 
--- no longword behind the block word is one
+-- no longword after the block word is one
 pub part_not_word : (x : Inside) → part_of x ≢ parts.BlockWord
 part_not_word (AtCount ForName) e = cc
 part_not_word _ e = cc
@@ -48,13 +48,13 @@ alone_passes : (mode : Mode) (ps : List (Part × ℕ)) → PartsPass ps → Pass
 alone_passes mode [] h = tt
 alone_passes mode (p ∷ ps) h = (alone_inside mode p.0 p.1 h.0.0 ∙ h.0.1, alone_passes mode ps h.1)
 
-pub block_leads : (b : BlockValue) → IsBlock b → Leads alone AtWord (block_parts b) (Behind (Whole b.body))
+pub block_leads : (b : BlockValue) → IsBlock b → Leads alone AtWord (block_parts b) (After (Whole b.body))
 block_leads b is = (refl, follows_leads (begin_body (kind b.word)) (Whole b.body) (body_parts b.body) (body_follows b.word b.body is.body))
 
 pub block_reads : (mode : Mode) → Reads (blocks mode) alone
 block_reads mode =
     record {
-      end = λ b. Behind (Whole b.body);
+      end = λ b. After (Whole b.body);
       leads = λ b h. block_leads b h.0;
       passes = λ b h. (word_passes mode b h.0 h.1, alone_passes mode (body_parts b.body) (body_passes b.word b.body h.0.body));
     }

@@ -28,7 +28,7 @@ module _ {State Role : Type 0} (m : Machine State Role) where
   cut s t (l ∷ ks) ls h = let c = cut (m.step s l.1) t ks ls h.1 in (c.0, (h.0, c.1), c.2)
 
 module _ {Value State Role : Type 0} (g : Grammar Value Role) (m : Machine State Role) (r : Reads g m) where
-  -- What a text has behind these longwords is what the machine expects there.
+  -- What a text has after these longwords is what the machine expects there.
   pub expected_role : (before : List ℕ) (role : Role) → Expects g before role → m.expects (run m m.start before) ≡ Some role
   expected_role before role e =
       let c = cut m m.start (r.end e.value) e.done ((role, e.word) ∷ e.more) (subst (λ ls. Leads m m.start ls (r.end e.value)) e.labels (r.leads e.value e.is)) in
@@ -47,7 +47,7 @@ module _ {Value State Role : Type 0} (g : Grammar Value Role) (m : Machine State
 
   -- ---- one of three
 
-  -- a text in front, behind which nothing is expected
+  -- a text in front, after which nothing is expected
   pub record Ends (ws : List ℕ) : Type 0 where
     pub state : State
     pub stops : m.expects state ≡ None

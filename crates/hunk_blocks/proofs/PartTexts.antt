@@ -21,7 +21,7 @@ symbol_text_is s =
 
 -- ---- EXT entries
 
--- the longwords behind the name
+-- the longwords after the name
 shaped_is : (s : Option ExtShape) (e : ExtEntry) → longs_of (ext_parts_by s e) ≡ shaped_text s (e.value, e.offsets)
 shaped_is (Some Definition) e = refl
 shaped_is (Some References) e = ap (λ l. length e.offsets ∷ l) (longs_of-each parts.Offset e.offsets)

@@ -30,7 +30,7 @@ symbol_printed word value name old a b new first second third =
     word_printed word word (name ++ value ∷ []) old a new refl first (words_printed name (value ∷ []) a b new second third)
     ∙ ap (λ l. old ++ bytes_of l) (sym (symbol_text_is s))
 
--- of an entry, what stands behind the name by its shape is last
+-- of an entry, what stands after the name by its shape is last
 pub entry_printed : (s : Option ExtShape) (e : ExtEntry) (old a b new : List ℕ) → ext_shape (e.word / 2 ^ 24) ≡ s → a ≡ old ++ bytes_of (e.word ∷ []) → b ≡ a ++ bytes_of e.name →
     new ≡ b ++ bytes_of (shaped_text s (e.value, e.offsets)) → new ≡ old ++ bytes_of (ext_text e)
 entry_printed s e old a b new shape first second third =

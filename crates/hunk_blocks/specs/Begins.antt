@@ -44,7 +44,7 @@ pub record BeginsWithSomeBlock (bytes : List ℕ) : Type 0 where
 
 -- ---- groups and entries, which take memory
 
--- A group or an entry of the body ends with longword number n behind the block word, counted from 0.
+-- A group or an entry of the body ends with longword number n after the block word, counted from 0.
 abbrev pub EndsItemOf : BlockBody → ℕ → Type 0
 EndsItemOf (Reloc groups) n = EndsItem group_text groups n
 EndsItemOf (Ext entries) n = EndsItem ext_text entries n

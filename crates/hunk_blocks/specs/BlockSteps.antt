@@ -29,7 +29,7 @@ pub data Filling : Type 0 where
 
 -- What has been read of a block after its word. In a payload, a name or a list of offsets the last
 -- number is how many more of the kind follow the next; at a target it is one less than the number
--- of the offsets behind it.
+-- of the offsets after it.
 pub data Inside : Type 0 where
   AtCount : Counting → Inside
   AtSize : Sizing → Inside

@@ -8,7 +8,7 @@ use Rattle.hunk_blocks.specs.declared.ext_shape.ExtShape.TheVariants.{Definition
 use Rattle.hunk_blocks.specs.ExtKinds.{ext_shape}
 use Rattle.hunk_blocks.specs.Values.{RelocGroup, ExtEntry, SymbolEntry, BlockBody, Name, Code, Data, Bss, Reloc, Ext, Symbol, Debug, Advisory, End, BlockValue}
 
--- What the first longwords spell, and the longwords behind it.
+-- What the first longwords spell, and the longwords after it.
 pub record Cut (A : Type 0) : Type 0 where
   pub value : A
   pub rest : List ℕ
@@ -85,7 +85,7 @@ list_cut one words = items_cut one (length words) words
 
 -- ---- bodies and blocks
 
--- behind the word of a block of this kind
+-- after the word of a block of this kind
 abbrev pub kind_cut : Kind → List ℕ → Cut BlockBody
 kind_cut kinds.Name words = cut_map Name (counted_cut words)
 kind_cut kinds.Code words = cut_map (λ (s : ℕ × List ℕ). Code s.0 s.1) (sized_cut words)

@@ -1,4 +1,4 @@
--- What stands behind the name of an EXT entry.
+-- What stands after the name of an EXT entry.
 use Rattle.std.specs.Prelude.{◌≡◌, ℕ, ◌^◌, List, [], ◌∷◌, Option, Some, None}
 use Rattle.hunk_words.specs.Longs.{IsLong}
 use Rattle.hunk_blocks.specs.declared.ext_shape.ExtShape.{ExtShape}

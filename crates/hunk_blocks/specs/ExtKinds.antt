@@ -7,7 +7,7 @@ use Rattle.hunk_blocks.specs.declared.ext_kind.ExtKind.TheVariants.{Symb, Def, A
 use Rattle.hunk_blocks.specs.declared.ext_shape.ExtShape.{ExtShape}
 use Rattle.hunk_blocks.specs.declared.ext_shape.ExtShape.TheVariants as shapes
 
--- Its number, its name without EXT_, what stands behind the name of an entry, and how many bytes each offset stands for.
+-- Its number, its name without EXT_, what stands after the name of an entry, and how many bytes each offset stands for.
 pub record ExtRow : Type 0 where
   pub code : ℕ
   pub name : List ℕ
@@ -57,6 +57,6 @@ ext_width kind = (ext_row kind).width
 unfoldable pub ext_kind : ℕ → Option ExtKind
 ext_kind code = find (λ kind. ext_code kind == code) ext_kinds
 
--- what stands behind the name of an entry whose type has this number
+-- what stands after the name of an entry whose type has this number
 abbrev pub ext_shape : ℕ → Option ExtShape
 ext_shape code = option_map shape_of_kind (ext_kind code)

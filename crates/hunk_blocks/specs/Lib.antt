@@ -1,4 +1,4 @@
-pub mod Along
+pub mod AlongText
 pub mod Begins
 pub mod Cuts
 pub mod BlockSteps

@@ -69,7 +69,7 @@ is_block_refusal reasons.Truncated = true
 is_block_refusal reasons.OutOfMemory = true
 is_block_refusal _ = false
 
--- The tests of a longword behind the block word.
+-- The tests of a longword after the block word.
 abbrev pub refuse_inside : Part → ℕ → Option Reason
 refuse_inside NameCount w = if nat_lt w name_limit then None else Some reasons.NameWord
 refuse_inside ExtWord w = refuse_shape (ext_shape (entry_type w))

@@ -1,4 +1,4 @@
--- Where a reader of a block stands, in numbers alone: what the next longword is for, and what it leads to. Behind the last longword of the block no phase is left.
+-- Where a reader of a block stands, in numbers alone: what the next longword is for, and what it leads to. After the last longword of the block no phase is left.
 use Rattle.std.specs.Prelude.{ℕ, zero, suc, ◌-◌, if◌then◌else◌, Option, Some, None}
 use Rattle.hunk_words.specs.declared.block_word.Kind.{Kind}
 use Rattle.hunk_words.specs.declared.block_word.Kind.TheVariants as kinds
@@ -56,7 +56,7 @@ abbrev pub owe_symbol : ℕ → Option Phase
 owe_symbol zero = Some phases.EntryWord
 owe_symbol (suc owed) = Some (phases.Symbol owed)
 
--- The name, and the value behind it; a word of 0 ends the entries.
+-- The name, and the value after it; a word of 0 ends the entries.
 abbrev pub owe_symbols : ℕ → Option Phase
 owe_symbols zero = None
 owe_symbols (suc w) = owe_symbol (suc (name_longs (suc w)))
@@ -83,7 +83,7 @@ abbrev pub owe_externals : ℕ → Option Phase
 owe_externals zero = None
 owe_externals (suc w) = owe_shaped (ext_shape (entry_type (suc w))) (name_longs (suc w))
 
--- Behind a block word; the kinds that are refused do not matter.
+-- After a block word; the kinds that are refused do not matter.
 abbrev pub begin : Kind → Option Phase
 begin kinds.Name = Some phases.NameCount
 begin kinds.Code = Some phases.ContentSize
@@ -95,7 +95,7 @@ begin kinds.Debug = Some phases.LongCount
 begin (kinds.Unknown n) = Some phases.LongCount
 begin k = if is_relocation k then Some phases.GroupCount else None
 
--- Behind a longword that is not refused.
+-- After a longword that is not refused.
 abbrev pub step : Phase → ℕ → Option Phase
 step phases.FirstBlock w = begin (kind w)
 step phases.BlockWord w = begin (kind w)
@@ -126,7 +126,7 @@ run (phases.ExtFront owed) = suc owed
 run (phases.ExtRest owed) = suc owed
 run _ = 0
 
--- behind one longword of a run and this number of further ones
+-- after one longword of a run and this number of further ones
 abbrev pub pass : Phase → ℕ → Option Phase
 pass (phases.Content longs owed) n = owe_content longs (owed - n)
 pass (phases.Payload owed) n = owe_payload (owed - n)
@@ -144,16 +144,16 @@ abbrev pub skipped : Option Phase → ℕ
 skipped (Some phase) = skip phase
 skipped None = 0
 
--- behind all of them
-abbrev pub behind : Phase → Option Phase
-behind (phases.Content longs owed) = None
-behind (phases.Payload owed) = None
-behind (phases.Offset target owed) = Some phases.GroupCount
-behind (phases.Symbol owed) = Some phases.EntryWord
-behind (phases.ExtFront owed) = Some phases.ExtCount
-behind (phases.ExtRest owed) = Some phases.ExtWord
-behind phase = Some phase
+-- after all of them
+abbrev pub after : Phase → Option Phase
+after (phases.Content longs owed) = None
+after (phases.Payload owed) = None
+after (phases.Offset target owed) = Some phases.GroupCount
+after (phases.Symbol owed) = Some phases.EntryWord
+after (phases.ExtFront owed) = Some phases.ExtCount
+after (phases.ExtRest owed) = Some phases.ExtWord
+after phase = Some phase
 
 abbrev pub skip_all : Option Phase → Option Phase
-skip_all (Some phase) = behind phase
+skip_all (Some phase) = after phase
 skip_all None = None

@@ -6,7 +6,7 @@ pub record Placed (A : Type 0) : Type 0 where
   pub place : ℕ
   pub value : A
 
--- Of a list that is read item by item, the first was given, where one was left, and behind its text the next begins.
+-- Of a list that is read item by item, the first was given, where one was left, and after its text the next begins.
 abbrev pub GivesFirst : {T A : Type 0} → (T → A) → (A → List ℕ) → Placed (List A) → Option T → Placed (List A) → Type 0
 GivesFirst view text old None new = (old.value ≡ []) × (new ≡ old)
 GivesFirst view text old (Some item) new = (old.value ≡ view item ∷ new.value) × (new.place ≡ old.place + 4 * length (text (view item)))

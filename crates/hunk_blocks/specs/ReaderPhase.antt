@@ -38,7 +38,7 @@ phase_of (AtExtSize es word name) = phases.ExtFront 0
 phase_of (AtExtCount es word name value) = phases.ExtCount
 phase_of (InExtOffsets es word name value done owed) = phases.ExtRest owed
 
--- Behind the last longword of the block no phase is left.
+-- After the last longword of the block no phase is left.
 abbrev pub next_phase : BlockNext → Option Phase
 next_phase (Open x) = Some (phase_of x)
 next_phase (Whole body) = None

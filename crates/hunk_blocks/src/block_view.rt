@@ -95,7 +95,7 @@ impl<'a> BlockView<'a> {
         self.place
     }
 
-    /// The length of the block's text in bytes, behind which the input goes on.
+    /// The length of the block's text in bytes, after which the input goes on.
     pub fn encoded_len(&self) -> u64
         ensures value { result ≡ length (bytes_of (block_text self.now.value)) }
         ensures inside { self.now.place + result < 2 ^ 64 }

@@ -19,7 +19,7 @@ use hunk_words::{BlockWord, CONTENT_LIMIT, PagePrinter, Sink};
 /// choice.
 #[derive(Debug, Drop)]
 pub enum Body<'a> {
-    /// A NAME block: the bytes of the name, padded with zero bytes. What stands behind the first
+    /// A NAME block: the bytes of the name, padded with zero bytes. What stands after the first
     /// zero byte is kept: this project's own choice.
     Name(Payload<'a>),
     /// A CODE block. `top` is the top two bits of the size word, 0 to 3.
@@ -36,7 +36,7 @@ pub enum Body<'a> {
     Symbol(Symbols<'a>),
     /// A DEBUG block, whose contents are not interpreted.
     Debug(Payload<'a>),
-    /// An END block, which has nothing behind its word.
+    /// An END block, which has nothing after its word.
     End,
     /// A block of unknown kind with the advisory flag, which readers may pass over.
     Advisory(Payload<'a>),

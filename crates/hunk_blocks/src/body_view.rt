@@ -37,7 +37,7 @@ pub enum BodyView<'a> {
     Symbol(SymbolsIter<'a>),
     /// A DEBUG block, whose contents are not interpreted.
     Debug(Payload<'a>),
-    /// An END block, which has nothing behind its word.
+    /// An END block, which has nothing after its word.
     End,
     /// A block of unknown kind with the advisory flag, which readers may pass over.
     Advisory(Payload<'a>),
@@ -57,7 +57,7 @@ impl BodyView<'_> {
     }
 }
 
-/// What follows a block word, of which the reader goes on behind the block.
+/// What follows a block word, of which the reader goes on after the block.
 #[tactic(auto, using(crate::proofs::BodyReading::counted_stands))]
 #[inline(always)]
 pub(crate) fn read_body<'a>(reader: &mut LongReader<'a>, word: BlockWord) -> BodyView<'a>

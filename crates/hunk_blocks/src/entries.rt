@@ -51,7 +51,7 @@ impl Entry<'_> {
         kind_of(self.word)
     }
 
-    /// What stands behind the name, as the type says; `None` where `kind` is.
+    /// What stands after the name, as the type says; `None` where `kind` is.
     #[inline(always)]
     pub fn shape(&self) -> Option<ExtShape>
         ensures { result ≡ ext_shape (ext_type (entry_of self.now)) }
@@ -89,7 +89,7 @@ impl<'a> Model for EntriesIter<'a> {
 }
 
 impl<'a> EntriesIter<'a> {
-    /// The entries that come next; the reader goes on behind the zero that ends them.
+    /// The entries that come next; the reader goes on after the zero that ends them.
     #[inline(always)]
     pub(crate) fn of(reader: &mut LongReader<'a>) -> EntriesIter<'a>
         requires { BeginsWithList IsExtEntry ext_text reader.old.rest }
@@ -99,7 +99,7 @@ impl<'a> EntriesIter<'a> {
         let entries = EntriesIter {
             reader: reader.again(),
         };
-        *reader = behind_entries(reader.again());
+        *reader = after_entries(reader.again());
         entries
     }
 
@@ -139,7 +139,7 @@ impl<'a> Iterator for EntriesIter<'a> {
     }
 }
 
-/// What stands behind the name of an entry of this shape: its value and its offsets.
+/// What stands after the name of an entry of this shape: its value and its offsets.
 #[inline(always)]
 fn read_shaped<'a>(reader: &mut LongReader<'a>, shape: ExtShape) -> (u32, Longs<'a>)
     requires { BeginsWithSome (IsShaped (Some shape)) (shaped_text (Some shape)) reader.old.rest }
@@ -159,11 +159,11 @@ fn read_shaped<'a>(reader: &mut LongReader<'a>, shape: ExtShape) -> (u32, Longs<
     }
 }
 
-/// The reader behind the entries that come next and the zero that ends them. It is given away, so
+/// The reader after the entries that come next and the zero that ends them. It is given away, so
 /// that the reader of other blocks stays in registers.
 #[tactic(auto, using(crate::proofs::CutLaws::entries_are_cut, crate::proofs::ListReading::item_there))]
 #[inline(never)]
-fn behind_entries<'a>(reader: LongReader<'a>) -> LongReader<'a>
+fn after_entries<'a>(reader: LongReader<'a>) -> LongReader<'a>
     requires { BeginsWithList IsExtEntry ext_text reader.rest }
     ensures { ReadsValue (list_cut entry_cut) reader.entry result
         (list_cut entry_cut reader.entry.rest).value }
@@ -220,7 +220,7 @@ pub(crate) fn keep_entries<'a>(
     Ok(Entries::of(kept))
 }
 
-/// The word, the name, and what stands behind it in an entry of its type.
+/// The word, the name, and what stands after it in an entry of its type.
 fn print_entry<W: Sink, const ROOM: usize>(page: &mut PagePrinter<'_, W, ROOM>, entry: &Entry<'_>)
     requires { IsExtEntry (entry_of entry.now) }
     ensures { Prints page.old page.new (bytes_of (ext_text (entry_of entry.now))) }

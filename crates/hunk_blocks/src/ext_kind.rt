@@ -93,7 +93,7 @@ impl ExtKind {
         }
     }
 
-    /// What stands behind the name of an entry of this type.
+    /// What stands after the name of an entry of this type.
     #[inline(always)]
     pub fn shape(self) -> ExtShape
         ensures { result ≡ shape_of_kind self }
@@ -155,7 +155,7 @@ pub(crate) fn kind_of(word: u32) -> Option<ExtKind>
     ExtKind::from_code((word / NAME_LIMIT) as u8)
 }
 
-/// What stands behind the name of an entry with this word, by its type.
+/// What stands after the name of an entry with this word, by its type.
 #[inline(always)]
 pub(crate) fn shape_of(word: u32) -> Option<ExtShape>
     ensures { result ≡ ext_shape (entry_type word) }

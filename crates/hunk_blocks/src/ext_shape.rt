@@ -1,6 +1,6 @@
-//! What stands behind the name of an EXT entry.
+//! What stands after the name of an EXT entry.
 
-/// What stands behind the name of an EXT entry, as its type says.
+/// What stands after the name of an EXT entry, as its type says.
 ///
 /// Source: The AmigaDOS Manual, `dos/doshunks.h`. `ExtKind` says which types have which.
 #[derive(Clone, Copy, Debug, PartialEq, Eq)]

@@ -63,7 +63,7 @@ impl<'a> Model for GroupsIter<'a> {
 }
 
 impl<'a> GroupsIter<'a> {
-    /// The groups that come next; the reader goes on behind the count 0 that ends them.
+    /// The groups that come next; the reader goes on after the count 0 that ends them.
     #[tactic(auto, using(crate::proofs::CutLaws::groups_are_cut, crate::proofs::ListReading::item_there))]
     pub(crate) fn of(reader: &mut LongReader<'a>) -> GroupsIter<'a>
         requires { BeginsWithList IsGroup group_text reader.old.rest }

@@ -8,7 +8,7 @@ ghost use Rattle.hunk_blocks.specs.Faults.{IsTruncatedBlock, blocks, refuse_alon
 ghost use Rattle.std.specs.Prelude.{◌≡◌, List, [], ◌∷◌, ◌++◌, ℕ, Some, None, ◌⊎◌};
 ghost use Rattle.hunk_blocks.specs.Values.{BlockValue, IsBlock};
 ghost use Rattle.hunk_blocks.specs.Parts.{Part, block_parts, block_text};
-ghost use Rattle.hunk_blocks.specs.Along.{GoesAlong, refuse_at, step_on};
+ghost use Rattle.hunk_blocks.specs.AlongText.{GoesAlong, refuse_at, step_on};
 ghost use Rattle.hunk_blocks.specs.declared.phase.Phase.TheVariants as phases;
 
 /// No block begins another, and one text has one block.
@@ -45,7 +45,7 @@ pub fn block_fault()
 {}
 
 /// `Phase` is the machine of the format: along the text of each block its test is that of each
-/// longword's part, its steps lead on, and behind the last longword no phase is left.
+/// longword's part, its steps lead on, and after the last longword no phase is left.
 pub fn block_machine()
     ensures { (mode : Mode) (b : BlockValue) → IsBlock b →
         GoesAlong (refuse_at mode) (refuse_alone mode) step_on

@@ -78,15 +78,15 @@ impl<'b, T> IntoIterator for &'b BlockList<T> {
     }
 }
 
-/// The refusal of memory for an item behind which the input goes on at this byte: at the item's
+/// The refusal of memory for an item after which the input goes on at this byte: at the item's
 /// last longword.
-pub(crate) fn out_of_memory(behind: u64) -> BlockFault
-    requires { 4 ≤ behind }
-    ensures place { result.place + 4 ≡ behind }
+pub(crate) fn out_of_memory(after: u64) -> BlockFault
+    requires { 4 ≤ after }
+    ensures place { result.place + 4 ≡ after }
     ensures reason { result.reason ≡ reasons.OutOfMemory }
 {
     BlockFault {
-        place: behind - 4,
+        place: after - 4,
         reason: Reason::OutOfMemory,
     }
 }

@@ -43,7 +43,7 @@ pub enum Phase {
     Offset { target: u32, owed: u32 },
     /// The word of a symbol, or the 0 that ends the block.
     EntryWord,
-    /// The name of a symbol, and the value behind it.
+    /// The name of a symbol, and the value after it.
     Symbol { owed: u32 },
     /// The word of an external entry, or the 0 that ends the block.
     ExtWord,
@@ -56,7 +56,7 @@ pub enum Phase {
 }
 
 impl Phase {
-    /// Behind a block word. `None` is the end of a block, here and below.
+    /// After a block word. `None` is the end of a block, here and below.
     ///
     /// The kinds that are refused do not matter.
     #[inline(always)]
@@ -75,7 +75,7 @@ impl Phase {
         }
     }
 
-    /// Behind a longword of a block that is not refused.
+    /// After a longword of a block that is not refused.
     #[inline(always)]
     pub fn step(self, word: u32) -> Option<Phase>
         ensures { result ≡ inside.step self word }
@@ -137,7 +137,7 @@ impl Phase {
         }
     }
 
-    /// Behind one longword of a run and `more` of them.
+    /// After one longword of a run and `more` of them.
     #[inline(always)]
     pub fn pass(self, more: u32) -> Option<Phase>
         requires { more < inside.run self }
@@ -181,10 +181,10 @@ impl Phase {
         }
     }
 
-    /// Behind all of them.
+    /// After all of them.
     #[inline(always)]
-    pub fn behind(self) -> Option<Phase>
-        ensures { result ≡ inside.behind self }
+    pub fn after(self) -> Option<Phase>
+        ensures { result ≡ inside.after self }
     {
         match self {
             Phase::Content { longs: _, owed: _ } | Phase::Payload { owed: _ } => None,
@@ -196,7 +196,7 @@ impl Phase {
         }
     }
 
-    /// Why the longword behind a block word is refused, where it is, in any file.
+    /// Why the longword after a block word is refused, where it is, in any file.
     #[inline(always)]
     pub fn refuse(self, word: u32) -> Option<Reason>
         ensures { result ≡ refuse_inside (part_at self) word }

@@ -22,7 +22,7 @@ use std::marker::Model;
 /// An entry of a SYMBOL block.
 ///
 /// Source: The AmigaDOS Manual, `dos/doshunks.h`. That an empty name does not end the block, and
-/// that what stands behind the first zero byte of a name is kept, is this project's own choice.
+/// that what stands after the first zero byte of a name is kept, is this project's own choice.
 #[derive(Debug, Drop)]
 pub struct SymbolView<'a> {
     /// The number of longwords of the name in the low 24 bits; the top byte is kept.
@@ -62,7 +62,7 @@ impl<'a> Model for SymbolsIter<'a> {
 }
 
 impl<'a> SymbolsIter<'a> {
-    /// The entries that come next; the reader goes on behind the zero that ends them.
+    /// The entries that come next; the reader goes on after the zero that ends them.
     #[tactic(auto, using(crate::proofs::CutLaws::symbols_are_cut, crate::proofs::ListReading::item_there))]
     pub(crate) fn of(reader: &mut LongReader<'a>) -> SymbolsIter<'a>
         requires { BeginsWithList IsSymbolEntry symbol_text reader.old.rest }

@@ -36,9 +36,9 @@ pub fn walk_block(bytes: &[u8], mode: Mode) -> Result<usize, BlockFault>
                 reason,
             });
         }
-        let behind = phase.step(word);
-        at += 1 + skipped(behind) as usize;
-        position = skip_all(behind);
+        let after = phase.step(word);
+        at += 1 + skipped(after) as usize;
+        position = skip_all(after);
     }
     if at > count {
         return Err(cut(count));
@@ -69,10 +69,10 @@ fn skipped(phase: Option<Phase>) -> u64
     }
 }
 
-/// Behind all of them.
+/// After all of them.
 #[inline(always)]
 fn skip_all(phase: Option<Phase>) -> Option<Phase>
     ensures { result ≡ inside.skip_all phase }
 {
-    phase?.behind()
+    phase?.after()
 }

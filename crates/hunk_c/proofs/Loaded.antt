@@ -44,7 +44,7 @@ pub no_base_for : (base : Placing) (room : ℕ) (bytes : List ℕ) (answer : Ans
 no_base_for base room bytes answer size s hunk fits u e =
     HasNoBase s.table hunk s.header (omega (arith, fits, s.declared_are)) u (e ∙ ap (λ (n : ℕ). refused (record { place = n; reason = reasons.NoBase hunk })) s.bytes_are)
 
--- ---- the file behind a header that was read
+-- ---- the file after a header that was read
 
 -- its numbers are those of the header
 pub record HasNumbers (size : HeaderSize) (bytes : List ℕ) (file : BeginsWithLoadFile bytes) : Type 0 where

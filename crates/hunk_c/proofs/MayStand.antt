@@ -15,7 +15,7 @@ use Rattle.hunk_blocks.specs.{Parts.Part as parts, ReaderPhase.phase_of}
 use Rattle.hunk_grammar.specs.{Positions.is_done, Roles.{Place, Role, refuse_kind}, Standings.{BlockStanding, Beside, Content, Relocating, Ending, is_content}}
 use Rattle.hunk_files.specs.{LoadFile.{TableEntry, HunkValue, IsHunk, AreInOrder, standing}, LoadText.{block_labelled, blocks_labelled, entry_labelled, hunk_labelled, labelled, table}}
 use Rattle.hunk_files.specs.FileSteps.{HunkSoFar, Next, More, Finished, AtBlock, InBody, place_of}
-use Rattle.hunk_files.specs.{ReaderPosition.{IsBehindHeader, block_phase, open_of}}
+use Rattle.hunk_files.specs.{ReaderPosition.{IsAfterHeader, block_phase, open_of}}
 use Rattle.hunk_files.specs.declared.row.Row.{Row}
 use Rattle.hunk_blocks.proofs.BlockProgress.{read_inside}
 use Rattle.hunk_files.proofs.FileProgress.{IsAdmitted, OpenFits, Reads, content_in, header_so_far, kind_is, open_so_far, read}
@@ -88,7 +88,7 @@ least_longs (Finished v) = 5 + 4 * length v
 least_longs _ = 0
 
 -- So many longwords were read at least, and they are few.
-read_least : (n : Next) (ls : List (Role × ℕ)) → IsBehindHeader n → Reads n ls → (least_longs n ≤ length ls) × (least_longs n ≤ 5 + 4 * 65536)
+read_least : (n : Next) (ls : List (Role × ℕ)) → IsAfterHeader n → Reads n ls → (least_longs n ≤ length ls) × (least_longs n ≤ 5 + 4 * 65536)
 read_least (More (AtBlock o)) ls b r = (
   omega (arith, header_least o r.0 [], ap (λ (xs : List (Role × ℕ)). length xs) r.1, length-append (open_so_far o) []),
   omega (arith, r.0.front_fits.hunks_fit.1),
@@ -170,22 +170,22 @@ module _ (rows : List Row) (memory : List ℕ) (s : Standing) (fed : List ℕ) (
   least : 4 * least_longs h.stands.next ≤ s.fed
   least =
       let r = h.stands in
-      let k = read_least r.next r.read.done r.behind (reads r.read) in
+      let k = read_least r.next r.read.done r.after (reads r.read) in
       omega (arith, h.counted, length_fed, k.0, k.1, ap (λ (xs : List ℕ). length xs) r.read.all, length-map r.read.done (λ (x : Role × ℕ). x.1))
 
   fours : s.state.start % 4 ≡ 0
-  fours = let r = h.stands in go r.next r.behind r.state_is
+  fours = let r = h.stands in go r.next r.after r.state_is
     where
-      go : (n : Next) → IsBehindHeader n → state_of n ≡ s.state → s.state.start % 4 ≡ 0
+      go : (n : Next) → IsAfterHeader n → state_of n ≡ s.state → s.state.start % 4 ≡ 0
       go (More (AtBlock o)) b e = omega (arith, before_fours o.finished, ap (λ (x : BodyState). x.start) e)
       go (More (InBody o word x)) b e = omega (arith, before_fours o.finished, ap (λ (x : BodyState). x.start) e)
       go (Finished v) b e = omega (arith, before_fours v, ap (λ (x : BodyState). x.start) e)
       go _ b e = absurd cc
 
   at_position : MayStandAt s.state.hunk s.fed s.state.position
-  at_position = let r = h.stands in go r.next r.read.done r.behind (reads r.read) r.state_is least
+  at_position = let r = h.stands in go r.next r.read.done r.after (reads r.read) r.state_is least
     where
-      go : (n : Next) (ls : List (Role × ℕ)) → IsBehindHeader n → Reads n ls → state_of n ≡ s.state → 4 * least_longs n ≤ s.fed → MayStandAt s.state.hunk s.fed s.state.position
+      go : (n : Next) (ls : List (Role × ℕ)) → IsAfterHeader n → Reads n ls → state_of n ≡ s.state → 4 * least_longs n ≤ s.fed → MayStandAt s.state.hunk s.fed s.state.position
       go (More (AtBlock o)) ls b r e m =
           subst (λ (x : BodyState). MayStandAt x.hunk s.fed x.position) e
           (record { counts = omega (arith, r.0.front_fits.counts); few = r.0.front_fits.hunks_fit.1 }, m, block_owes o o.blocks r.0.content_is)
@@ -196,9 +196,9 @@ module _ (rows : List Row) (memory : List ℕ) (s : Standing) (fed : List ℕ) (
       go _ ls b r e m = absurd cc
 
   none_left : is_done s.state.position ≡ true → s.pending.count ≡ 0
-  none_left done = let r = h.stands in go r.next r.behind r.state_is r.whole
+  none_left done = let r = h.stands in go r.next r.after r.state_is r.whole
     where
-      go : (n : Next) → IsBehindHeader n → state_of n ≡ s.state → EndsWhole n (pending_of s.pending) → s.pending.count ≡ 0
+      go : (n : Next) → IsAfterHeader n → state_of n ≡ s.state → EndsWhole n (pending_of s.pending) → s.pending.count ≡ 0
       go (More (AtBlock o)) b e w = absurd (cc (done, ap (λ (x : BodyState). is_done x.position) e))
       go (More (InBody o word x)) b e w = absurd (cc (done, ap (λ (x : BodyState). is_done x.position) e))
       go (Finished v) b e w = omega (arith, ap (λ (xs : List ℕ). length xs) w, pending_counted s.pending h.stands.few)

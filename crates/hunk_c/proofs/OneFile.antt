@@ -6,7 +6,7 @@ use Rattle.hunk_words.proofs.LongLaws.{longs-bytes_of}
 use Rattle.hunk_blocks.specs.{Parts.block_text, Values.IsBlock}
 use Rattle.hunk_blocks.proofs.{BlockLongs.block_longs, Lists.All-append}
 use Rattle.hunk_files.specs.Fault.{BeginsWithLoadFile}
-use Rattle.hunk_files.specs.HunkFile.{AreFile, AreObjectFile, IsFileOf, bytes_behind, file_bytes, stripped}
+use Rattle.hunk_files.specs.HunkFile.{AreFile, AreObjectFile, IsFileOf, bytes_after, file_bytes, stripped}
 use Rattle.hunk_files.specs.ObjectFile.{ObjectFileValue, ObjectHunk, UnitValue, IsObjectHunk, IsUnit, object_text, unit_header, unit_text}
 use Rattle.hunk_files.specs.declared.hunk_file.HunkFile.{HunkFile}
 use Rattle.hunk_files.specs.{LoadFile.LoadFileValue, LoadText.text}
@@ -71,7 +71,7 @@ are_file bytes (files.Load v n) is = inl is.0
 are_file bytes (files.Object v) is = inr is.0
 
 -- the file and what follows it are all of the bytes
-pub file_size : (bytes : List ℕ) (file : HunkFile) → IsFileOf bytes file → length bytes ≡ length (file_bytes file) + bytes_behind file
+pub file_size : (bytes : List ℕ) (file : HunkFile) → IsFileOf bytes file → length bytes ≡ length (file_bytes file) + bytes_after file
 file_size bytes (files.Load value rest) is = omega (
   arith,
   is.2,

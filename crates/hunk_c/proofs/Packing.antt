@@ -60,17 +60,17 @@ declared_more t i inside = ap (λ (n : ℕ). declared_bytes (take n t)) (add-one
     go (x ∷ t) zero less = omega (arith, declared-cons x [])
     go (x ∷ t) (suc i) less = omega (arith, declared-cons x (take (suc i) t), declared-cons x (take i t), go t i (omega (arith, less)))
 
-module _ (t : List TableEntry) (start i b b2 : ℕ) (inside : i < length t) (here : b ≡ start + declared_bytes (take i t)) (behind : b2 ≡ start + declared_bytes (take (i + 1) t)) where
+module _ (t : List TableEntry) (start i b b2 : ℕ) (inside : i < length t) (here : b ≡ start + declared_bytes (take i t)) (after : b2 ≡ start + declared_bytes (take (i + 1) t)) where
   size : ℕ
   size = 4 * size_longs (get_or t i no_entry).word
 
   pub placed_at : b < 2 ^ 32 → b2 ≤ 2 ^ 32 → base_at (packed_from start) t i ≡ Some b
   placed_at low fits =
-      packed_some start (declared_bytes (take i t)) (4 * size_longs (get_or t i no_entry).word) (omega (arith, low, here)) (omega (arith, fits, behind, declared_more t i inside)) ∙ ap (λ (n : ℕ). Some n) (sym here)
+      packed_some start (declared_bytes (take i t)) (4 * size_longs (get_or t i no_entry).word) (omega (arith, low, here)) (omega (arith, fits, after, declared_more t i inside)) ∙ ap (λ (n : ℕ). Some n) (sym here)
 
   pub unplaced_at : (2 ^ 32 ≤ b) ⊎ (2 ^ 32 < b2) → base_at (packed_from start) t i ≡ None
   unplaced_at (inl high) = packed_none start (declared_bytes (take i t)) (4 * size_longs (get_or t i no_entry).word) (inl (omega (arith, high, here)))
-  unplaced_at (inr past) = packed_none start (declared_bytes (take i t)) (4 * size_longs (get_or t i no_entry).word) (inr (omega (arith, past, behind, declared_more t i inside)))
+  unplaced_at (inr past) = packed_none start (declared_bytes (take i t)) (4 * size_longs (get_or t i no_entry).word) (inr (omega (arith, past, after, declared_more t i inside)))
 
 -- ---- the bases by the longwords
 

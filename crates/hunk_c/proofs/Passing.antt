@@ -9,7 +9,7 @@ use Rattle.hunk_blocks.specs.declared.phase.Phase.TheVariants as phases
 use Rattle.hunk_grammar.specs.{Positions.{is_done, pass}, declared.phase.OpenHunk.OpenHunk, declared.position.Position.Position}
 use Rattle.hunk_grammar.specs.declared.position.Position.TheVariants as positions
 use Rattle.hunk_files.specs.declared.row.Row.{Row}
-use Rattle.hunk_scatter.specs.{BodyLoaderFields.StandsBehind, Streaming.{FitsStore, IsFed}}
+use Rattle.hunk_scatter.specs.{BodyLoaderFields.StandsAfter, Streaming.{FitsStore, IsFed}}
 use Rattle.hunk_scatter.specs.declared.stream.Standing.{Standing}
 use Rattle.hunk_scatter.proofs.{BodyFields.{fed_more, gone, in_room}, OneByte.more_pending, WholeLongs.run_taken}
 use Rattle.hunk_c.specs.declared.loader.Loader.{Loader}
@@ -56,7 +56,7 @@ module _ (rows : List Row) (total : ℕ) (l : Loader) (at : Standing) (piece : L
   fed_bytes memory fed h =
       let short : length (pending_of at.pending ++ piece) < 4 = omega (arith, ap (λ (xs : List ℕ). length xs) gathers, few_pending pending few) in
       fed_more rows memory at fed h memory (with_pending at (saturated (at.fed + length piece)) pending) piece refl (omega (arith, h.counted, length-append fed piece))
-      (subst (λ (xs : List ℕ). StandsBehind rows memory at.state xs (fed ++ piece)) (sym gathers) (more_pending _ _ _ _ _ (gone rows memory at fed h more) piece short))
+      (subst (λ (xs : List ℕ). StandsAfter rows memory at.state xs (fed ++ piece)) (sym gathers) (more_pending _ _ _ _ _ (gone rows memory at fed h more) piece short))
 
   pub passes_bytes : PassesOver rows total l piece (loader_with l (saturated (at.fed + length piece)) pending)
   passes_bytes = λ memory size.
@@ -152,15 +152,15 @@ module _ (rows : List Row) (total : ℕ) (l : Loader) (piece : List ℕ) (s : St
       let n = length piece in
       let k : IsFed rows memory from fed = stands_at rows l memory fed from s h in
       let none : pending_of from.pending ≡ [] = pending_none from.pending clean in
-      let here : StandsBehind rows memory from.state [] fed = subst (λ (xs : List ℕ). StandsBehind rows memory from.state xs fed) none k.stands in
+      let here : StandsAfter rows memory from.state [] fed = subst (λ (xs : List ℕ). StandsAfter rows memory from.state xs fed) none k.stands in
       let long : length (take n piece) ≡ n = omega (arith, length-take n piece) in
       let same : pass from.state.position (length (take n piece) / 4) ≡ to.state.position =
       ap (λ (m : ℕ). pass from.state.position (m / 4)) long ∙ pass_payload (open_hunk l) l.owed (n / 4) (omega (arith, some, fours)) few in
-      let there : StandsBehind rows memory to.state [] (fed ++ take n piece) =
-      subst (λ (p : Position). StandsBehind rows memory (record { start = l.start; hunk = l.hunk; position = p }) [] (fed ++ take n piece)) same
+      let there : StandsAfter rows memory to.state [] (fed ++ take n piece) =
+      subst (λ (p : Position). StandsAfter rows memory (record { start = l.start; hunk = l.hunk; position = p }) [] (fed ++ take n piece)) same
       (run_taken rows memory from.state fed here (in_room rows memory from fed k refl) piece n are (omega arith) fours some (omega (arith, few, fours))) in
       fed_more rows memory from fed k memory to (take n piece) refl (omega (arith, long, k.counted, length-append fed (take n piece)))
-      (subst (λ (xs : List ℕ). StandsBehind rows memory to.state xs (fed ++ take n piece)) (sym none) there)
+      (subst (λ (xs : List ℕ). StandsAfter rows memory to.state xs (fed ++ take n piece)) (sym none) there)
 
   pub passes_payload : PassesOver rows total l piece (after_payload l (length piece))
   passes_payload = λ memory size. record {

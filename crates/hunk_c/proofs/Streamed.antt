@@ -6,10 +6,10 @@ use Rattle.hunk_grammar.specs.Positions.{is_done}
 use Rattle.hunk_grammar.specs.declared.position.Position.TheVariants as positions
 use Rattle.hunk_files.specs.{Fault.HasFault, FileSteps.{Next, More, Finished}, Image.images}
 use Rattle.hunk_files.specs.{LoadFile.{LoadFileValue, IsLoadFile}, LoadText.{table, text}}
-use Rattle.hunk_files.specs.{ReaderPosition.{IsBehindHeader, table_of}, WordsRead.HasRead}
+use Rattle.hunk_files.specs.{ReaderPosition.{IsAfterHeader, table_of}, WordsRead.HasRead}
 use Rattle.hunk_files.specs.declared.row.Row.{Row}
 use Rattle.hunk_files.proofs.Reading.{read_ended}
-use Rattle.hunk_scatter.specs.{BodyLoaderFields.{StandsBehind, EndsWhole}, BodyReader.{state_at, state_of}}
+use Rattle.hunk_scatter.specs.{BodyLoaderFields.{StandsAfter, EndsWhole}, BodyReader.{state_at, state_of}}
 use Rattle.hunk_scatter.specs.{LoaderValues.told_place, Rows.{bases_of, entries_of}, StoreContent.StoreHolds}
 use Rattle.hunk_scatter.specs.{Streaming.{EndsLoading, IsFed}, declared.store.BodyState.BodyState}
 use Rattle.hunk_scatter.specs.declared.stream.Standing.{Standing}
@@ -60,10 +60,10 @@ pub record IsRead (rows : List Row) (memory fed : List ℕ) (state : BodyState) 
   pub memory_is : memory ≡ images (bases_of rows) value
   pub state_is : state ≡ state_at value positions.Done
 
-read_whole : (rows : List Row) (memory : List ℕ) (state : BodyState) (pending fed : List ℕ) → StandsBehind rows memory state pending fed → is_done state.position ≡ true → IsRead rows memory fed state
-read_whole rows memory state pending fed r done = go r.next r.read r.behind r.table_is r.state_is r.holds r.whole
+read_whole : (rows : List Row) (memory : List ℕ) (state : BodyState) (pending fed : List ℕ) → StandsAfter rows memory state pending fed → is_done state.position ≡ true → IsRead rows memory fed state
+read_whole rows memory state pending fed r done = go r.next r.read r.after r.table_is r.state_is r.holds r.whole
   where
-    go : (n : Next) → HasRead r.ws n → IsBehindHeader n → table_of n ≡ entries_of rows → state_of n ≡ state → StoreHolds (bases_of rows) n memory → EndsWhole n pending → IsRead rows memory fed state
+    go : (n : Next) → HasRead r.ws n → IsAfterHeader n → table_of n ≡ entries_of rows → state_of n ≡ state → StoreHolds (bases_of rows) n memory → EndsWhole n pending → IsRead rows memory fed state
     go (More p) read b t s h w = search rules
     go (Finished v) read b t s h w =
         let e = read_ended r.ws v read in

@@ -10,19 +10,19 @@ use Rattle.hunk_scatter.specs.HeaderBytes.{BeginsWithHeader, header_words}
 use Rattle.hunk_scatter.proofs.HeaderStops.{header_longs}
 use Rattle.hunk_c.specs.Packs.{RowStandsAt}
 
--- an entry, and those behind it
+-- an entry, and those after it
 record EntryAt (t : List TableEntry) (i : ℕ) : Type 0 where
   pub entry : TableEntry
   pub is : slice_get t i ≡ Some entry
-  pub behind : drop i t ≡ entry ∷ drop (suc i) t
+  pub after : drop i t ≡ entry ∷ drop (suc i) t
   pub fits : AllByRecursion IsTableEntry t → IsTableEntry entry
 
 entry_at : (t : List TableEntry) (i : ℕ) → i < length t → EntryAt t i
 entry_at [] i inside = absurd (omega arith)
-entry_at (e ∷ t) zero inside = record { entry = e; is = refl; behind = refl; fits = λ all. all.0 }
+entry_at (e ∷ t) zero inside = record { entry = e; is = refl; after = refl; fits = λ all. all.0 }
 entry_at (e ∷ t) (suc i) inside =
     let k = entry_at t i (omega arith) in
-    record { entry = k.entry; is = k.is; behind = k.behind; fits = λ all. k.fits all.1 }
+    record { entry = k.entry; is = k.is; after = k.after; fits = λ all. k.fits all.1 }
 
 pub stands_first : (bytes : List ℕ) (t : List TableEntry) (h : BeginsWithHeader bytes t) → RowStandsAt bytes t h 0 5
 stands_first bytes t h =
@@ -33,11 +33,11 @@ module _ (bytes : List ℕ) (t : List TableEntry) (h : BeginsWithHeader bytes t)
   e : EntryAt t i
   e = entry_at t i more
 
-  behind : List ℕ
-  behind = entries_words (drop (suc i) t) ++ longs h.rest
+  after : List ℕ
+  after = entries_words (drop (suc i) t) ++ longs h.rest
 
-  here : (b : Bool) → has_both_bits e.entry.word ≡ b → drop at (longs bytes) ≡ (e.entry.word ∷ (if b then e.entry.extra ∷ [] else [])) ++ behind
-  unfolding behind
+  here : (b : Bool) → has_both_bits e.entry.word ≡ b → drop at (longs bytes) ≡ (e.entry.word ∷ (if b then e.entry.extra ∷ [] else [])) ++ after
+  unfolding after
   here b both = search rules
 
   longword : (k : ℕ) → get_or (longs bytes) (at + k) 0 ≡ get_or (drop at (longs bytes)) k 0
@@ -54,8 +54,8 @@ module _ (bytes : List ℕ) (t : List TableEntry) (h : BeginsWithHeader bytes t)
   extra_by false both = sym ((e.fits h.is_table.each).2 both)
 
   room : (b : Bool) → has_both_bits e.entry.word ≡ b → 4 * at + (if b then 8 else 4) ≤ length bytes
-  room true both = omega (arith, ap length (here true both), length-append (e.entry.word ∷ e.entry.extra ∷ []) behind, length-drop at (longs bytes), length-longs bytes)
-  room false both = omega (arith, ap length (here false both), length-append (e.entry.word ∷ []) behind, length-drop at (longs bytes), length-longs bytes)
+  room true both = omega (arith, ap length (here true both), length-append (e.entry.word ∷ e.entry.extra ∷ []) after, length-drop at (longs bytes), length-longs bytes)
+  room false both = omega (arith, ap length (here false both), length-append (e.entry.word ∷ []) after, length-drop at (longs bytes), length-longs bytes)
 
   -- its longwords
   pub word_room : 4 * at + 4 ≤ length bytes
@@ -68,7 +68,7 @@ module _ (bytes : List ℕ) (t : List TableEntry) (h : BeginsWithHeader bytes t)
   pub extra_room : has_both_bits (get_or (longs bytes) at 0) ≡ true → 4 * at + 8 ≤ length bytes
   extra_room both = omega (arith, room true (ap has_both_bits (sym word_is) ∙ both))
 
-  -- The row that was read is that of the table, and the next stands behind it.
+  -- The row that was read is that of the table, and the next stands after it.
   module _ (word extra : ℕ) (reads_word : word ≡ get_or (longs bytes) at 0) (reads_extra : extra ≡ (if has_both_bits (get_or (longs bytes) at 0) then get_or (longs bytes) (at + 1) 0 else 0)) where
     pub entry_is : slice_get t i ≡ Some (record { word = word; extra = extra })
     entry_is =
@@ -79,7 +79,7 @@ module _ (bytes : List ℕ) (t : List TableEntry) (h : BeginsWithHeader bytes t)
         e.is ∙ ap (λ (y : TableEntry). Some y) (sym same)
 
     pub stands_next : RowStandsAt bytes t h (i + 1) (at + (if has_both_bits word then 2 else 1))
-    unfolding behind
+    unfolding after
     stands_next = subst (λ (n : ℕ). RowStandsAt bytes t h n (at + (if has_both_bits word then 2 else 1))) (sym (add-one i)) (by_bits (has_both_bits word) refl)
       where
         word_at : word ≡ e.entry.word

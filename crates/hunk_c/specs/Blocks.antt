@@ -15,7 +15,7 @@ use Rattle.hunk_c.specs.Symbols.{symbol_row}
 use Rattle.hunk_c.specs.declared.blocks.BlockRow.{BlockRow}
 pub use Rattle.hunk_c.specs.declared.blocks.Span.{Span}
 
--- the longwords behind a count; none where the body has no count
+-- the longwords after a count; none where the body has no count
 abbrev pub payload_of : BlockBody → Option (List ℕ)
 payload_of (Name words) = Some words
 payload_of (Code top words) = Some words
@@ -24,7 +24,7 @@ payload_of (Debug words) = Some words
 payload_of (Advisory words) = Some words
 payload_of body = None
 
--- Where they stand in a block that begins at this byte: behind its word and the count. Where there are none, 0.
+-- Where they stand in a block that begins at this byte: after its word and the count. Where there are none, 0.
 abbrev pub span_of : ℕ → Option (List ℕ) → Span
 span_of place (Some words) = record { place = place + 8; bytes = 4 * length words }
 span_of place None = record { place = 0; bytes = 0 }

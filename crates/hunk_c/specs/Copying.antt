@@ -3,7 +3,7 @@ use Rattle.std.specs.Prelude.{◌≡◌, ◌≤◌, ◌+◌, ◌-◌, ℕ, List,
 use Rattle.std.proofs.Common.{refl, sym, ap, ◌∙◌, append-nil, append_assoc, length-append, arith}
 use Rattle.std.proofs.lemmas.List.{drop-drop}
 
--- The text goes on with these bytes, from place m to place n, and what lies behind them is as it was.
+-- The text goes on with these bytes, from place m to place n, and what lies after them is as it was.
 pub record Follows (old : List ℕ) (m : ℕ) (bytes new : List ℕ) (n : ℕ) : Type 0 where
   pub place : n ≡ m + length bytes
   pub front : take n new ≡ take m old ++ bytes

@@ -10,7 +10,7 @@ use Rattle.hunk_c.specs.Listing.{item_rows}
 use Rattle.hunk_c.specs.Rows.{rows_in}
 use Rattle.hunk_c.specs.declared.entries.EntryRow.{EntryRow}
 
--- what the caller sees of the entry of a EXT block at this byte: its name stands behind its first longword
+-- what the caller sees of the entry of a EXT block at this byte: its name stands after its first longword
 abbrev pub entry_row : ℕ → ℕ → ℕ → ExtEntry → EntryRow
 entry_row unit hunk place e = record {
   place = place;
@@ -24,7 +24,7 @@ entry_row unit hunk place e = record {
   reserved = 0;
 }
 
--- those of a block, whose entries stand behind its word
+-- those of a block, whose entries stand after its word
 abbrev pub body_rows : ℕ → ℕ → ℕ → BlockBody → List EntryRow
 body_rows unit hunk place (Ext entries) = item_rows (entry_row unit hunk) ext_text (place + 4) entries
 body_rows unit hunk place body = []

@@ -17,5 +17,5 @@ pub mod Streams
 pub mod Strips
 pub mod Symbols
 pub mod Tables
-pub mod Taking
+pub mod Filling
 pub mod Units

@@ -36,12 +36,12 @@ abbrev pub offset_rows : Relocated → ℕ → ℕ → List ℕ → List Relocat
 offset_rows r target place [] = []
 offset_rows r target place (offset ∷ rest) = relocation_row r target place offset ∷ offset_rows r target (place + 4) rest
 
--- those of groups, from this byte on: a group's offsets stand behind their number and the target
+-- those of groups, from this byte on: a group's offsets stand after their number and the target
 abbrev pub group_rows : Relocated → ℕ → List RelocGroup → List RelocationRow
 group_rows r place [] = []
 group_rows r place (g ∷ rest) = offset_rows r g.target (place + 8) g.offsets ++ group_rows r (place + 4 * length (group_text g)) rest
 
--- those of a block, whose groups stand behind its word
+-- those of a block, whose groups stand after its word
 abbrev pub body_rows : ℕ → ℕ → ℕ → ℕ → BlockBody → List RelocationRow
 body_rows unit hunk place word (Reloc groups) = group_rows (relocated unit hunk word) (place + 4) groups
 body_rows unit hunk place word body = []

@@ -10,7 +10,7 @@ use Rattle.hunk_c.specs.Listing.{item_rows}
 use Rattle.hunk_c.specs.Rows.{rows_in}
 use Rattle.hunk_c.specs.declared.symbols.SymbolRow.{SymbolRow}
 
--- what the caller sees of the entry of a SYMBOL block at this byte: its name stands behind its first longword
+-- what the caller sees of the entry of a SYMBOL block at this byte: its name stands after its first longword
 abbrev pub symbol_row : ℕ → ℕ → ℕ → SymbolEntry → SymbolRow
 symbol_row unit hunk place e = record {
   place = place;
@@ -22,7 +22,7 @@ symbol_row unit hunk place e = record {
   reserved = 0;
 }
 
--- those of a block, whose entries stand behind its word
+-- those of a block, whose entries stand after its word
 abbrev pub body_rows : ℕ → ℕ → ℕ → BlockBody → List SymbolRow
 body_rows unit hunk place (Symbol entries) = item_rows (symbol_row unit hunk) symbol_text (place + 4) entries
 body_rows unit hunk place body = []

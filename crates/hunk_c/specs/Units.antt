@@ -8,7 +8,7 @@ use Rattle.hunk_files.specs.declared.hunk_file.HunkFile.TheVariants as files
 use Rattle.hunk_c.specs.Listing.{item_rows}
 use Rattle.hunk_c.specs.declared.units.UnitRow.{UnitRow}
 
--- what the caller sees of a unit that begins at this byte: its name stands behind its word and a count
+-- what the caller sees of a unit that begins at this byte: its name stands after its word and a count
 abbrev pub unit_row : ℕ → UnitValue → UnitRow
 unit_row place u = record {
   place = place;

@@ -69,13 +69,7 @@ impl BlockTable for BlockListing {
 
     ghost rows = { block_rows };
 
-    fn list<T: Takes<BlockRow>>(
-        &self,
-        unit: u64,
-        hunk: u64,
-        block: BlockView<'_>,
-        taker: &mut T,
-    ) {
+    fn list<T: Takes<BlockRow>>(&self, unit: u64, hunk: u64, block: BlockView<'_>, taker: &mut T) {
         taker.take(block_row(unit, hunk, &block));
     }
 }
@@ -118,7 +112,7 @@ fn content(block: &BlockView<'_>) -> Span
     }
 }
 
-/// The longwords behind a count, of a body that has them.
+/// The longwords after a count, of a body that has them.
 fn payload<'a, 'b>(body: &'b BodyView<'a>) -> Option<&'b Payload<'a>>
     ensures { option_map (λ payload. longs payload.now) result ≡ payload_of (viewed body.now) }
 {

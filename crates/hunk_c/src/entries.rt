@@ -63,13 +63,7 @@ impl BlockTable for EntryTable {
 
     ghost rows = { block_rows };
 
-    fn list<T: Takes<EntryRow>>(
-        &self,
-        unit: u64,
-        hunk: u64,
-        block: BlockView<'_>,
-        taker: &mut T,
-    ) {
+    fn list<T: Takes<EntryRow>>(&self, unit: u64, hunk: u64, block: BlockView<'_>, taker: &mut T) {
         if let BodyView::Ext(entries) = block.into_body() {
             list_entries(taker, unit, hunk, entries);
         }
@@ -88,9 +82,9 @@ pub(crate) fn list_entries<T: Takes<EntryRow>>(
 {
     let mut place = entries.place();
     'listing: while let Some(entry) = entries.next() {
-        let behind = entries.place();
+        let after = entries.place();
         taker.take(entry_row(unit, hunk, place, &entry));
-        place = behind;
+        place = after;
     }
 }
 

@@ -18,7 +18,7 @@ use std::marker::Model;
 struct RowPlace {
     /// The longword of the header, counted from 0, at which the row stands.
     longword: usize,
-    /// The address of the hunk's first byte; 2^32 where it lies behind the address space.
+    /// The address of the hunk's first byte; 2^32 where it lies after the address space.
     base: u64,
 }
 
@@ -57,7 +57,7 @@ pub(crate) struct PackedBases<'a> {
     start: u32,
     marks: &'a [Mark],
     /// The number of the mark that the bases in `near` begin at: before the first one is asked
-    /// for, `MARKS`, behind which no hunk lies.
+    /// for, `MARKS`, after which no hunk lies.
     number: usize,
     near: [u32; HUNKS_A_MARK],
 }
@@ -131,15 +131,15 @@ pub(crate) fn place_marks(
         base: u64::from(start),
     };
     'placing: for hunk in 0..hunks {
-        let behind = next_row(bytes, place);
+        let after = next_row(bytes, place);
         if place.base >= END {
             return Err(hunk);
         }
-        if behind.base > END {
+        if after.base > END {
             return Err(hunk);
         }
         put_mark(marks, hunk as usize, place);
-        place = behind;
+        place = after;
     }
     Ok(())
 }

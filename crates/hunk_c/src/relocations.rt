@@ -107,9 +107,9 @@ fn list_groups<T: Takes<RelocationRow>>(
 {
     let mut place = groups.place();
     'listing: while let Some(group) = groups.next() {
-        let behind = groups.place();
+        let after = groups.place();
         list_offsets(taker, relocated, group.target, place + 8, &group.offsets);
-        place = behind;
+        place = after;
     }
 }
 

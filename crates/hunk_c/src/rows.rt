@@ -7,7 +7,7 @@ ghost use Rattle.hunk_files.specs.StandingBlocks.{StandingBlock};
 ghost use Rattle.hunk_files.specs.declared.hunk_file.HunkFile.{HunkFile};
 ghost use Rattle.hunk_c.specs.Counting.{Counts, counts_none, counts_more};
 ghost use Rattle.hunk_c.specs.Rows.{Tabulates, TabulatesWhatFits, rows_in};
-ghost use Rattle.hunk_c.specs.Taking.{Fills, fills_none, fills_more};
+ghost use Rattle.hunk_c.specs.Filling.{Fills, fills_none, fills_more};
 
 use crate::answer::{Answer, done, no_room, refused};
 use crate::file::hunks_in;
@@ -32,13 +32,7 @@ pub(crate) trait BlockTable {
     ghost rows: { StandingBlock → List Self.Row };
 
     /// Hands over a row for each thing in this block of a hunk of a unit.
-    fn list<T: Takes<Self::Row>>(
-        &self,
-        unit: u64,
-        hunk: u64,
-        block: BlockView<'_>,
-        taker: &mut T,
-    )
+    fn list<T: Takes<Self::Row>>(&self, unit: u64, hunk: u64, block: BlockView<'_>, taker: &mut T)
         ensures { T.takes taker.old
             (rows (record { unit = unit; hunk = hunk; block = block.entry })) taker.new };
 }

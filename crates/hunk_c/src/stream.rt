@@ -8,7 +8,7 @@ use crate::answer::{Answer, done, no_room, refused, strange};
 use crate::loader::{Loader, NO_LOADER, ends_early};
 use crate::places::table_sizes;
 use hunk_files::Row;
-use hunk_scatter::stream::{Stop, begin, take_piece};
+use hunk_scatter::stream::{Stop, begin, feed_piece};
 use hunk_words::{Fault, Reason};
 
 /// Fills the memory with zero bytes, and sets a loader to the end of the header of the table in
@@ -78,7 +78,7 @@ pub extern "C" fn hunk_feed(
         Ok(at) => at,
         Err(answer) => return answer,
     };
-    match take_piece(memory, rows, at, piece) {
+    match feed_piece(memory, rows, at, piece) {
         Ok((to, taken)) => {
             if ends_early(&to) {
                 return strange();

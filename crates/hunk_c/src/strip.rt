@@ -70,7 +70,7 @@ fn count_stripped(file: &FileView<'_>) -> u64
 }
 
 /// Writes the file without those blocks to the front of the text, and gives the number of its
-/// bytes. The text behind them is as it was.
+/// bytes. The text after them is as it was.
 #[tactic(auto, using(crate::proofs::Checked::copied))]
 fn copy_stripped(file: &FileView<'_>, text: &mut [u8]) -> usize
     requires { length (stripped_bytes (file_of file.now)) ≤ length text.old }
@@ -100,7 +100,7 @@ impl TakesBytes for ByteCount {
     }
 }
 
-/// Copies each range behind the one before, unless there is no room for it.
+/// Copies each range after the one before, unless there is no room for it.
 #[derive(Drop)]
 struct Copier<'t> {
     text: &'t mut [u8],

@@ -59,13 +59,7 @@ impl BlockTable for SymbolTable {
 
     ghost rows = { block_rows };
 
-    fn list<T: Takes<SymbolRow>>(
-        &self,
-        unit: u64,
-        hunk: u64,
-        block: BlockView<'_>,
-        taker: &mut T,
-    ) {
+    fn list<T: Takes<SymbolRow>>(&self, unit: u64, hunk: u64, block: BlockView<'_>, taker: &mut T) {
         if let BodyView::Symbol(symbols) = block.into_body() {
             list_symbols(taker, unit, hunk, symbols);
         }
@@ -84,9 +78,9 @@ pub(crate) fn list_symbols<T: Takes<SymbolRow>>(
 {
     let mut place = symbols.place();
     'listing: while let Some(symbol) = symbols.next() {
-        let behind = symbols.place();
+        let after = symbols.place();
         taker.take(symbol_row(unit, hunk, place, &symbol));
-        place = behind;
+        place = after;
     }
 }
 

@@ -37,7 +37,7 @@ pairs_moved i j (a ∷ b ∷ rest) bytes h =
     decode_pairs-ok_pair j a b pair.0 rest (pair_moved a b i j pair.0 pair.1)
     ∙ ap (cons_byte pair.0) (pairs_moved (i + 2) (j + 2) rest next.0 next.1) ∙ next.2
 
--- ---- digits behind digits
+-- ---- digits after digits
 
 pairs_joined : (i : ℕ) (front back xs ys : List ℕ) → decode_pairs i front ≡ Ok xs → decode_pairs 0 back ≡ Ok ys → decode_pairs i (front ++ back) ≡ Ok (xs ++ ys)
 unfolding decode_pairs
@@ -67,13 +67,13 @@ digits_first (x ∷ xs) ys h =
     let digit : ℕ → Type 0 = λ (c : ℕ). is_hex_digit c ≡ true in
     All-cons digit x xs (All-head digit x (xs ++ ys) h) (digits_first xs ys (All-tail digit x (xs ++ ys) h))
 
-digits_behind : (xs ys : List ℕ) → AllPass is_hex_digit (xs ++ ys) → AllPass is_hex_digit ys
-digits_behind [] ys h = h
-digits_behind (x ∷ xs) ys h = digits_behind xs ys (All-tail (λ (c : ℕ). is_hex_digit c ≡ true) x (xs ++ ys) h)
+digits_after : (xs ys : List ℕ) → AllPass is_hex_digit (xs ++ ys) → AllPass is_hex_digit ys
+digits_after [] ys h = h
+digits_after (x ∷ xs) ys h = digits_after xs ys (All-tail (λ (c : ℕ). is_hex_digit c ≡ true) x (xs ++ ys) h)
 
 -- pairs of digits that do not decode are in no text that does
 pub never_decoded : (front held back bytes : List ℕ) → length held % 2 ≡ 0 → ((more : List ℕ) → ¬ (decode_of held ≡ Ok more)) → ¬ (decode_of (front ++ (held ++ back)) ≡ Ok bytes)
 never_decoded front held back bytes even none h =
     let all = (decode_of-ok (front ++ (held ++ back)) bytes h).1 in
-    let got = decode_of-digits held even (digits_first held back (digits_behind front (held ++ back) all)) in
+    let got = decode_of-digits held even (digits_first held back (digits_after front (held ++ back) all)) in
     none got.0 got.1

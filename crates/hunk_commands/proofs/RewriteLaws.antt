@@ -3,23 +3,23 @@ use Rattle.std.proofs.Common.{◌≡◌, ◌≤◌, ◌+◌, ◌-◌, ◌∙◌,
 use Rattle.hunk_words.specs.Longs.{bytes_of}
 use Rattle.hunk_files.specs.{LoadFile.LoadFileValue, LoadText.text, ObjectFile.{ObjectFileValue, object_text}}
 use Rattle.hunk_files.specs.{Strip.{strip_file, strip_object}, declared.hunk_file.HunkFile.HunkFile}
-use Rattle.hunk_files.specs.HunkFile.{IsFileOf, bytes_behind, file_bytes}
+use Rattle.hunk_files.specs.HunkFile.{IsFileOf, bytes_after, file_bytes}
 use Rattle.hunk_files.specs.declared.hunk_file.HunkFile.TheVariants as files
 use Rattle.hunk_commands.specs.declared.rewriting.Rewritten.{Rewritten}
 use Rattle.hunk_commands.specs.Rewritten.{IsRewritten, TellsSizes, stripped_where}
 
 -- what follows a file is a part of the bytes
-behind_fits : (bytes : List ℕ) (file : HunkFile) → IsFileOf bytes file → bytes_behind file ≤ length bytes
-behind_fits bytes (files.Load value rest) is =
+after_fits : (bytes : List ℕ) (file : HunkFile) → IsFileOf bytes file → bytes_after file ≤ length bytes
+after_fits bytes (files.Load value rest) is =
     let all = ap length is.0.split ∙ length-append (bytes_of (text is.0.value)) is.0.rest in omega (arith, all, is.2)
-behind_fits bytes (files.Object value) is = omega arith
+after_fits bytes (files.Object value) is = omega arith
 
-pub tells_sizes : (done : Rewritten) (bytes : List ℕ) (file : HunkFile) → IsFileOf bytes file → done.rest ≡ bytes_behind file → done.read ≡ length bytes - done.rest →
-    TellsSizes done (bytes_behind file) bytes
-tells_sizes done bytes file is behind read =
-    (behind, (let all : done.read + bytes_behind file ≡ length bytes = omega (arith, behind_fits bytes file is, behind, read) in all))
+pub tells_sizes : (done : Rewritten) (bytes : List ℕ) (file : HunkFile) → IsFileOf bytes file → done.rest ≡ bytes_after file → done.read ≡ length bytes - done.rest →
+    TellsSizes done (bytes_after file) bytes
+tells_sizes done bytes file is after read =
+    (after, (let all : done.read + bytes_after file ≡ length bytes = omega (arith, after_fits bytes file is, after, read) in all))
 
-pub rewritten : (strip : Bool) (done : Rewritten) (bytes : List ℕ) (file : HunkFile) → IsFileOf bytes file → TellsSizes done (bytes_behind file) bytes →
+pub rewritten : (strip : Bool) (done : Rewritten) (bytes : List ℕ) (file : HunkFile) → IsFileOf bytes file → TellsSizes done (bytes_after file) bytes →
     IsRewritten strip done bytes (file_bytes (stripped_where strip file))
 rewritten true done bytes (files.Load value rest) is tells =
     inl (is.0, subst (λ (n : ℕ). TellsSizes done n bytes) is.2 tells, ap (λ (v : LoadFileValue). bytes_of (text (strip_file v))) is.1)

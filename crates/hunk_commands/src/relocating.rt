@@ -4,7 +4,7 @@ ghost use Rattle.hunk_words.specs.Puts.{PutsText};
 ghost use Rattle.hunk_words.specs.declared.reason.Reason.TheVariants.{Budget};
 ghost use Rattle.hunk_commands.specs.declared.fault.RunFault.TheVariants.{Memory, Refused};
 ghost use Rattle.hunk_scatter.specs.LoadOutcomes.{HasFileWithin, PassesBudget};
-ghost use Rattle.hunk_scatter.specs.LoadOutcomes.{StopsBehindFile, StopsBehindHeader};
+ghost use Rattle.hunk_scatter.specs.LoadOutcomes.{StopsAfterFile, StopsAfterHeader};
 ghost use Rattle.hunk_scatter.specs.Placing.{packed_from};
 ghost use Rattle.hunk_commands.specs.Inputs.{TellsReading};
 ghost use Rattle.hunk_commands.specs.Relocating.{Relocates, image_listing};
@@ -48,8 +48,8 @@ pub fn relocate<R: Source, W: Sink>(
 
     // What is read at most, whatever the answer: no byte after the file, and none after a
     // header that can't be placed.
-    ensures one_file { StopsBehindFile (R.supply r.old) (R.supply r.new) }
-    ensures header_first { StopsBehindHeader (packed_from base) limits.budget
+    ensures one_file { StopsAfterFile (R.supply r.old) (R.supply r.new) }
+    ensures header_first { StopsAfterHeader (packed_from base) limits.budget
         (R.supply r.old) (R.supply r.new) }
 
     // Success, and where there is none.

@@ -12,7 +12,7 @@ use hunk_words::{Reason, word_at};
 pub fn has_header(front: &[u8]) -> Result<bool, Reason> {
     let mut position = Position::FirstLong;
     for i in 0..front.len() / 4 {
-        if position.is_behind_header() {
+        if position.is_after_header() {
             return Ok(true);
         }
         let word = word_at(front, i);
@@ -22,5 +22,5 @@ pub fn has_header(front: &[u8]) -> Result<bool, Reason> {
         }
         position = position.step(word);
     }
-    Ok(position.is_behind_header())
+    Ok(position.is_after_header())
 }

@@ -1,11 +1,11 @@
--- The text of a hunk is cut into its blocks and what stands behind it.
+-- The text of a hunk is cut into its blocks and what stands after it.
 use Rattle.std.proofs.Common.{rules, ◌≡◌, ℕ, Bool, true, false, zero, suc, ◌≤◌, List, [], ◌∷◌, ◌++◌, length, refl, sym, ap, ◌∙◌, append_assoc, length-append, arith}
 use Rattle.std.specs.{Prelude.if◌then◌else◌, List.AllByRecursion}
 use Rattle.hunk_blocks.specs.{Values.{BlockValue, IsBlock}, Parts.block_text, Cuts.{Cut, cut_map, block_cut}}
 use Rattle.hunk_blocks.proofs.CutLaws.{cut, block_cut_is}
 use Rattle.hunk_grammar.specs.Standings.{is_ending}
 use Rattle.hunk_files.specs.{LoadFile.{AreInOrder, standing}, Hunks.block_texts, Cuts.{blocks_cut, hunk_cut}}
-use Rattle.hunk_files.proofs.{FileText.standings, Peel.order_stops}
+use Rattle.hunk_files.proofs.{FileText.standings, OneReading.order_stops}
 
 -- each block has a longword
 pub few_blocks : (blocks : List BlockValue) → length blocks ≤ length (block_texts blocks)
@@ -19,8 +19,8 @@ unfolding blocks_cut
 blocks_cut_is most has_content [] rest is order few = absurd order
 blocks_cut_is zero has_content (b ∷ blocks) rest is order few = absurd (omega (arith, few))
 blocks_cut_is (suc most) has_content (b ∷ blocks) rest is order few =
-    let behind = block_texts blocks ++ rest in
-    let split : block_cut (block_texts (b ∷ blocks) ++ rest) ≡ cut b behind = ap block_cut (append_assoc (block_text b) (block_texts blocks) rest) ∙ block_cut_is b behind is.0 in
+    let after = block_texts blocks ++ rest in
+    let split : block_cut (block_texts (b ∷ blocks) ++ rest) ≡ cut b after = ap block_cut (append_assoc (block_text b) (block_texts blocks) rest) ∙ block_cut_is b after is.0 in
     let step : Cut BlockValue → Cut (List BlockValue) =
     λ block. if is_ending (standing block.value.body) then cut_map (λ x. x ∷ []) block else cut_map (λ xs. block.value ∷ xs) (blocks_cut most block.rest) in
     ap step split ∙ go (is_ending (standing b.body)) refl (λ k o. blocks_cut_is most k blocks rest is.1 o (omega (arith, few)))

@@ -2,7 +2,7 @@
 use Rattle.std.proofs.Common.{◌≡◌, ℕ, ◌+◌, List, refl, subst, arith, inl, inr, Option, Some}
 use Rattle.hunk_blocks.specs.{Begins.LacksItemAt, Parts.block_text, Placed.Placed, Values.BlockValue}
 use Rattle.hunk_files.specs.{InPlace.GivesPart, Lacks.{EndsAt, EndsBlockPart, EndsHunkPart}}
-use Rattle.hunk_files.proofs.{PlaceLaws.{ends_map, last_at}, Taking.{Taken, part_within}}
+use Rattle.hunk_files.proofs.{PlaceLaws.{ends_map, last_at}, PartsInTurn.{Taken, part_within}}
 
 module _ (all old new : Placed (List BlockValue)) (done : List BlockValue) (found : Option (Placed BlockValue)) (block : Placed BlockValue) (t : Taken block_text all old done) (same : found ≡ Some block)
     (gives : GivesPart block_text old found new) where

@@ -12,8 +12,8 @@ use Rattle.hunk_files.specs.{LoadFile.{AreInOrder, standing}, Hunks.{BlockAt, Hu
 use Rattle.hunk_files.specs.{Cuts.{blocks_cut, hunk_cut}, InPlace.{BeginsWithBlocks, GivesPart, blocks_in}}
 use Rattle.hunk_files.proofs.{BlockCuts.hunk_cut_is, FileText.standings}
 use Rattle.hunk_files.proofs.HunkBlocks.{block_inside, block_read, some_block}
-use Rattle.hunk_files.proofs.PlaceLaws.{First, first_of, stand_behind, stand_first, text_inside}
-use Rattle.hunk_files.proofs.Peel.{order_left, order_stops}
+use Rattle.hunk_files.proofs.PlaceLaws.{First, first_of, stand_after, stand_first, text_inside}
+use Rattle.hunk_files.proofs.OneReading.{order_left, order_stops}
 
 pub texts_longs : (bs : List BlockValue) → AllByRecursion IsBlock bs → AreLongs (block_texts bs)
 texts_longs [] is = tt
@@ -38,7 +38,7 @@ hunk_begins hunk = record { blocks = hunk.blocks; are = record { each = hunk.is.
 pub hunk_value : {bytes : List ℕ} {start : ℕ} (hunk : HunkAt bytes start) → blocks_in (drop start bytes) ≡ hunk.blocks
 hunk_value hunk = blocks_in_is (hunk_begins hunk)
 
--- ---- the first block, and those behind it
+-- ---- the first block, and those after it
 
 pub some_words : (has_content : Bool) (bs : List BlockValue) → AreInOrder has_content (standings bs) → 1 ≤ length (block_texts bs)
 some_words has_content [] order = absurd order
@@ -80,7 +80,7 @@ module _ (bytes : List ℕ) (at : ℕ) (b : BeginsWithBlocks (drop at bytes)) wh
           blocks = next.later;
           are = record { each = next.stand.each.1; has_content = on.0; order = on.1 };
           more = b.more;
-          begins = (stand_behind next.stand (at + n) read.1).text_is;
+          begins = (stand_after next.stand (at + n) read.1).text_is;
         }
 
     pub more_come : is_ending (standing x.body) ≡ false → blocks_in (drop at bytes) ≡ x ∷ blocks_in (drop (at + n) bytes)
@@ -108,15 +108,15 @@ some_seen bytes at (inl none) some = absurd (omega (arith, some, ap length none,
 some_seen bytes at (inr b) some = b
 
 module _ (bytes : List ℕ) (at : ℕ) (b : BeginsWithBlocks (drop at bytes)) (x : Placed BlockValue) (placed : x.place ≡ at) (n : ℕ) (front : IsFrontBlock (drop at bytes) x.value n) where
-  behind : at + n ≡ x.place + 4 * length (block_text x.value)
-  behind = omega (arith, placed, ap length front.text, length-take-le n (drop at bytes) front.whole, length-bytes_of (block_text x.value))
+  after : at + n ≡ x.place + 4 * length (block_text x.value)
+  after = omega (arith, placed, ap length front.text, length-take-le n (drop at bytes) front.whole, length-bytes_of (block_text x.value))
 
   -- Once END was given, none is left.
   pub gives_last : is_ending (standing x.value.body) ≡ true → GivesPart block_text (seen bytes at) (Some x) (seen (take (at + n) bytes) (at + n))
   gives_last ends =
       let none = none_seen (take (at + n) bytes) (at + n) (omega (arith, length-take-le (at + n) bytes (first_inside bytes at b x.value n front))) in
       let first : blocks_in (drop at bytes) ≡ x.value ∷ blocks_in (drop (at + n) (take (at + n) bytes)) = none_come bytes at b x.value n front ends ∙ ap (λ (l : List BlockValue). x.value ∷ l) (sym none) in
-      ((λ i. record { place = sym placed i; value = first i }), behind)
+      ((λ i. record { place = sym placed i; value = first i }), after)
 
   pub gives_next : is_ending (standing x.value.body) ≡ false → GivesPart block_text (seen bytes at) (Some x) (seen bytes (at + n))
-  gives_next goes_on = let first = more_come bytes at b x.value n front goes_on in ((λ i. record { place = sym placed i; value = first i }), behind)
+  gives_next goes_on = let first = more_come bytes at b x.value n front goes_on in ((λ i. record { place = sym placed i; value = first i }), after)

@@ -8,11 +8,11 @@ use Rattle.hunk_blocks.specs.Faults.{IsFront}
 use Rattle.hunk_grammar.specs.FileKind.{sniffed}
 use Rattle.hunk_grammar.specs.declared.file_kind.Sniff.{Sniff}
 use Rattle.hunk_grammar.specs.declared.file_kind.Sniff.TheVariants as sniffs
-use Rattle.hunk_files.specs.FileParts.{IsLoadPart, IsPartAt, IsPartBehind, IsUnitPart, fault_at}
+use Rattle.hunk_files.specs.FileParts.{IsLoadPart, IsPartAt, IsPartAfter, IsUnitPart, fault_at}
 use Rattle.hunk_files.specs.HunkFile.{IsLoadRefusal, IsRefusal}
 use Rattle.hunk_files.specs.ObjectFault.{objects}
 use Rattle.hunk_files.specs.declared.part.Part.{Part}
-use Rattle.hunk_files.proofs.{LoadParts.{part_of, refused_behind}, TextPlaces.read_part}
+use Rattle.hunk_files.proofs.{LoadParts.{part_of, refused_after}, TextPlaces.read_part}
 use Rattle.hunk_files.proofs.UnitParts.{refused_front}
 use Rattle.hunk_files.proofs.OneUnitPart as units
 use Rattle.hunk_files.proofs.TextPlaces as hunks
@@ -41,20 +41,20 @@ load_refusal sniffs.Load bytes fault not h = h
 load_refusal sniffs.Library bytes fault not h = h
 load_refusal sniffs.Other bytes fault not h = h
 
-load_behind : (kind : Sniff) (before : List ℕ) (part : Part) → kind ≢ sniffs.Object → IsLoadPart before part → IsPartBehind kind before part
-load_behind sniffs.Object before part not h = absurd (not refl)
-load_behind sniffs.Load before part not h = h
-load_behind sniffs.Library before part not h = h
-load_behind sniffs.Other before part not h = h
+load_after : (kind : Sniff) (before : List ℕ) (part : Part) → kind ≢ sniffs.Object → IsLoadPart before part → IsPartAfter kind before part
+load_after sniffs.Object before part not h = absurd (not refl)
+load_after sniffs.Load before part not h = h
+load_after sniffs.Library before part not h = h
+load_after sniffs.Other before part not h = h
 
 pub in_load : (bytes : List ℕ) → IsBytes bytes → (place : ℕ) (reason : Reason) (part : Part) → sniffed (longs bytes) ≢ sniffs.Object → IsRefusal (sniffed (longs bytes)) bytes (fault_at place reason) →
     ((there : Part) → IsLoadPart (take (place / 4) (longs bytes)) there → part ≡ there) → IsPartAt (sniffed (longs bytes)) bytes place part
 in_load bytes fit place reason part kind h is =
     let before : List ℕ = take (place / 4) (longs bytes) in
     let fault = load_refusal (sniffed (longs bytes)) bytes (fault_at place reason) kind h in
-    let read = refused_behind bytes fit place reason fault.0 in
+    let read = refused_after bytes fit place reason fault.0 in
     let there = read_part before read.0 read.1 in
-    load_behind (sniffed (longs bytes)) before part kind (subst (IsLoadPart before) (sym (is (part_of read.0) there)) there)
+    load_after (sniffed (longs bytes)) before part kind (subst (IsLoadPart before) (sym (is (part_of read.0) there)) there)
 
 -- The place names one part alone.
 pub one_part : (kind : Sniff) (bytes : List ℕ) (place : ℕ) (a b : Part) → IsPartAt kind bytes place a → IsPartAt kind bytes place b → a ≡ b

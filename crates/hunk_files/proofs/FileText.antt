@@ -45,24 +45,24 @@ module _ (hunks : ℕ) (finished : List HunkValue) (entry : TableEntry) (ahead :
   abbrev at : List BlockValue → Bool → HunkSoFar
   at blocks has_content = opened hunks finished entry blocks has_content ahead
 
-  -- the place behind a hunk of these blocks
-  abbrev behind : List BlockValue → Next
-  behind blocks = open_hunk hunks (finished ++ hunk entry blocks ∷ []) ahead
+  -- the place after a hunk of these blocks
+  abbrev closed : List BlockValue → Next
+  closed blocks = open_hunk hunks (finished ++ hunk entry blocks ∷ []) ahead
 
   abbrev labels : Bool → List BlockValue → List (Role × ℕ)
   labels has_content more = blocks_labelled hunks (size_longs entry.word) has_content more
 
   abbrev AreRead : List BlockValue → Type 0
   AreRead more = (has_content : Bool) (done : List BlockValue) → AreInOrder has_content (standings more) →
-      Leads (More (AtBlock (at done has_content))) (labels has_content more) (behind (done ++ more))
+      Leads (More (AtBlock (at done has_content))) (labels has_content more) (closed (done ++ more))
 
   one_more : (has_content : Bool) (done : List BlockValue) (b : BlockValue) (more : List BlockValue) → AreInOrder has_content (standings more) → AreRead more →
-      Leads (More (AtBlock (at (done ++ b ∷ []) has_content))) (labels has_content more) (behind (done ++ b ∷ more))
+      Leads (More (AtBlock (at (done ++ b ∷ []) has_content))) (labels has_content more) (closed (done ++ b ∷ more))
   one_more has_content done b more o reads =
-      subst (λ (bs : List BlockValue). Leads (More (AtBlock (at (done ++ b ∷ []) has_content))) (labels has_content more) (behind bs)) (append_assoc done (b ∷ []) more) (reads has_content (done ++ b ∷ []) o)
+      subst (λ (bs : List BlockValue). Leads (More (AtBlock (at (done ++ b ∷ []) has_content))) (labels has_content more) (closed bs)) (append_assoc done (b ∷ []) more) (reads has_content (done ++ b ∷ []) o)
 
   block_closed : (s : BlockStanding) (has_content : Bool) (done : List BlockValue) (b : BlockValue) (more : List BlockValue) → AreInOrder has_content (s ∷ standings more) → AreRead more →
-      Leads (close_by (at done has_content) b s) (labels (has_content || is_content s) more) (behind (done ++ b ∷ more))
+      Leads (close_by (at done has_content) b s) (labels (has_content || is_content s) more) (closed (done ++ b ∷ more))
   block_closed Beside true done b more o reads = one_more true done b more o reads
   block_closed Beside false done b more o reads = one_more false done b more o reads
   block_closed Content false done b more o reads = one_more true done b more o reads

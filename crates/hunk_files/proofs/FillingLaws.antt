@@ -42,7 +42,7 @@ abbrev pub ComesTo : Bool → List ℕ → List BlockValue → List ℕ → List
 ComesTo false bases left memory all = AreInOrder false (standings left) × (memory_of bases (length memory) left ≡ all)
 ComesTo true bases left memory all = AllByRecursion IsNoContent left × (relocated bases memory (relocations_in left) ≡ all)
 
--- behind the content block there is none
+-- after the content block there is none
 no_content : (bs : List BlockValue) → AreInOrder true (standings bs) → AllByRecursion IsNoContent bs
 no_content [] o = absurd o
 no_content (b ∷ bs) o =
@@ -63,17 +63,17 @@ no_contents (b ∷ bs) h = ap₂ (λ (xs ys : List ℕ). xs ++ ys) (empty b.body
 
 module _ (bases : List ℕ) (left : List BlockValue) (memory all : List ℕ) where
   -- a content was put
-  behind_content : (bytes : List ℕ) → AreInOrder true (standings left) → relocated bases (filled (length memory) (bytes ++ contents left)) (relocations_in left) ≡ all →
+  after_content : (bytes : List ℕ) → AreInOrder true (standings left) → relocated bases (filled (length memory) (bytes ++ contents left)) (relocations_in left) ≡ all →
       ComesTo true bases left (filled (length memory) bytes) all
-  behind_content bytes o e =
+  after_content bytes o e =
       let none = no_content left o in
       (none, ap (λ (c : List ℕ). relocated bases (filled (length memory) c) (relocations_in left)) (sym (append-nil bytes) ∙ ap (λ (c : List ℕ). bytes ++ c) (sym (no_contents left none))) ∙ e)
 
   -- One block less is left.
   goes_on : (has : Bool) (word : ℕ) (body : BlockBody) → ComesTo has bases (record { word = word; body = body } ∷ left) memory all → (now : Bool) × ComesTo now bases left (filled_by bases memory body) all
-  goes_on false word (Code top words) c = (true, behind_content (bytes_of words) c.0 c.1)
-  goes_on false word (Data top words) c = (true, behind_content (bytes_of words) c.0 c.1)
-  goes_on false word (Bss size) c = (true, behind_content [] c.0 c.1)
+  goes_on false word (Code top words) c = (true, after_content (bytes_of words) c.0 c.1)
+  goes_on false word (Data top words) c = (true, after_content (bytes_of words) c.0 c.1)
+  goes_on false word (Bss size) c = (true, after_content [] c.0 c.1)
   goes_on false word (Reloc groups) c = absurd c.0
   goes_on false word (Ext entries) c = absurd c.0
   goes_on false word End c = absurd c.0

@@ -23,32 +23,32 @@ module _ {S X : Type 0} (Takes : S → List X → S → Type 0) (more : (a b c :
 abbrev bytes_from : ℕ → ObjectHunk → ℕ
 bytes_from n h = fold (λ a b. a + content_size b.body) n h
 
-nothing_behind : (h : ObjectHunk) (n : ℕ) → standings h ≡ [] → bytes_from n h ≡ n
-nothing_behind [] n e = refl
-nothing_behind (b ∷ h) n e = absurd cc
+nothing_after : (h : ObjectHunk) (n : ℕ) → standings h ≡ [] → bytes_from n h ≡ n
+nothing_after [] n e = refl
+nothing_after (b ∷ h) n e = absurd cc
 
--- what stands behind the content block has no content
+-- what stands after the content block has no content
 no_more_content : (h : ObjectHunk) (n : ℕ) → AreInOrder true (standings h) → bytes_from n h ≡ n
 no_more_content [] n o = absurd o
-no_more_content (b ∷ h) n o = behind b.body (no_more_content h) o
+no_more_content (b ∷ h) n o = after b.body (no_more_content h) o
   where
-    behind : (body : BlockBody) → ((m : ℕ) → AreInOrder true (standings h) → bytes_from m h ≡ m) → AreInOrder true (standing body ∷ standings h) → bytes_from (n + content_size body) h ≡ n
-    behind (Code top ws) more p = absurd p
-    behind (Data top ws) more p = absurd p
-    behind (Bss size) more p = absurd p
-    behind End more p = omega (arith, nothing_behind h (n + 0) p)
-    behind (Reloc gs) more p = omega (arith, more (n + 0) p)
-    behind (Ext es) more p = omega (arith, more (n + 0) p)
-    behind (Name ws) more p = omega (arith, more (n + 0) p)
-    behind (Symbol es) more p = omega (arith, more (n + 0) p)
-    behind (Debug ws) more p = omega (arith, more (n + 0) p)
-    behind (Advisory ws) more p = omega (arith, more (n + 0) p)
+    after : (body : BlockBody) → ((m : ℕ) → AreInOrder true (standings h) → bytes_from m h ≡ m) → AreInOrder true (standing body ∷ standings h) → bytes_from (n + content_size body) h ≡ n
+    after (Code top ws) more p = absurd p
+    after (Data top ws) more p = absurd p
+    after (Bss size) more p = absurd p
+    after End more p = omega (arith, nothing_after h (n + 0) p)
+    after (Reloc gs) more p = omega (arith, more (n + 0) p)
+    after (Ext es) more p = omega (arith, more (n + 0) p)
+    after (Name ws) more p = omega (arith, more (n + 0) p)
+    after (Symbol es) more p = omega (arith, more (n + 0) p)
+    after (Debug ws) more p = omega (arith, more (n + 0) p)
+    after (Advisory ws) more p = omega (arith, more (n + 0) p)
 
-behind_content : (body : BlockBody) (n : ℕ) (rest : List BlockStanding) → content_bytes body ≡ Some n → AreInOrder false (standing body ∷ rest) → AreInOrder true rest
-behind_content (Code top ws) n rest e o = o
-behind_content (Data top ws) n rest e o = o
-behind_content (Bss size) n rest e o = o
-behind_content _ n rest e o = absurd cc
+after_content : (body : BlockBody) (n : ℕ) (rest : List BlockStanding) → content_bytes body ≡ Some n → AreInOrder false (standing body ∷ rest) → AreInOrder true rest
+after_content (Code top ws) n rest e o = o
+after_content (Data top ws) n rest e o = o
+after_content (Bss size) n rest e o = o
+after_content _ n rest e o = absurd cc
 
 -- Of the blocks of the hunk these are left; the content block is among them.
 abbrev pub ContentLeft : ObjectHunk → List BlockValue → Type 0
@@ -65,5 +65,5 @@ module _ (h left rest : ObjectHunk) (b : BlockValue) (found : Option ℕ) (first
   content_found n e =
       let here : content_bytes b.body ≡ Some n = sym is ∙ e in
       let size : content_size b.body ≡ n = ap (λ (o : Option ℕ). unwrap_or o 0) here in
-      let all : hunk_bytes (b ∷ rest) ≡ 0 + content_size b.body = no_more_content rest (0 + content_size b.body) (behind_content b.body n (standings rest) here in_order) in
+      let all : hunk_bytes (b ∷ rest) ≡ 0 + content_size b.body = no_more_content rest (0 + content_size b.body) (after_content b.body n (standings rest) here in_order) in
       omega (arith, size, all, bytes_are)

@@ -12,7 +12,7 @@ use Rattle.hunk_blocks.proofs.{Admitted.block, BlockText.body_follows, BodyFault
 use Rattle.hunk_blocks.proofs.FaultLaws.{Embeds, expects_embedded, embeds_same, relabel, same-labels, words-relabel}
 use Rattle.hunk_blocks.proofs.{Lists.All-append, OneBlockFault.part_not_word}
 use Rattle.hunk_files.specs.{LoadFile.{standing, AreInOrder}, ObjectFile.ObjectHunk}
-use Rattle.hunk_files.specs.ObjectFault.{WordPlace, BetweenHunks, InHunk, ObjectRole, WordAt, has_content, behind_block, object_role_at, object_block_labelled, object_blocks_labelled, refuse_object, blocks_from}
+use Rattle.hunk_files.specs.ObjectFault.{WordPlace, BetweenHunks, InHunk, ObjectRole, WordAt, has_content, after_block, object_role_at, object_block_labelled, object_blocks_labelled, refuse_object, blocks_from}
 use Rattle.hunk_grammar.specs.Standings.{BlockStanding, Beside, Content, Relocating, Ending, is_content, refuse_standing, standing_of_kind}
 use Rattle.hunk_files.proofs.{HunkOrder.{Leads, leads_end, standing_is}, FileText.standings}
 
@@ -37,7 +37,7 @@ unfolding rest_of_hunk
 rest_goes true = ((end_is, tt), refl)
 rest_goes false = ((bss_is, (end_is, tt)), refl)
 
--- the rest behind a block that may stand here
+-- the rest after a block that may stand here
 tail_of : Bool → BlockStanding → ObjectHunk
 tail_of has Ending = []
 tail_of has s = rest_of_hunk (has || is_content s)
@@ -70,9 +70,9 @@ block_embeds place =
     record {
       into = λ b. b ∷ tail_of (has_content place) (standing b.body);
       role = λ r. r;
-      behind = λ b. object_blocks_labelled (behind_block place (standing b.body)) (tail_of (has_content place) (standing b.body));
+      after = λ b. object_blocks_labelled (after_block place (standing b.body)) (tail_of (has_content place) (standing b.body));
       is = λ b h. tail_goes (has_content place) b (standing b.body) h.0 refl h.1;
-      labels = λ b h. ap (λ ls. ls ++ object_blocks_labelled (behind_block place (standing b.body)) (tail_of (has_content place) (standing b.body))) (sym (same-labels (object_block_labelled place b)));
+      labels = λ b h. ap (λ ls. ls ++ object_blocks_labelled (after_block place (standing b.body)) (tail_of (has_content place) (standing b.body))) (sym (same-labels (object_block_labelled place b)));
       refuses = λ r w reason h. h;
     }
 
@@ -92,7 +92,7 @@ expects_word place =
     let b = stands_here (has_content place) in
     record { value = b.0; is = (b.1, b.2); done = []; word = b.0.word; more = relabel (object_role_at place) (body_parts b.0.body); labels = refl; begins = refl }
 
--- ---- behind a block word
+-- ---- after a block word
 no_second_word : (n : BlockNext) (ps more : List (Part × ℕ)) (part : Part) (w : ℕ) (end : BlockBody) → Follows n (ps ++ (part, w) ∷ more) (Whole end) → part ≢ parts.BlockWord
 no_second_word (Open x) [] more part w end h e = part_not_word x (h.0 ∙ e)
 no_second_word (Open x) (p ∷ ps) more part w end h e = no_second_word (step_inside x p.1) ps more part w end h.1 e
@@ -125,28 +125,28 @@ module _ (place : WordPlace) (w : ℕ) (ok : refuse_standing (has_content place)
           )
       -- the block word itself
 
--- ---- behind the blocks that were read
+-- ---- after the blocks that were read
 -- where the next block word stands
-abbrev pub place_behind : WordPlace → ObjectHunk → WordPlace
-place_behind place [] = place
-place_behind place (b ∷ bs) = place_behind (behind_block place (standing b.body)) bs
+abbrev pub place_past : WordPlace → ObjectHunk → WordPlace
+place_past place [] = place
+place_past place (b ∷ bs) = place_past (after_block place (standing b.body)) bs
 
-blocks-append : (place : WordPlace) (bs cs : ObjectHunk) → object_blocks_labelled place (bs ++ cs) ≡ object_blocks_labelled place bs ++ object_blocks_labelled (place_behind place bs) cs
+blocks-append : (place : WordPlace) (bs cs : ObjectHunk) → object_blocks_labelled place (bs ++ cs) ≡ object_blocks_labelled place bs ++ object_blocks_labelled (place_past place bs) cs
 blocks-append place [] cs = refl
 blocks-append place (b ∷ bs) cs =
-    ap (λ ls. object_block_labelled place b ++ ls) (blocks-append (behind_block place (standing b.body)) bs cs)
-    ∙ sym (append_assoc (object_block_labelled place b) (object_blocks_labelled (behind_block place (standing b.body)) bs) (object_blocks_labelled (place_behind (behind_block place (standing b.body)) bs) cs))
+    ap (λ ls. object_block_labelled place b ++ ls) (blocks-append (after_block place (standing b.body)) bs cs)
+    ∙ sym (append_assoc (object_block_labelled place b) (object_blocks_labelled (after_block place (standing b.body)) bs) (object_blocks_labelled (place_past (after_block place (standing b.body)) bs) cs))
 
 pub blocks_words : (place : WordPlace) (bs : ObjectHunk) → words (object_blocks_labelled place bs) ≡ flat_map block_text bs
 blocks_words place [] = refl
 blocks_words place (b ∷ bs) =
-    map-append (λ l. l.1) (object_block_labelled place b) (object_blocks_labelled (behind_block place (standing b.body)) bs)
-    ∙ ap₂ (λ xs ys. xs ++ ys) (words-relabel (object_role_at place) (block_parts b)) (blocks_words (behind_block place (standing b.body)) bs)
+    map-append (λ l. l.1) (object_block_labelled place b) (object_blocks_labelled (after_block place (standing b.body)) bs)
+    ∙ ap₂ (λ xs ys. xs ++ ys) (words-relabel (object_role_at place) (block_parts b)) (blocks_words (after_block place (standing b.body)) bs)
 
 -- whether there is a content block then
-content_behind : (place : WordPlace) (bs : ObjectHunk) (has : Bool) → Leads (has_content place) (standings bs) has → has_content (place_behind place bs) ≡ has
-content_behind place [] has h = h
-content_behind place (b ∷ bs) has h = content_behind (behind_block place (standing b.body)) bs has (go (has_content place) (standing b.body) h)
+content_after : (place : WordPlace) (bs : ObjectHunk) (has : Bool) → Leads (has_content place) (standings bs) has → has_content (place_past place bs) ≡ has
+content_after place [] has h = h
+content_after place (b ∷ bs) has h = content_after (after_block place (standing b.body)) bs has (go (has_content place) (standing b.body) h)
   where
     go : (k : Bool) (s : BlockStanding) → Leads k (s ∷ standings bs) has → Leads (k || is_content s) (standings bs) has
     go true Beside l = l
@@ -159,24 +159,24 @@ content_behind place (b ∷ bs) has h = content_behind (behind_block place (stan
     go false Ending l = absurd l
 
 -- a hunk that was begun goes on in itself
-pub opened : (place : WordPlace) (b : BlockValue) (bs : ObjectHunk) → (has : Bool) × (place_behind place (b ∷ bs) ≡ InHunk has)
+pub opened : (place : WordPlace) (b : BlockValue) (bs : ObjectHunk) → (has : Bool) × (place_past place (b ∷ bs) ≡ InHunk has)
 opened place b [] = (has_content place || is_content (standing b.body), refl)
-opened place b (c ∷ bs) = opened (behind_block place (standing b.body)) c bs
+opened place b (c ∷ bs) = opened (after_block place (standing b.body)) c bs
 
-blocks_embed : (bs : ObjectHunk) (has : Bool) → AllByRecursion IsBlock bs → Leads false (standings bs) has → Embeds (blocks_from (place_behind BetweenHunks bs)) (blocks_from BetweenHunks) (object_blocks_labelled BetweenHunks bs)
+blocks_embed : (bs : ObjectHunk) (has : Bool) → AllByRecursion IsBlock bs → Leads false (standings bs) has → Embeds (blocks_from (place_past BetweenHunks bs)) (blocks_from BetweenHunks) (object_blocks_labelled BetweenHunks bs)
 blocks_embed bs has are leads =
-    embeds_same (blocks_from (place_behind BetweenHunks bs)) (blocks_from BetweenHunks) (object_blocks_labelled BetweenHunks bs) (λ cs. bs ++ cs)
+    embeds_same (blocks_from (place_past BetweenHunks bs)) (blocks_from BetweenHunks) (object_blocks_labelled BetweenHunks bs) (λ cs. bs ++ cs)
     (λ cs h. (
       All-append IsBlock bs cs are h.0,
       subst (AreInOrder false) (sym (map-append (λ b. standing b.body) bs cs))
-          (leads_end false has (standings bs) (standings cs) leads (subst (λ (k : Bool). AreInOrder k (standings cs)) (content_behind BetweenHunks bs has leads) h.1)),
+          (leads_end false has (standings bs) (standings cs) leads (subst (λ (k : Bool). AreInOrder k (standings cs)) (content_after BetweenHunks bs has leads) h.1)),
     ))
     (λ cs h. blocks-append BetweenHunks bs cs) (λ role w reason h. h)
 
--- What is expected behind these blocks is expected of the hunk.
-pub expects_behind : (bs : ObjectHunk) (has : Bool) → AllByRecursion IsBlock bs → Leads false (standings bs) has → (before : List ℕ) (role : ObjectRole) → Expects (blocks_from (place_behind BetweenHunks bs)) before role →
+-- What is expected after these blocks is expected of the hunk.
+pub expects_after : (bs : ObjectHunk) (has : Bool) → AllByRecursion IsBlock bs → Leads false (standings bs) has → (before : List ℕ) (role : ObjectRole) → Expects (blocks_from (place_past BetweenHunks bs)) before role →
     Expects (blocks_from BetweenHunks) (flat_map block_text bs ++ before) role
 unfolding blocks_embed embeds_same
-expects_behind bs has are leads before role e =
+expects_after bs has are leads before role e =
     subst (λ ws. Expects (blocks_from BetweenHunks) (ws ++ before) role) (blocks_words BetweenHunks bs)
-    (expects_embedded (blocks_from (place_behind BetweenHunks bs)) (blocks_from BetweenHunks) (object_blocks_labelled BetweenHunks bs) (blocks_embed bs has are leads) before role e)
+    (expects_embedded (blocks_from (place_past BetweenHunks bs)) (blocks_from BetweenHunks) (object_blocks_labelled BetweenHunks bs) (blocks_embed bs has are leads) before role e)

@@ -8,7 +8,7 @@ use Rattle.hunk_files.specs.{ObjectFile.{ObjectHunk, IsObjectHunk}, ObjectViews.
 use Rattle.hunk_files.specs.UnitCuts.{ends_unit}
 use Rattle.hunk_files.proofs.HunkBlocks.{hunk_ends, hunk_inside, some_text}
 use Rattle.hunk_files.proofs.ObjectViewLaws.{HunkPassed, hunk_at_is, hunk_passed, next_hunk, no_hunk}
-use Rattle.hunk_files.proofs.Taking.{Taken, all_taken, part_taken, part_within}
+use Rattle.hunk_files.proofs.PartsInTurn.{Taken, all_taken, part_taken, part_within}
 
 -- The blocks of the hunk that stands here, where its unit goes on.
 module _ (bytes : List ℕ) (at : ℕ) (here : HunksAt bytes at) (goes_on : ends_unit (longs (drop at bytes)) ≡ false) (blocks : Placed ObjectHunk) (are : (hunk : HunkAt bytes at) → blocks ≡ record { place = at; value = hunk.blocks }) where
@@ -33,14 +33,14 @@ module _ (bytes : List ℕ) (at : ℕ) (here : HunksAt bytes at) (goes_on : ends
         (subst (λ (p : Placed ObjectHunk). EndsAt (EndsHunkPart p.value) p.place place) blocks_are e)
 
     module _ (end : ℕ) (e : end ≡ blocks.place + 4 * length (block_texts blocks.value)) where
-      pub hunks_behind : HunksAt bytes end
-      hunks_behind = (passed end e).behind
+      pub hunks_after : HunksAt bytes end
+      hunks_after = (passed end e).after
 
       pub nearer : length bytes - end < length bytes - at
       nearer = omega (arith, e, ap (λ (p : Placed ObjectHunk). p.place + 4 * length (block_texts p.value)) (are hunk), some_text hunk.blocks hunk.is, hunk_inside bytes at hunk)
 
-      pub some_behind : 4 ≤ end
-      some_behind = omega (arith, e, some_text blocks.value are_hunk)
+      pub some_after : 4 ≤ end
+      some_after = omega (arith, e, some_text blocks.value are_hunk)
 
       -- It is kept.
       pub hunk_kept : (kept : ObjectHunk) → kept ≡ blocks.value → Taken block_texts all (hunks_at bytes end) (done ++ kept ∷ [])

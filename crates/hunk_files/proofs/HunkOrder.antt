@@ -1,4 +1,4 @@
--- Where a block of a hunk may stand, behind others.
+-- Where a block of a hunk may stand, after others.
 use Rattle.std.proofs.Common.{◌≡◌, ℕ, Bool, true, false, List, [], ◌∷◌, ◌++◌, refl, sym, subst, Option, None, Some}
 use Rattle.std.specs.Prelude.{◌||◌, IsTrue}
 use Rattle.hunk_words.specs.{declared.block_word.Kind.Kind, declared.reason.Reason.Reason, Bits.{is_relocation, kind}}

@@ -112,6 +112,6 @@ module _ (p : Place) (word : ℕ) where
   pub step_fits : (x : Inside) (w : ℕ) → Fits x → IsLong w → refuse_part p (part_of x) w ≡ None → NextFits (step_inside x w)
   step_fits x w h l ok = both (step_inside x w) (blocks.step_fits word x w h.0 l (alone_passes x w h.1 ok)) (step_within x w h.1 ok)
 
--- Behind a block word that is not refused the block fits.
+-- After a block word that is not refused the block fits.
 pub begin_fits : (p : Place) (word : ℕ) (k : Kind) → kind word ≡ k → refuse_kind p.has_content (is_advisory word) k ≡ None → NextFits p word (begin_body k)
 begin_fits p word k e ok = search rules

@@ -8,7 +8,7 @@ use Rattle.hunk_blocks.specs.{Cuts.Cut, Placed.Placed, Values.BlockValue}
 use Rattle.hunk_files.specs.{LoadFile.{TableEntry, HunkValue, LoadFileValue, IsHunk, declared_longs}, LoadText.table}
 use Rattle.hunk_files.specs.{Fault.BeginsWithLoadFile, Hunks.{HunkAt, block_texts}, Tables.{header_text, hunk_texts}}
 use Rattle.hunk_files.specs.{Cuts.load_hunks_cut, InPlace.{BeginsWithHunks, GivesPart, blocks_in, hunks_in}}
-use Rattle.hunk_files.proofs.{BlocksInPlace.{hunk_value, texts_longs}, LoadCuts.load_hunks_cut_is, Peel.are_blocks}
+use Rattle.hunk_files.proofs.{BlocksInPlace.{hunk_value, texts_longs}, LoadCuts.load_hunks_cut_is, OneReading.are_blocks}
 use Rattle.hunk_files.proofs.TableReading.{hunks_follow}
 use Rattle.hunk_blocks.proofs.Lists.{All-append}
 
@@ -29,7 +29,7 @@ pub hunks_in-nil : (bytes : List ℕ) → hunks_in [] bytes ≡ []
 unfolding load_hunks_cut
 hunks_in-nil bytes = refl
 
--- ---- the first hunk, and those behind it
+-- ---- the first hunk, and those after it
 
 abbrev pub hunk_with : TableEntry → List BlockValue → HunkValue
 hunk_with entry blocks = record { entry = entry; blocks = blocks }
@@ -54,10 +54,10 @@ next_hunk_of all entry entries bytes at one b = go b.hunks b.entries_are b.each 
         let here : HunkAt bytes at =
         record { blocks = h.blocks; is = record { blocks = are_blocks b.most (declared_longs h) h.blocks each.0.blocks; order = each.0.order }; rest = rest; text = stand } in
         let size : ℕ = 4 * length (block_texts h.blocks) in
-        let behind : drop (at + size) bytes ≡ rest =
+        let after : drop (at + size) bytes ≡ rest =
         sym (drop-drop size at bytes) ∙ ap (drop size) stand ∙ drop_at (bytes_of (block_texts h.blocks)) rest size (length-bytes_of (block_texts h.blocks)) in
         let left : (end : ℕ) → end ≡ at + size → BeginsWithHunks entries (drop end bytes) =
-        λ end e. record { hunks = hs; entries_are = entries_are; most = b.most; each = each.1; more = b.more; begins = ap (λ (m : ℕ). drop m bytes) e ∙ behind } in
+        λ end e. record { hunks = hs; entries_are = entries_are; most = b.most; each = each.1; more = b.more; begins = ap (λ (m : ℕ). drop m bytes) e ∙ after } in
         record {
           here = here;
           left = left;

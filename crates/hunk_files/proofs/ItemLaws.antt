@@ -10,10 +10,10 @@ use Rattle.hunk_files.specs.ObjectViews.{HunksAt, UnitsAt, hunk_at, hunks_at, un
 use Rattle.hunk_files.specs.{UnitCuts.ends_unit, Units.UnitAt}
 use Rattle.hunk_files.proofs.HunkBlocks.{some_text}
 use Rattle.hunk_files.proofs.ObjectViewLaws.{HunkPassed, hunk_at_is, hunk_passed, hunks_at_are, next_hunk, no_hunk, no_hunk_in, unit_at_is}
-use Rattle.hunk_files.proofs.Taking.{end_of, end_stays}
+use Rattle.hunk_files.proofs.PartsInTurn.{end_of, end_stays}
 use Rattle.hunk_files.proofs.UnitViewLaws.{UnitPassed, hunks_are_here, next_unit, no_unit, unit_ends, unit_hunks, unit_passed}
 
--- the hunks that stand here, and the units behind them
+-- the hunks that stand here, and the units after them
 abbrev pub left_at : List ℕ → ℕ → ℕ → ℕ → ℕ → List ItemValue
 left_at bytes unit units hunks at =
     let here = hunks_at bytes at in
@@ -47,11 +47,11 @@ module _ (bytes : List ℕ) (at units hunks : ℕ) (items : ItemsAt bytes units 
       units_stay : end_of block_texts (hunks_at bytes at) ≡ end_of block_texts (hunks_at bytes (end_of_blocks blocks))
       units_stay = sym (end_stays block_texts (hunks_at bytes at) (hunks_at bytes (end_of_blocks blocks)) (hunk_at bytes at) passed.gives)
 
-      pub behind_hunk : ItemsAt bytes units (hunks + 1) (end_of_blocks blocks)
-      behind_hunk =
+      pub after_hunk : ItemsAt bytes units (hunks + 1) (end_of_blocks blocks)
+      after_hunk =
           let units_from : ℕ → List ObjectHunk → ℕ = λ n hs. n + 4 * length (flat_map block_texts hs) in
           let seen = hunks_at_are bytes items.here.rest items.here.next at items.here.hunks items.here.stand in
-          let left = passed.behind in
+          let left = passed.after in
           let then = hunks_at_are bytes left.rest left.next (end_of_blocks blocks) left.hunks left.stand in
           let size = ap end_of_blocks (are hunk_here) in
           record {
@@ -106,12 +106,12 @@ module _ (bytes : List ℕ) (at units hunks : ℕ) (items : ItemsAt bytes units 
             unit_passed bytes at units_here some (end_of block_texts (hunks_at bytes start))
             (λ unit. unit_ends bytes at unit name start (end_of block_texts (hunks_at bytes start)) (read unit) (hunks_at bytes start) refl refl)
 
-        pub behind_header : ItemsAt bytes (units + 1) 0 start
-        behind_header =
+        pub after_header : ItemsAt bytes (units + 1) 0 start
+        after_header =
             let are = hunks_at_are bytes hunks_of.rest hunks_of.next start hunks_of.hunks hunks_of.stand in
             record {
               here = hunks_of;
-              more = subst (UnitsAt bytes) (ap (λ (hs : List ObjectHunk). start + 4 * length (flat_map block_texts hs)) are) passed_unit.behind;
+              more = subst (UnitsAt bytes) (ap (λ (hs : List ObjectHunk). start + 4 * length (flat_map block_texts hs)) are) passed_unit.after;
               few_units = omega (arith, items.few_units, (read unit_here).1);
               few_hunks = omega arith;
             }

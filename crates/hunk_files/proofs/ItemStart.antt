@@ -13,7 +13,7 @@ use Rattle.hunk_files.specs.ObjectViews.{UnitsAt, units_at}
 use Rattle.hunk_files.proofs.{FileItems.{hunks_own, units_own}, ItemLaws.none_open, LoadRanges.{blocks_of, hunks_stand}}
 use Rattle.hunk_files.proofs.{ObjectViewLaws.hunks_at_are, UnitCutLaws.units_end, UnitViewLaws.{units_at_are, units_at_start}}
 
--- They are the hunks that stand there, and the units behind these.
+-- They are the hunks that stand there, and the units after these.
 pub first_items : (bytes : List ℕ) (at : ℕ) (items : ItemsAt bytes 0 0 at) →
     items_at bytes 0 0 0 0 (record { place = at; value = [] }) ≡ record { place = at; value = hunks_items 0 0 items.here.hunks ++ units_items 0 items.more.units }
 first_items bytes at items =
@@ -65,8 +65,8 @@ module _ (bytes : List ℕ) (whole : AreLoadFile bytes) where
   stand : StandAt IsObjectHunk block_texts bytes at (blocks_of whole.file.value) []
   stand = subst (λ (rest : List ℕ). StandAt IsObjectHunk block_texts bytes at (blocks_of whole.file.value) rest) whole.ends (hunks_stand bytes whole.file)
 
-  none_behind : UnitsAt bytes (at + 4 * length (flat_map block_texts (blocks_of whole.file.value)))
-  none_behind =
+  none_after : UnitsAt bytes (at + 4 * length (flat_map block_texts (blocks_of whole.file.value)))
+  none_after =
       let words = flat_map block_texts (blocks_of whole.file.value) in
       let end : at + 4 * length words ≡ length bytes = omega (arith, ap length stand.text_is, length-drop at bytes, length-append (bytes_of words) [], length-bytes_of words, stand.inside) in
       record {
@@ -81,10 +81,10 @@ module _ (bytes : List ℕ) (whole : AreLoadFile bytes) where
 
   pub load_start : ItemsAt bytes 0 0 at
   load_start =
-      record { here = record { hunks = blocks_of whole.file.value; rest = []; stand = stand; next = refl }; more = none_behind; few_units = omega arith; few_hunks = omega arith }
+      record { here = record { hunks = blocks_of whole.file.value; rest = []; stand = stand; next = refl }; more = none_after; few_units = omega arith; few_hunks = omega arith }
 
   pub load_items_are : items_at bytes 0 0 0 0 (record { place = at; value = [] }) ≡ load_items whole.file.value
-  unfolding load_start none_behind
+  unfolding load_start none_after
   load_items_are = first_items bytes at load_start ∙ ap (λ (xs : List ItemValue). record { place = at; value = xs }) (append-nil (hunks_items 0 0 (blocks_of whole.file.value)))
 
   pub load_items_stand : ItemsStand bytes (load_items whole.file.value)

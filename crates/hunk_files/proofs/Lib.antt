@@ -45,7 +45,7 @@ pub mod OffsetLists
 pub mod OffsetsWithin
 mod Passed
 mod PassedWalks
-pub mod Peel
+pub mod OneReading
 mod RangeLaws
 pub mod ReadFiles
 pub mod Reading
@@ -53,14 +53,14 @@ pub mod Refusals
 pub mod Rising
 pub mod Runs
 pub mod Scan
-pub mod Shapes
+pub mod EntrySteps
 mod SpelledText
 pub mod StripLaws
 pub mod StripSteps
 pub mod StripText
 pub mod Summed
 pub mod TableReading
-pub mod Taking
+pub mod PartsInTurn
 pub mod TextParts
 pub mod TextPlaces
 pub mod UnitCutLaws

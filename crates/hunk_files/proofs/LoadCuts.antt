@@ -1,4 +1,4 @@
--- The text of a load file is cut into its hunks and what stands behind it.
+-- The text of a load file is cut into its hunks and what stands after it.
 use Rattle.std.proofs.Common.{rules, ◌≡◌, ℕ, zero, suc, ◌-◌, ◌<◌, ◌≤◌, true, false, List, [], ◌∷◌, ◌++◌, length, drop, get_or, refl, sym, ap, ap₂, ◌∙◌, append_assoc, arith}
 use Rattle.std.specs.List.{flat_map, AllByRecursion}
 use Rattle.std.proofs.lemmas.List.{length-map, take-append-drop}
@@ -9,7 +9,7 @@ use Rattle.hunk_files.specs.LoadFile.{TableEntry, HunkValue, LoadFileValue, IsTa
 use Rattle.hunk_files.specs.Cuts.{hunk_cut, row_cut, table_cut, load_hunks_cut, load_cut}
 use Rattle.hunk_files.specs.{LoadText.{table, text}, Hunks.block_texts, Tables.{entry_text, header_text, hunk_texts}}
 use Rattle.hunk_files.specs.{Fault.{BeginsWithLoadFile, HasLoadText}, InPlace.BeginsWithTable}
-use Rattle.hunk_files.proofs.{BlockCuts.hunk_cut_is, FileText.entries_fit, Peel.are_blocks, Scan.begun_longs}
+use Rattle.hunk_files.proofs.{BlockCuts.hunk_cut_is, FileText.entries_fit, OneReading.are_blocks, Scan.begun_longs}
 use Rattle.hunk_files.proofs.TableReading.{entries_are, size_is, text_is}
 
 -- ---- the table
@@ -42,7 +42,7 @@ unfolding load_cut
 load_cut_is v rest is =
     let rows = flat_map entry_text (table v) in
     let count : length (table v) ≡ length v = length-map v (λ (h : HunkValue). h.entry) in
-    let numbers : List ℕ → List ℕ = λ behind. 0x3F3 ∷ 0 ∷ length (table v) ∷ 0 ∷ (length (table v) - 1) ∷ behind in
+    let numbers : List ℕ → List ℕ = λ after. 0x3F3 ∷ 0 ∷ length (table v) ∷ 0 ∷ (length (table v) - 1) ∷ after in
     let words : text v ++ rest ≡ numbers (rows ++ (hunk_texts v ++ rest)) =
     ap (λ (l : List ℕ). l ++ rest) (text_is v) ∙ append_assoc (header_text v) (hunk_texts v) rest ∙ ap (λ (l : List ℕ). numbers (l ++ (hunk_texts v ++ rest))) (entries_are (table v)) in
     let next : Cut (List TableEntry) → Cut LoadFileValue = λ t. load_hunks_cut t.value t.rest in
@@ -50,7 +50,7 @@ load_cut_is v rest is =
 
 -- ---- the table, entry by entry
 
--- the next entry, and those behind it
+-- the next entry, and those after it
 pub record NextEntry (hunks : ℕ) (words : List ℕ) : Type 0 where
   pub whole : entry_longs (get_or words 0 0) ≤ length words
   pub some : 1 ≤ length words
@@ -73,8 +73,8 @@ unfolding table_cut
 table_ends words t = refl
 
 module _ (bytes : List ℕ) (file : BeginsWithLoadFile bytes) where
-  behind_five : drop 5 (longs bytes) ≡ flat_map entry_text (table file.value) ++ (hunk_texts file.value ++ longs file.rest)
-  behind_five =
+  after_five : drop 5 (longs bytes) ≡ flat_map entry_text (table file.value) ++ (hunk_texts file.value ++ longs file.rest)
+  after_five =
       ap (drop 5)
       (begun_longs bytes file ∙ ap (λ (l : List ℕ). l ++ longs file.rest) (text_is file.value) ∙ append_assoc (header_text file.value) (hunk_texts file.value) (longs file.rest)
       ∙ ap (λ (l : List ℕ). (0x3F3 ∷ 0 ∷ length (table file.value) ∷ 0 ∷ (length (table file.value) - 1) ∷ l) ++ (hunk_texts file.value ++ longs file.rest)) (entries_are (table file.value)))
@@ -85,12 +85,12 @@ module _ (bytes : List ℕ) (file : BeginsWithLoadFile bytes) where
         value = table file.value;
         is = (sym (size_is bytes file).0, entries_fit (length file.value) file.value file.is_load_file.each);
         more = hunk_texts file.value ++ longs file.rest;
-        begins = behind_five;
+        begins = after_five;
       }
 
   pub table_value : (table_cut (get_or (longs bytes) 2 0) (drop 5 (longs bytes))).value ≡ table file.value
   table_value =
-      ap₂ (λ (n : ℕ) (ws : List ℕ). (table_cut n ws).value) (size_is bytes file).0 behind_five
+      ap₂ (λ (n : ℕ) (ws : List ℕ). (table_cut n ws).value) (size_is bytes file).0 after_five
       ∙ ap (λ (c : Cut (List TableEntry)). c.value) (table_cut_is (table file.value) (hunk_texts file.value ++ longs file.rest) (entries_fit (length file.value) file.value file.is_load_file.each))
 
   pub load_value : (load_cut (longs bytes)).value ≡ file.value

@@ -9,8 +9,8 @@ use Rattle.hunk_files.specs.Lacks.{EndsAt, EndsHunkPart, EndsLoadPart, Within}
 use Rattle.hunk_files.specs.Tables.{header_text}
 use Rattle.hunk_files.proofs.HunkBlocks.{some_text}
 use Rattle.hunk_files.proofs.HunksInPlace.{NextHunk, hunk_gives, hunk_text, hunks_in-nil, hunk_with, next_hunk_of, seen_hunks}
-use Rattle.hunk_files.proofs.PlaceLaws.{ends_behind, ends_map, last_at}
-use Rattle.hunk_files.proofs.Taking.{Taken, all_taken, part_taken, part_within}
+use Rattle.hunk_files.proofs.PlaceLaws.{ends_after, ends_map, last_at}
+use Rattle.hunk_files.proofs.PartsInTurn.{Taken, all_taken, part_taken, part_within}
 
 -- A part of a hunk ends here.
 abbrev pub LacksHunkPart : Placed LoadFileValue → ℕ → Type 0
@@ -35,14 +35,14 @@ module _ {all : Placed LoadFileValue} {entries : List TableEntry} {entry : Table
   part_lacks = part_within hunk_text all (seen_hunks entries bytes at) (seen_hunks left bytes _) done (Some hunk) hunk t refl (gives _ refl) (λ h. EndsHunkPart h.blocks)
 
   module _ (end : ℕ) (e : end ≡ blocks.place + 4 * length (block_texts blocks.value)) where
-    pub hunks_behind : BeginsWithHunks left (drop end bytes)
-    hunks_behind = n.left end (e ∙ ap (λ (p : Placed (List BlockValue)). p.place + 4 * length (block_texts p.value)) are)
+    pub hunks_after : BeginsWithHunks left (drop end bytes)
+    hunks_after = n.left end (e ∙ ap (λ (p : Placed (List BlockValue)). p.place + 4 * length (block_texts p.value)) are)
 
     some_blocks : 1 ≤ length (block_texts blocks.value)
     some_blocks = subst (λ (p : Placed (List BlockValue)). 1 ≤ length (block_texts p.value)) (sym are) (some_text n.here.blocks n.here.is)
 
-    pub some_behind : 4 ≤ end
-    some_behind = omega (arith, e, some_blocks)
+    pub some_after : 4 ≤ end
+    some_after = omega (arith, e, some_blocks)
 
     pub hunk_kept : (h : HunkValue) → h ≡ hunk_with entry blocks.value → Taken hunk_text all (seen_hunks left bytes end) (done ++ h ∷ [])
     hunk_kept h same =
@@ -61,5 +61,5 @@ all_kept {all} {entries} {done} bytes at t none =
 pub load_lacks : (file : LoadFileValue) (all : Placed LoadFileValue) → all.value ≡ file → all.place ≡ 4 * length (header_text file) → (place : ℕ) → LacksHunkPart all place → EndsAt (EndsLoadPart file) 0 place
 load_lacks file all value start place l =
     let whole : EndsAt (EndsLoadPart all.value) 0 place =
-    ends_map (λ n part. inr part) (ends_behind (length (header_text all.value)) (start ∙ ap (λ (v : LoadFileValue). 4 * length (header_text v)) (sym value) ∙ omega arith) l) in
+    ends_map (λ n part. inr part) (ends_after (length (header_text all.value)) (start ∙ ap (λ (v : LoadFileValue). 4 * length (header_text v)) (sym value) ∙ omega arith) l) in
     subst (λ (v : LoadFileValue). EndsAt (EndsLoadPart v) 0 place) value whole

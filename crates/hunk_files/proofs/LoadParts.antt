@@ -1,4 +1,4 @@
--- The part of a load file behind longwords that were read.
+-- The part of a load file after longwords that were read.
 use Rattle.std.proofs.Common.{◌≡◌, ℕ, zero, suc, ◌+◌, ◌-◌, ◌/◌, List, [], ◌∷◌, ◌++◌, length, take, refl, sym, ap, ap₂, subst, ◌∙◌, append-nil, length-append, arith, inl, inr}
 use Rattle.std.proofs.lemmas.List.{length-map, take_all}
 use Rattle.std.proofs.Math.Seq.{take-append_seam}
@@ -46,7 +46,7 @@ read_stepped ws n h = follows (More AtFirst) n h.done tt h.accepted h.run ∙ ap
 
 -- ---- the part
 
--- the next longword is of the header, or of the hunk behind those that are whole
+-- the next longword is of the header, or of the hunk after those that are whole
 abbrev pub part_of : Progress → Part
 part_of (AtBlock o) = parts.Hunk (length o.finished)
 part_of (InBody o word x) = parts.Hunk (length o.finished)
@@ -86,12 +86,12 @@ expects_read before role e =
     (r.0, record { done = e.done; run = r.1.run; accepted = r.1.accepted; all = e.begins })
 
 -- So it does where the file is refused.
-pub refused_behind : (bytes : List ℕ) → IsBytes bytes → (place : ℕ) (reason : Reason) → HasFault bytes place reason → (p : Progress) × HasRead (take (place / 4) (longs bytes)) (More p)
-refused_behind bytes fit place reason (inl h) =
+pub refused_after : (bytes : List ℕ) → IsBytes bytes → (place : ℕ) (reason : Reason) → HasFault bytes place reason → (p : Progress) × HasRead (take (place / 4) (longs bytes)) (More p)
+refused_after bytes fit place reason (inl h) =
     let count : place / 4 ≡ length h.before = omega (arith, h.place) in
     let same : take (place / 4) (longs bytes) ≡ h.before = ap₂ (λ (n : ℕ) (ws : List ℕ). take n ws) count h.split ∙ take-append_seam h.before (h.word ∷ h.after) in
     expects_read (take (place / 4) (longs bytes)) h.role (subst (λ ws. Expects ws h.role) (sym same) h.expects)
-refused_behind bytes fit place reason (inr h) =
+refused_after bytes fit place reason (inr h) =
     let t = h.1 in
     let cut = words_split (labelled t.front.value) (longs bytes) t.front.more t.front.begins in
     go t cut.back cut.front cut.split cut.front_words

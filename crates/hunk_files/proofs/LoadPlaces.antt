@@ -3,7 +3,7 @@ use Rattle.std.proofs.Common.{◌≡◌, ℕ, suc, Bool, true, false, List, [], 
 use Rattle.std.specs.Prelude.{◌↔◌, ◌⊎◌}
 use Rattle.hunk_grammar.specs.declared.position.Position.{Position}
 use Rattle.hunk_grammar.specs.declared.position.Position.TheVariants as positions
-use Rattle.hunk_grammar.specs.Positions.{is_behind_header, is_between_hunks, is_done}
+use Rattle.hunk_grammar.specs.Positions.{is_after_header, is_between_hunks, is_done}
 use Rattle.hunk_files.specs.LoadFile.{LoadFileValue, IsLoadFile}
 use Rattle.hunk_files.specs.LoadText.{table, text}
 use Rattle.hunk_files.specs.Tables.{header_text, hunk_texts}
@@ -12,19 +12,19 @@ use Rattle.hunk_files.specs.Machines.{EndsHunk, load_at}
 use Rattle.hunk_files.specs.ReaderPosition.{opened, position_of}
 use Rattle.hunk_files.specs.WordsRead.{HasRead}
 use Rattle.hunk_files.proofs.{LoadParts.read_stepped, Reading.file_read, TableReading.text_is}
-use Rattle.hunk_files.proofs.OpenedHunks.{behind_count, header_count, opens_between}
+use Rattle.hunk_files.proofs.OpenedHunks.{after_count, header_count, opens_between}
 use Rattle.hunk_files.proofs.TextPlaces.{IsInHunks, header_place, hunk_place, hunks_read, in_header, in_hunk, in_text, opens_here}
 
 not_done : (p : Progress) → is_done (position_of (More p)) ≡ false
 not_done AtFirst = refl
 not_done _ = refl
 
-between_behind : (p : Position) → is_between_hunks p ≡ true → is_behind_header p ≡ true
-between_behind (positions.Body o phase) b = refl
-between_behind positions.Done b = refl
-between_behind _ b = absurd cc
+between_after : (p : Position) → is_between_hunks p ≡ true → is_after_header p ≡ true
+between_after (positions.Body o phase) b = refl
+between_after positions.Done b = refl
+between_after _ b = absurd cc
 
--- Behind longwords that were read stands the position of the reader.
+-- After longwords that were read stands the position of the reader.
 pub position_at : (ws : List ℕ) (n : Next) → HasRead ws n → load_at ws ≡ position_of n
 position_at ws n h = sym (read_stepped ws n h)
 
@@ -42,18 +42,18 @@ module _ (v : LoadFileValue) (is : IsLoadFile v) (ws : List ℕ) where
     header_here : (p : Progress) × HasRead ws (More p) × (length (opened p) ≡ 0)
     header_here = header_place ws (in_header v is ws w rest h)
 
-    not_behind : is_behind_header (load_at ws) ≡ true → ⊥
-    not_behind b = let p = header_here in omega (arith, behind_count (More p.0) (ap is_behind_header (sym (position_at ws (More p.0) p.1)) ∙ b), p.2)
+    not_after : is_after_header (load_at ws) ≡ true → ⊥
+    not_after b = let p = header_here in omega (arith, after_count (More p.0) (ap is_after_header (sym (position_at ws (More p.0) p.1)) ∙ b), p.2)
 
   -- it is of a hunk
   module _ (w : ℕ) (front : List ℕ) (d : ws ≡ header_text v ++ front) (i : IsInHunks v front w) where
     hunk_here : (p : Progress) × HasRead ws (More p) × (length (opened p) ≡ suc (length i.before))
     hunk_here = hunk_place ws (length i.before) (in_hunk v is ws w front d i)
 
-    now_behind : is_behind_header (load_at ws) ≡ true
-    now_behind = let p = hunk_here in ap is_behind_header (position_at ws (More p.0) p.1) ∙ go p.0 p.2 (is_behind_header (position_of (More p.0))) refl
+    now_after : is_after_header (load_at ws) ≡ true
+    now_after = let p = hunk_here in ap is_after_header (position_at ws (More p.0) p.1) ∙ go p.0 p.2 (is_after_header (position_of (More p.0))) refl
       where
-        go : (p : Progress) → length (opened p) ≡ suc (length i.before) → (b : Bool) → is_behind_header (position_of (More p)) ≡ b → is_behind_header (position_of (More p)) ≡ true
+        go : (p : Progress) → length (opened p) ≡ suc (length i.before) → (b : Bool) → is_after_header (position_of (More p)) ≡ b → is_after_header (position_of (More p)) ≡ true
         go p count true e = e
         go p count false e = absurd (omega (arith, header_count (More p) e, count))
 
@@ -81,14 +81,14 @@ module _ (v : LoadFileValue) (is : IsLoadFile v) (ws : List ℕ) where
       go (inl r) b = let p = header_here w r.0 r.1 in open_still p.0 p.1 b
       go (inr r) b = let p = hunk_here w r.0 r.1 r.2 in open_still p.0 p.1 b
 
-  pub behind_tells : (more : List ℕ) → text v ≡ ws ++ more → is_behind_header (load_at ws) ≡ true ↔ ((rest : List ℕ) × (ws ≡ header_text v ++ rest))
-  behind_tells [] e = (λ b. (hunk_texts v, all_read e ∙ text_is v), λ r. ap is_behind_header (done_at e))
-  behind_tells (w ∷ more) e = elim (in_text v ws w more e) [
+  pub after_tells : (more : List ℕ) → text v ≡ ws ++ more → is_after_header (load_at ws) ≡ true ↔ ((rest : List ℕ) × (ws ≡ header_text v ++ rest))
+  after_tells [] e = (λ b. (hunk_texts v, all_read e ∙ text_is v), λ r. ap is_after_header (done_at e))
+  after_tells (w ∷ more) e = elim (in_text v ws w more e) [
     | inl r ↦ (
-      λ b. absurd (not_behind w r.0 r.1 b),
+      λ b. absurd (not_after w r.0 r.1 b),
       λ f. absurd (omega (arith, ap length r.1, ap length f.1, length-append ws (w ∷ r.0), length-append (header_text v) f.0)),
     )
-    | inr r ↦ (λ b. (r.0, r.1), λ f. now_behind w r.0 r.1 r.2)
+    | inr r ↦ (λ b. (r.0, r.1), λ f. now_after w r.0 r.1 r.2)
   ]
 
   between_at : EndsHunk v ws → is_between_hunks (load_at ws) ≡ true
@@ -102,7 +102,7 @@ module _ (v : LoadFileValue) (is : IsLoadFile v) (ws : List ℕ) where
   between_tells [] e = (λ b. record { whole = v; ahead = []; hunks_are = sym (append-nil v); text_is = all_read e ∙ text_is v }, between_at)
   between_tells (w ∷ more) e = (
     λ b. elim (in_text v ws w more e) [
-      | inl r ↦ absurd (not_behind w r.0 r.1 (between_behind (load_at ws) b))
+      | inl r ↦ absurd (not_after w r.0 r.1 (between_after (load_at ws) b))
       | inr r ↦ opens w r.0 r.1 r.2 b
     ],
     between_at,

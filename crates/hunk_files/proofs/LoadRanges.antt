@@ -9,7 +9,7 @@ use Rattle.hunk_files.specs.{Fault.BeginsWithLoadFile, Hunks.block_texts}
 use Rattle.hunk_files.specs.LoadFile.{HunkValue, LoadFileValue, TableEntry, IsHunk, declared_longs}
 use Rattle.hunk_files.specs.{LoadText.{header_labelled, text}, ObjectFile.{ObjectHunk, IsObjectHunk}, InPlace.StandAt}
 use Rattle.hunk_files.specs.{Strip.{strip_blocks, strip_file}, Tables.{header_text, hunk_texts}}
-use Rattle.hunk_files.proofs.{Accepted.All-map, Peel.are_blocks}
+use Rattle.hunk_files.proofs.{Accepted.All-map, OneReading.are_blocks}
 use Rattle.hunk_files.proofs.{StripLaws.table_kept, TableReading.{header_inside, header_split, hunks_follow, text_is}}
 
 abbrev pub blocks_of : LoadFileValue → List ObjectHunk

@@ -18,46 +18,46 @@ use Rattle.hunk_grammar.specs.Roles.{Role, refuse, Role as roles}
 use Rattle.hunk_grammar.specs.declared.position.Position.TheVariants as positions
 use Rattle.hunk_grammar.specs.Positions as scan
 use Rattle.hunk_files.specs.{LoadFile.TableEntry, LoadText.{entry_labelled, hunk_labelled, blocks_labelled, table}}
-use Rattle.hunk_files.specs.{Fault.{HasFault, HasLoadText, IsTruncated, load_files}, declared.load.walk.Entry.Entry}
-use Rattle.hunk_files.specs.Entries.{entry_behind, entry_at}
+use Rattle.hunk_files.specs.{Fault.{HasFault, HasLoadText, IsTruncated, load_files}, declared.load.walk.DeclaredHunk.DeclaredHunk}
+use Rattle.hunk_files.specs.Entries.{entry_after, entry_at}
 use Rattle.hunk_files.specs.FileSteps.{HunkSoFar, Progress, AtFirst, AtBlock, InBody, Next, More, Finished, role_of, step_file}
 use Rattle.hunk_files.specs.{ReaderPosition.{open_of, block_phase, position_of, open_longs, opened}, WordsRead.Labelled}
 use Rattle.hunk_files.proofs.FileProgress.{header_so_far, open_so_far}
 use Rattle.hunk_files.proofs.Positions.{Moves, MovesTo, refuse_same, step_position, step_moves}
 use Rattle.hunk_files.proofs.{Scan.{SoFar, load_reader, keeps, truncated_of}}
 
--- the longword behind these entries
-abbrev row_behind : List TableEntry → ℕ
-row_behind es = 5 + length (flat_map entry_labelled es)
+-- the longword after these entries
+abbrev row_past : List TableEntry → ℕ
+row_past es = 5 + length (flat_map entry_labelled es)
 
 -- the longword at which the next entry stands
 abbrev row_of : Progress → ℕ
-row_of p = row_behind (opened p)
+row_of p = row_past (opened p)
 
 -- the entry of the open hunk
-abbrev entry_of : Progress → Entry
+abbrev entry_of : Progress → DeclaredHunk
 entry_of p = record { longs = open_longs p; next = row_of p }
 
 -- What is kept of what was read: nothing where the file is whole.
-abbrev pub kept_of : Next → Option (Position × Entry)
+abbrev pub kept_of : Next → Option (Position × DeclaredHunk)
 kept_of (More p) = Some (position_of (More p), entry_of p)
 kept_of (Finished v) = None
 
-abbrev pub run_of : Option (Position × Entry) → ℕ
+abbrev pub run_of : Option (Position × DeclaredHunk) → ℕ
 run_of (Some k) = scan.run k.0
 run_of None = 0
 
--- behind the longwords that no test looks at
+-- after the longwords that no test looks at
 abbrev pub passed : Position → Position
 passed (positions.Body o (phases.Offset target owed)) = positions.Body o (phases.Offset target owed)
-passed (positions.Body o phase) = scan.onward o (scan.behind o phase) (inside.behind phase)
+passed (positions.Body o phase) = scan.onward o (scan.after o phase) (inside.after phase)
 passed p = p
 
-abbrev pub behind_run : Option (Position × Entry) → Option (Position × Entry)
-behind_run (Some k) = Some (passed k.0, k.1)
-behind_run None = None
+abbrev pub after_run : Option (Position × DeclaredHunk) → Option (Position × DeclaredHunk)
+after_run (Some k) = Some (passed k.0, k.1)
+after_run None = None
 
-same_entry : (e d : Entry) → e.longs ≡ d.longs → e.next ≡ d.next → e ≡ d
+same_entry : (e d : DeclaredHunk) → e.longs ≡ d.longs → e.next ≡ d.next → e ≡ d
 same_entry e d l n = λ i. record { longs = l i; next = n i }
 
 -- ---- where the entry of a hunk stands
@@ -77,30 +77,30 @@ entry_split o =
     )
 
 module _ (ws : List ℕ) (o : HunkSoFar) (h : SoFar (More (AtBlock o)) ws) where
-  behind_length : length (words (header_so_far o.hunks (table o.finished))) ≡ row_behind (table o.finished)
-  behind_length = omega (arith, length-map (header_so_far o.hunks (table o.finished)) (λ (x : Role × ℕ). x.1))
+  after_length : length (words (header_so_far o.hunks (table o.finished))) ≡ row_past (table o.finished)
+  after_length = omega (arith, length-map (header_so_far o.hunks (table o.finished)) (λ (x : Role × ℕ). x.1))
 
   read_split : ws ≡ words (header_so_far o.hunks (table o.finished)) ++ o.entry.word ∷ words (entry_split o).0
   read_split = sym h.2 ∙ ap words (sym h.1.1 ∙ (entry_split o).1) ∙ map-append (λ (x : Role × ℕ). x.1) (header_so_far o.hunks (table o.finished)) ((roles.SizeWord, o.entry.word) ∷ (entry_split o).0)
 
-  row_inside : row_behind (table o.finished) < length ws
+  row_inside : row_past (table o.finished) < length ws
   row_inside = grind (arith, common_steps)
 
-  row_word : get_or ws (row_behind (table o.finished)) 0 ≡ o.entry.word
-  row_word = simp (get_or, row_behind, read_split, get_or_at, header_so_far, entry_split, behind_length)
+  row_word : get_or ws (row_past (table o.finished)) 0 ≡ o.entry.word
+  row_word = simp (get_or, row_past, read_split, get_or_at, header_so_far, entry_split, after_length)
 
-row_after : (es : List TableEntry) (e : TableEntry) → row_behind (es ++ e ∷ []) ≡ row_behind es + entry_longs e.word
+row_after : (es : List TableEntry) (e : TableEntry) → row_past (es ++ e ∷ []) ≡ row_past es + entry_longs e.word
 row_after es e = grind (arith, common_steps)
 
 -- ---- one more longword
 
--- behind these longwords of the input, where the last was read at p
+-- after these longwords of the input, where the last was read at p
 module _ (all : List ℕ) (at : ℕ) (whole : at ≤ length all) (p : Progress) where
   module _ (o : HunkSoFar) (read : SoFar (More (AtBlock o)) (take at all)) where
-    opens_inside : row_behind (table o.finished) ≡ row_of p → row_of p < at
+    opens_inside : row_past (table o.finished) ≡ row_of p → row_of p < at
     opens_inside e = omega (arith, e, row_inside (take at all) o read, length-take-le at all whole)
 
-    opened_entry : row_behind (table o.finished) ≡ row_of p → entry_of (AtBlock o) ≡ entry_behind (get_or all (row_of p) 0) (row_of p)
+    opened_entry : row_past (table o.finished) ≡ row_of p → entry_of (AtBlock o) ≡ entry_after (get_or all (row_of p) 0) (row_of p)
     opened_entry e =
         let word : o.entry.word ≡ get_or all (row_of p) 0 =
         sym (row_word (take at all) o read)
@@ -111,48 +111,48 @@ module _ (all : List ℕ) (at : ℕ) (whole : at ≤ length all) (p : Progress) 
     block_entry : (blocks : List BlockValue) → MovesTo p o blocks →
         (is_between_hunks (positions.Body (open_of o) (block_phase blocks)) ≡ true → row_of p < at)
         × (entry_of (AtBlock o) ≡ entry_at all (positions.Body (open_of o) (block_phase blocks)) (entry_of p))
-    block_entry [] m = let e = ap row_behind m in ((λ b. opens_inside e), opened_entry e)
-    block_entry (b ∷ blocks) m = ((λ e. absurd cc), same_entry _ _ m.0 (ap row_behind m.1))
+    block_entry [] m = let e = ap row_past m in ((λ b. opens_inside e), opened_entry e)
+    block_entry (b ∷ blocks) m = ((λ e. absurd cc), same_entry _ _ m.0 (ap row_past m.1))
 
   -- Where a hunk opens, its entry was read, and is the next of the table.
   entry_now : (q : Progress) → SoFar (More q) (take at all) → Moves p (More q) → (is_between_hunks (position_of (More q)) ≡ true → row_of p < at) × (entry_of q ≡ entry_at all (position_of (More q)) (entry_of p))
   entry_now (AtBlock o) h m = block_entry o h o.blocks m
   entry_now (InBody o word x) h m = search rules
-  entry_now _ h m = ((λ e. absurd cc), same_entry _ _ m.0 (ap row_behind m.1))
+  entry_now _ h m = ((λ e. absurd cc), same_entry _ _ m.0 (ap row_past m.1))
 
 -- ---- runs
 
 block_stays : (p : Progress) (o : HunkSoFar) (blocks : List BlockValue) → MovesTo p o blocks → is_between_hunks (positions.Body (open_of o) (block_phase blocks)) ≡ false → entry_of (AtBlock o) ≡ entry_of p
 block_stays p o [] m b = absurd cc
-block_stays p o (c ∷ blocks) m b = same_entry _ _ m.0 (ap row_behind m.1)
+block_stays p o (c ∷ blocks) m b = same_entry _ _ m.0 (ap row_past m.1)
 
 -- Where no hunk opens, the entry stays.
 stays : (p : Progress) (n : Next) → Moves p n → is_between_hunks (position_of n) ≡ false → kept_of n ≡ Some (position_of n, entry_of p)
 stays p (Finished v) m b = absurd cc
-stays p (More (AtBlock o)) m b = ap (λ (e : Entry). Some (position_of (More (AtBlock o)), e)) (block_stays p o o.blocks m b)
-stays p (More q) m b = ap (λ (e : Entry). Some (position_of (More q), e)) (same_entry _ _ m.0 (ap row_behind m.1))
+stays p (More (AtBlock o)) m b = ap (λ (e : DeclaredHunk). Some (position_of (More (AtBlock o)), e)) (block_stays p o o.blocks m b)
+stays p (More q) m b = ap (λ (e : DeclaredHunk). Some (position_of (More q), e)) (same_entry _ _ m.0 (ap row_past m.1))
 
 -- One longword of a run, of which this number is left, where the open hunk declares this number of longs.
 pub record OneSkipped (p : Position) (declared left w : ℕ) : Type 0 where
   pub passes : refuse (role_at declared p) w ≡ None
   pub stays_open : is_between_hunks (scan.step p w) ≡ false
   pub run_is : scan.run (scan.step p w) ≡ left
-  pub behind_is : passed (scan.step p w) ≡ passed p
+  pub after_is : passed (scan.step p w) ≡ passed p
 
 pub none_left : (n : ℕ) → n - n ≡ 0
 none_left n = omega arith
 
 pub one_skipped : (p : Position) (declared left w : ℕ) → scan.run p ≡ suc left → OneSkipped p declared left w
-one_skipped (positions.Body o (phases.Content all zero)) declared left w e = record { passes = refl; stays_open = refl; run_is = omega (arith, e); behind_is = refl }
-one_skipped (positions.Body o (phases.Content all (suc owed))) declared left w e = record { passes = refl; stays_open = refl; run_is = omega (arith, e); behind_is = refl }
-one_skipped (positions.Body o (phases.Payload zero)) declared left w e = record { passes = refl; stays_open = refl; run_is = omega (arith, e); behind_is = refl }
-one_skipped (positions.Body o (phases.Payload (suc owed))) declared left w e = record { passes = refl; stays_open = refl; run_is = omega (arith, e); behind_is = refl }
-one_skipped (positions.Body o (phases.Symbol zero)) declared left w e = record { passes = refl; stays_open = refl; run_is = omega (arith, e); behind_is = refl }
-one_skipped (positions.Body o (phases.Symbol (suc owed))) declared left w e = record { passes = refl; stays_open = refl; run_is = omega (arith, e); behind_is = refl }
-one_skipped (positions.Body o (phases.ExtFront zero)) declared left w e = record { passes = refl; stays_open = refl; run_is = omega (arith, e); behind_is = refl }
-one_skipped (positions.Body o (phases.ExtFront (suc owed))) declared left w e = record { passes = refl; stays_open = refl; run_is = omega (arith, e); behind_is = refl }
-one_skipped (positions.Body o (phases.ExtRest zero)) declared left w e = record { passes = refl; stays_open = refl; run_is = omega (arith, e); behind_is = refl }
-one_skipped (positions.Body o (phases.ExtRest (suc owed))) declared left w e = record { passes = refl; stays_open = refl; run_is = omega (arith, e); behind_is = refl }
+one_skipped (positions.Body o (phases.Content all zero)) declared left w e = record { passes = refl; stays_open = refl; run_is = omega (arith, e); after_is = refl }
+one_skipped (positions.Body o (phases.Content all (suc owed))) declared left w e = record { passes = refl; stays_open = refl; run_is = omega (arith, e); after_is = refl }
+one_skipped (positions.Body o (phases.Payload zero)) declared left w e = record { passes = refl; stays_open = refl; run_is = omega (arith, e); after_is = refl }
+one_skipped (positions.Body o (phases.Payload (suc owed))) declared left w e = record { passes = refl; stays_open = refl; run_is = omega (arith, e); after_is = refl }
+one_skipped (positions.Body o (phases.Symbol zero)) declared left w e = record { passes = refl; stays_open = refl; run_is = omega (arith, e); after_is = refl }
+one_skipped (positions.Body o (phases.Symbol (suc owed))) declared left w e = record { passes = refl; stays_open = refl; run_is = omega (arith, e); after_is = refl }
+one_skipped (positions.Body o (phases.ExtFront zero)) declared left w e = record { passes = refl; stays_open = refl; run_is = omega (arith, e); after_is = refl }
+one_skipped (positions.Body o (phases.ExtFront (suc owed))) declared left w e = record { passes = refl; stays_open = refl; run_is = omega (arith, e); after_is = refl }
+one_skipped (positions.Body o (phases.ExtRest zero)) declared left w e = record { passes = refl; stays_open = refl; run_is = omega (arith, e); after_is = refl }
+one_skipped (positions.Body o (phases.ExtRest (suc owed))) declared left w e = record { passes = refl; stays_open = refl; run_is = omega (arith, e); after_is = refl }
 one_skipped _ declared left w e = absurd (omega (arith, e))
 
 -- A run is passed over at once.
@@ -164,11 +164,11 @@ all_passed (positions.Body o (phases.ExtFront owed)) = ap (λ (k : ℕ). scan.on
 all_passed (positions.Body o (phases.ExtRest owed)) = ap (λ (k : ℕ). scan.onward o (scan.at o phases.BlockWord) (inside.owe_rest k)) (none_left owed)
 all_passed _ = refl
 
-runs : HasRuns load_files load_reader keeps kept_of run_of behind_run
+runs : HasRuns load_files load_reader keeps kept_of run_of after_run
 unfolding keeps
 runs = record { one = one; none = none }
   where
-    one : (s : Next) (before : List ℕ) (left w : ℕ) → SoFar s before → run_of (kept_of s) ≡ suc left → OnePasses load_files load_reader keeps kept_of run_of behind_run s left w
+    one : (s : Next) (before : List ℕ) (left w : ℕ) → SoFar s before → run_of (kept_of s) ≡ suc left → OnePasses load_files load_reader keeps kept_of run_of after_run s left w
     one (Finished v) before left w h e = absurd cc
     one (More p) before left w h e =
         let o = one_skipped (position_of (More p)) (open_longs p) left w e in
@@ -180,30 +180,30 @@ runs = record { one = one; none = none }
           expects = refl;
           passes = refuse_same p w h.1.0 ∙ o.passes;
           run_is = ap run_of now ∙ o.run_is;
-          behind_is = ap behind_run now ∙ ap (λ (q : Position). Some (q, entry_of p)) o.behind_is;
+          after_is = ap after_run now ∙ ap (λ (q : Position). Some (q, entry_of p)) o.after_is;
         }
 
-    none : (s : Next) → run_of (kept_of s) ≡ 0 → behind_run (kept_of s) ≡ kept_of s
+    none : (s : Next) → run_of (kept_of s) ≡ 0 → after_run (kept_of s) ≡ kept_of s
     none (Finished v) e = refl
     none (More p) e = ap (λ (q : Position). Some (q, entry_of p)) (sym (all_passed (position_of (More p))) ∙ ap (λ (n : ℕ). scan.pass (position_of (More p)) n) e)
 
 -- ---- the walk
 
-abbrev pub Walks : List ℕ → ℕ → Position → Entry → Type 0
-Walks bytes at position entry = WalksOf load_files load_reader keeps kept_of run_of behind_run (longs bytes) at (Some (position, entry))
+abbrev pub Walks : List ℕ → ℕ → Position → DeclaredHunk → Type 0
+Walks bytes at position entry = WalksOf load_files load_reader keeps kept_of run_of after_run (longs bytes) at (Some (position, entry))
 
 pub start_walk : (bytes : List ℕ) → Walks bytes 0 positions.FirstLong (record { longs = 0; next = 5 })
-start_walk bytes = starts load_files load_reader keeps kept_of run_of behind_run (longs bytes)
+start_walk bytes = starts load_files load_reader keeps kept_of run_of after_run (longs bytes)
 
 -- What was read up to a longword at which the walk stands.
-record IsHere (bytes : List ℕ) (at : ℕ) (position : Position) (entry : Entry) : Type 0 where
+record IsHere (bytes : List ℕ) (at : ℕ) (position : Position) (entry : DeclaredHunk) : Type 0 where
   progress : Progress
   so_far : SoFar (More progress) (take at (longs bytes))
   position_is : position_of (More progress) ≡ position
   entry_is : entry_of progress ≡ entry
   whole : at ≤ length (longs bytes)
 
-is_here : (bytes : List ℕ) (at : ℕ) (position : Position) (entry : Entry) → Walks bytes at position entry → at ≤ length (longs bytes) → IsHere bytes at position entry
+is_here : (bytes : List ℕ) (at : ℕ) (position : Position) (entry : DeclaredHunk) → Walks bytes at position entry → at ≤ length (longs bytes) → IsHere bytes at position entry
 unfolding keeps
 is_here bytes at position entry h l = search rules
 
@@ -211,35 +211,35 @@ not_done : (p : Progress) → position_of (More p) ≡ positions.Done → ⊥
 not_done AtFirst e = cc
 not_done _ e = cc
 
-module _ (bytes : List ℕ) (fit : IsBytes bytes) (at : ℕ) (position : Position) (entry : Entry) (h : Walks bytes at position entry) (l : at < length (longs bytes)) (w : ℕ) (is : w ≡ get_or (longs bytes) at 0) where
+module _ (bytes : List ℕ) (fit : IsBytes bytes) (at : ℕ) (position : Position) (entry : DeclaredHunk) (h : Walks bytes at position entry) (l : at < length (longs bytes)) (w : ℕ) (is : w ≡ get_or (longs bytes) at 0) where
   here : IsHere bytes at position entry
   here = is_here bytes at position entry h (omega (arith, l))
 
-  s : StandsFor load_files load_reader keeps kept_of run_of behind_run (longs bytes) at (Some (position, entry))
+  s : StandsFor load_files load_reader keeps kept_of run_of after_run (longs bytes) at (Some (position, entry))
   unfolding keeps
   s = record { state = More here.progress; so_far = here.so_far; position_is = λ i. Some (here.position_is i, here.entry_is i); whole = here.whole }
 
   same : refuse (role_of here.progress) (get_or (longs bytes) at 0) ≡ refuse (role_at entry.longs position) w
   same =
       refuse_same here.progress (get_or (longs bytes) at 0) here.so_far.1.0
-      ∙ ap₂ (λ (e : Entry) (p : Position). refuse (role_at e.longs p) (get_or (longs bytes) at 0)) here.entry_is here.position_is
+      ∙ ap₂ (λ (e : DeclaredHunk) (p : Position). refuse (role_at e.longs p) (get_or (longs bytes) at 0)) here.entry_is here.position_is
       ∙ ap (refuse (role_at entry.longs position)) (sym is)
 
   -- The longword is refused.
   pub refused : (reason : Reason) → refuse (role_at entry.longs position) w ≡ Some reason → HasFault bytes (4 * at) reason
   unfolding s
   refused reason e =
-      inl (word_refused load_files load_reader keeps kept_of run_of behind_run (longs bytes) (longs_fit bytes fit) at (Some (position, entry)) s l (role_of here.progress) refl reason (same ∙ e))
+      inl (word_refused load_files load_reader keeps kept_of run_of after_run (longs bytes) (longs_fit bytes fit) at (Some (position, entry)) s l (role_of here.progress) refl reason (same ∙ e))
 
-  module _ (behind : Position) (steps : behind ≡ scan.step position w) (ok : refuse (role_at entry.longs position) w ≡ None) where
+  module _ (after : Position) (steps : after ≡ scan.step position w) (ok : refuse (role_at entry.longs position) w ≡ None) where
     next : Next
     next = step_file here.progress (get_or (longs bytes) at 0)
 
     read : SoFar next (take (at + 1) (longs bytes))
     unfolding keeps s next
-    read = word_reads load_files load_reader keeps kept_of run_of behind_run (longs bytes) (longs_fit bytes fit) at (Some (position, entry)) s l (role_of here.progress) refl (same ∙ ok)
+    read = word_reads load_files load_reader keeps kept_of run_of after_run (longs bytes) (longs_fit bytes fit) at (Some (position, entry)) s l (role_of here.progress) refl (same ∙ ok)
 
-    position_is : position_of next ≡ behind
+    position_is : position_of next ≡ after
     unfolding next
     position_is =
         step_position here.progress (get_or (longs bytes) at 0) here.so_far.1.0
@@ -247,7 +247,7 @@ module _ (bytes : List ℕ) (fit : IsBytes bytes) (at : ℕ) (position : Positio
         ∙ sym steps
 
     -- It ends the file.
-    pub ends : behind ≡ positions.Done → HasLoadText bytes (4 * (at + 1))
+    pub ends : after ≡ positions.Done → HasLoadText bytes (4 * (at + 1))
     ends e = go next read (position_is ∙ e)
       where
         go : (n : Next) → SoFar n (take (at + 1) (longs bytes)) → position_of n ≡ positions.Done → HasLoadText bytes (4 * (at + 1))
@@ -263,36 +263,36 @@ module _ (bytes : List ℕ) (fit : IsBytes bytes) (at : ℕ) (position : Positio
               whole = omega (arith, size, x.1);
             }
 
-    -- the entry behind it
-    abbrev Onward : Position → Entry → Type 0
+    -- the entry after it
+    abbrev Onward : Position → DeclaredHunk → Type 0
     Onward p e = (is_between_hunks p ≡ true → e.next < at + 1) × (kept_of next ≡ Some (p, entry_at (longs bytes) p e))
 
-    onward : (behind ≡ positions.Done → ⊥) → Onward behind entry
+    onward : (after ≡ positions.Done → ⊥) → Onward after entry
     unfolding next
-    onward more = subst (Onward behind) here.entry_is (go next read (step_moves here.progress (get_or (longs bytes) at 0)) position_is)
+    onward more = subst (Onward after) here.entry_is (go next read (step_moves here.progress (get_or (longs bytes) at 0)) position_is)
       where
-        go : (n : Next) → SoFar n (take (at + 1) (longs bytes)) → Moves here.progress n → position_of n ≡ behind → (is_between_hunks behind ≡ true → row_of here.progress < at + 1) × (kept_of n ≡ Some (behind, entry_at (longs bytes) behind (entry_of here.progress)))
+        go : (n : Next) → SoFar n (take (at + 1) (longs bytes)) → Moves here.progress n → position_of n ≡ after → (is_between_hunks after ≡ true → row_of here.progress < at + 1) × (kept_of n ≡ Some (after, entry_at (longs bytes) after (entry_of here.progress)))
         go (Finished v) f m e = absurd (more (sym e))
         go (More q) f m e =
             let x = entry_now (longs bytes) (at + 1) (omega (arith, l)) here.progress q f m in
-            ((λ b. x.0 (ap is_between_hunks e ∙ b)), ap₂ (λ (p : Position) (d : Entry). Some (p, d)) e (x.1 ∙ ap (λ (p : Position). entry_at (longs bytes) p (entry_of here.progress)) e))
+            ((λ b. x.0 (ap is_between_hunks e ∙ b)), ap₂ (λ (p : Position) (d : DeclaredHunk). Some (p, d)) e (x.1 ∙ ap (λ (p : Position). entry_at (longs bytes) p (entry_of here.progress)) e))
 
-    -- A hunk opens behind it, and its entry was read.
-    pub opens : (behind ≡ positions.Done → ⊥) → is_between_hunks behind ≡ true → 4 * entry.next + 4 ≤ length bytes
+    -- A hunk opens after it, and its entry was read.
+    pub opens : (after ≡ positions.Done → ⊥) → is_between_hunks after ≡ true → 4 * entry.next + 4 ≤ length bytes
     opens more between = omega (arith, (onward more).0 between, l, length-longs bytes)
 
-    -- The walk goes on behind it and its run.
-    pub passes : (behind ≡ positions.Done → ⊥) → Walks bytes (at + (1 + scan.run behind)) (scan.pass behind (scan.run behind)) (entry_at (longs bytes) behind entry)
+    -- The walk goes on after it and its run.
+    pub passes : (after ≡ positions.Done → ⊥) → Walks bytes (at + (1 + scan.run after)) (scan.pass after (scan.run after)) (entry_at (longs bytes) after entry)
     unfolding s next
     passes more =
-        subst (λ (p : Position). Walks bytes (at + (1 + scan.run behind)) p (entry_at (longs bytes) behind entry)) (sym (all_passed behind))
-        (word_passes load_files load_reader keeps kept_of run_of behind_run (longs bytes) (longs_fit bytes fit) at (Some (position, entry)) s l (role_of here.progress) refl runs (same ∙ ok)
-        (Some (behind, entry_at (longs bytes) behind entry)) (onward more).1)
+        subst (λ (p : Position). Walks bytes (at + (1 + scan.run after)) p (entry_at (longs bytes) after entry)) (sym (all_passed after))
+        (word_passes load_files load_reader keeps kept_of run_of after_run (longs bytes) (longs_fit bytes fit) at (Some (position, entry)) s l (role_of here.progress) refl runs (same ∙ ok)
+        (Some (after, entry_at (longs bytes) after entry)) (onward more).1)
 
 -- ---- the end
 
 -- All longwords were read, and the file goes on.
-pub ends_early : (bytes : List ℕ) (at : ℕ) (position : Position) (entry : Entry) → Walks bytes at position entry → length (longs bytes) ≤ at → HasFault bytes (4 * length (longs bytes)) reasons.Truncated
+pub ends_early : (bytes : List ℕ) (at : ℕ) (position : Position) (entry : DeclaredHunk) → Walks bytes at position entry → length (longs bytes) ≤ at → HasFault bytes (4 * length (longs bytes)) reasons.Truncated
 unfolding keeps
 ends_early bytes at position entry h l = inr (
   refl,

@@ -1,7 +1,7 @@
 -- The machines of positions go along the texts of files.
 use Rattle.std.proofs.Common.{rules, ◌≡◌, ℕ, [], ◌∷◌, ◌++◌, refl, sym, ap, subst, ◌∙◌, Some, None}
-use Rattle.hunk_blocks.specs.Along.{GoesAlong}
-use Rattle.hunk_blocks.proofs.Along.{Forgets, along}
+use Rattle.hunk_blocks.specs.AlongText.{GoesAlong}
+use Rattle.hunk_blocks.proofs.AlongText.{Forgets, along}
 use Rattle.hunk_grammar.specs.{Roles.{Role, refuse}, declared.position.Position.Position}
 use Rattle.hunk_grammar.specs.Positions as load
 use Rattle.hunk_grammar.specs.declared.position.Position.TheVariants as positions

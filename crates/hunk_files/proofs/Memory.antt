@@ -8,7 +8,7 @@ use Rattle.hunk_blocks.specs.BlockSteps.{ForName, ForCode, ForData, Filling, Cou
 use Rattle.hunk_files.specs.Image.{block_content, block_relocations, group_relocations, filled, relocated, add_at}
 use Rattle.hunk_files.specs.OpenSegment.{filling_bytes, bytes_in, pairs_to, pairs_in, bytes_so_far, pairs_so_far, open_pairs, segment_so_far}
 use Rattle.hunk_files.specs.FileSteps.{HunkSoFar}
-use Rattle.hunk_files.proofs.Shapes.{by_shape}
+use Rattle.hunk_files.proofs.EntrySteps.{by_shape}
 use Rattle.hunk_blocks.proofs.Lists.{map-more, flat_map-more}
 use Rattle.std.proofs.lemmas.List.Sums.{fold-append}
 

@@ -13,18 +13,18 @@ use Rattle.hunk_blocks.proofs.BlockOutcome.{Inner, block_is, steps_inside, begin
 use Rattle.hunk_blocks.proofs.Lists.{All-more, flat_map-more, map-more, more_owed, passed_true}
 use Rattle.hunk_files.specs.LoadFile.{standing, AreInOrder}
 use Rattle.hunk_files.specs.ObjectFile.{ObjectHunk, UnitValue, ObjectFileValue, IsObjectFile, IsObjectHunk, IsUnit, unit_word, unit_header, unit_text, object_text}
-use Rattle.hunk_files.specs.ObjectFault.{WordPlace, BeforeUnits, BetweenHunks, InHunk, ObjectRole, WordAt, UnitCount, UnitName, Within, has_content, behind_block, refuse_unit, refuse_object_word, refuse_object, objects}
+use Rattle.hunk_files.specs.ObjectFault.{WordPlace, BeforeUnits, BetweenHunks, InHunk, ObjectRole, WordAt, UnitCount, UnitName, Within, has_content, after_block, refuse_unit, refuse_object_word, refuse_object, objects}
 use Rattle.hunk_grammar.specs.Standings.{BlockStanding, Beside, Content, Relocating, Ending, is_content, is_ending, refuse_standing, standing_of_kind, first_of}
-use Rattle.hunk_files.proofs.HunkFaults.{place_behind, opened}
+use Rattle.hunk_files.proofs.HunkFaults.{place_past, opened}
 use Rattle.hunk_files.proofs.HunkOrder.{Leads, first_both, leads_one, leads_more, leads_end, end_stands, standing_is}
 use Rattle.hunk_files.proofs.FileText.{standings}
-use Rattle.hunk_files.proofs.OneObjectFault.{ObjectState, AtWord, AtCount, InName, InBlock, place_next, in_block, behind_name, reader}
+use Rattle.hunk_files.proofs.OneObjectFault.{ObjectState, AtWord, AtCount, InName, InBlock, place_next, in_block, after_name, reader}
 use Rattle.hunk_files.proofs.ObjectWords.{refuse_place, within_split, word_split}
 use Rattle.hunk_files.proofs.UnitFaults.{place_after, expects_count}
 use Rattle.hunk_files.proofs.UnitReading.{unit}
-use Rattle.hunk_files.proofs.ObjectProgress.{InUnit, BehindUnits, InUnitName, InUnitBlock, CountedAt, Counted, Reached, in_file, open_expects, word_expected, name_expected, standing_goes, inside_open}
+use Rattle.hunk_files.proofs.ObjectProgress.{InUnit, AfterUnits, InUnitName, InUnitBlock, CountedAt, Counted, Reached, in_file, open_expects, word_expected, name_expected, standing_goes, inside_open}
 
--- one longword more behind the blocks
+-- one longword more after the blocks
 read_more : (place : WordPlace) (begun whole : ℕ) (ws tail : List ℕ) (w : ℕ) → InUnit place begun whole ws tail → InUnit place begun whole (ws ++ w ∷ []) (tail ++ w ∷ [])
 read_more place begun whole ws tail w h =
     record {
@@ -44,7 +44,7 @@ read_more place begun whole ws tail w h =
       whole_are = h.whole_are;
     }
 
-units_more : (begun whole : ℕ) (ws tail : List ℕ) (w : ℕ) → BehindUnits begun whole ws tail → BehindUnits begun whole (ws ++ w ∷ []) (tail ++ w ∷ [])
+units_more : (begun whole : ℕ) (ws tail : List ℕ) (w : ℕ) → AfterUnits begun whole ws tail → AfterUnits begun whole (ws ++ w ∷ []) (tail ++ w ∷ [])
 units_more begun whole ws tail w h =
     record {
       units = h.units;
@@ -55,7 +55,7 @@ units_more begun whole ws tail w h =
     }
 
 -- between hunks no block is open
-none_open : (bs : ObjectHunk) → place_behind BetweenHunks bs ≡ BetweenHunks → bs ≡ []
+none_open : (bs : ObjectHunk) → place_past BetweenHunks bs ≡ BetweenHunks → bs ≡ []
 none_open [] e = refl
 none_open (b ∷ bs) e =
     let o = opened BetweenHunks b bs in
@@ -107,13 +107,13 @@ hunk_closed place begun whole ws b h is ok e =
       whole_are = omega (arith, h.whole_are, length-append u.hunks (hunk ∷ []));
     }
 
-place_more : (place : WordPlace) (bs : ObjectHunk) (b : BlockValue) → place_behind place (bs ++ b ∷ []) ≡ behind_block (place_behind place bs) (standing b.body)
+place_more : (place : WordPlace) (bs : ObjectHunk) (b : BlockValue) → place_past place (bs ++ b ∷ []) ≡ after_block (place_past place bs) (standing b.body)
 place_more place [] b = refl
-place_more place (c ∷ bs) b = place_more (behind_block place (standing c.body)) bs b
+place_more place (c ∷ bs) b = place_more (after_block place (standing c.body)) bs b
 
 -- a block is whole, and its hunk goes on
 block_closed : (place : WordPlace) (begun whole : ℕ) (ws : List ℕ) (b : BlockValue) → InUnit place begun whole ws (block_text b) → IsBlock b → refuse_standing (has_content place) (standing b.body) ≡ None → is_ending (standing b.body) ≡ false →
-    InUnit (behind_block place (standing b.body)) begun whole ws []
+    InUnit (after_block place (standing b.body)) begun whole ws []
 block_closed place begun whole ws b h is ok e =
     let has : Bool = has_content place in
     record {
@@ -126,7 +126,7 @@ block_closed place begun whole ws b h is ok e =
       leads =
           subst (λ (ss : List BlockStanding). Leads false ss (has || is_content (standing b.body))) (sym (map-more (λ c. standing c.body) h.blocks b))
           (leads_more false has (has || is_content (standing b.body)) (standings h.blocks) (standing b.body ∷ []) h.leads (leads_one has (standing b.body) ok e));
-      place_is = place_more BetweenHunks h.blocks b ∙ ap (λ (p : WordPlace). behind_block p (standing b.body)) h.place_is;
+      place_is = place_more BetweenHunks h.blocks b ∙ ap (λ (p : WordPlace). after_block p (standing b.body)) h.place_is;
       words_are =
           h.words_are
           ∙ ap (λ ys. object_text h.units ++ (unit_text h.unit_open ++ ys)) (sym (flat_map-more block_text h.blocks b) ∙ sym (append-nil (flat_map block_text (h.blocks ++ b ∷ []))));
@@ -134,17 +134,17 @@ block_closed place begun whole ws b h is ok e =
       whole_are = h.whole_are;
     }
 
--- Behind a whole block the next block word is expected.
+-- After a whole block the next block word is expected.
 closed : (place : WordPlace) (begun whole : ℕ) (ws : List ℕ) (b : BlockValue) → InUnit place begun whole ws (block_text b) → IsBlock b → refuse_standing (has_content place) (standing b.body) ≡ None → Reached (AtWord (place_next place (standing b.body))) begun whole ws
 closed place begun whole ws b h is ok = go (standing b.body) refl
   where
     go : (s : BlockStanding) → standing b.body ≡ s → Reached (AtWord (place_next place s)) begun whole ws
     go Ending e = hunk_closed place begun whole ws b h is ok (ap is_ending e)
-    go Beside e = subst (λ (s : BlockStanding). InUnit (behind_block place s) begun whole ws []) e (block_closed place begun whole ws b h is ok (ap is_ending e))
-    go Content e = subst (λ (s : BlockStanding). InUnit (behind_block place s) begun whole ws []) e (block_closed place begun whole ws b h is ok (ap is_ending e))
-    go Relocating e = subst (λ (s : BlockStanding). InUnit (behind_block place s) begun whole ws []) e (block_closed place begun whole ws b h is ok (ap is_ending e))
+    go Beside e = subst (λ (s : BlockStanding). InUnit (after_block place s) begun whole ws []) e (block_closed place begun whole ws b h is ok (ap is_ending e))
+    go Content e = subst (λ (s : BlockStanding). InUnit (after_block place s) begun whole ws []) e (block_closed place begun whole ws b h is ok (ap is_ending e))
+    go Relocating e = subst (λ (s : BlockStanding). InUnit (after_block place s) begun whole ws []) e (block_closed place begun whole ws b h is ok (ap is_ending e))
 
--- A block word and what was read behind it.
+-- A block word and what was read after it.
 in_block_so_far : (place : WordPlace) (begun whole : ℕ) (ws tail : List ℕ) (w : ℕ) (n : BlockNext) → InUnit place begun whole ws tail → Inner modes.Object n w tail → refuse_place place (standing_of_kind (kind w)) ≡ None →
     Reached (in_block (place_next place (standing_of_kind (kind w))) n) begun whole ws
 in_block_so_far place begun whole ws tail w (Open x) h i ok = record { place = place; word = w; tail = tail; in_unit = h; inner = i; stands = ok; next_is = refl }
@@ -157,7 +157,7 @@ in_block_so_far place begun whole ws tail w (Whole b) h i ok =
 -- ---- each longword that is not refused
 
 -- a unit begins
-unit_begins : (place : WordPlace) (begun whole : ℕ) (ws : List ℕ) (w : ℕ) → CountedAt place begun whole ws → w ≡ unit_word → refuse_unit place ≡ None → BehindUnits (suc begun) 0 (ws ++ w ∷ []) (unit_word ∷ [])
+unit_begins : (place : WordPlace) (begun whole : ℕ) (ws : List ℕ) (w : ℕ) → CountedAt place begun whole ws → w ≡ unit_word → refuse_unit place ≡ None → AfterUnits (suc begun) 0 (ws ++ w ∷ []) (unit_word ∷ [])
 unit_begins BeforeUnits begun whole ws w h e ok =
     record { units = []; are_units = tt; words_are = ap (λ ys. ys ++ w ∷ []) h.0 ∙ ap (λ (v : ℕ). v ∷ []) e; begun_are = ap suc h.1; none_whole = refl }
 unit_begins BetweenHunks begun whole ws w h e ok =
@@ -189,8 +189,8 @@ word_goes_on place begun whole ws w h l ok = go (eqb w unit_word) refl (sym (wor
     go true e pass = unit_begins place begun whole ws w h (eqb-true w unit_word e) pass
     go false e pass = let both = first_both (refuse_alone_word modes.Object w) (refuse_place place (standing_of_kind (kind w))) pass in block_begins place begun whole ws w h l both.0 both.1
 
--- behind the last longword of a name
-named : (begun whole : ℕ) (ws name : List ℕ) (count : ℕ) → BehindUnits begun whole ws (unit_word ∷ count ∷ name) → IsPayload (2 ^ 24) name → count ≡ length name → InUnit BetweenHunks begun (suc whole) ws []
+-- after the last longword of a name
+named : (begun whole : ℕ) (ws name : List ℕ) (count : ℕ) → AfterUnits begun whole ws (unit_word ∷ count ∷ name) → IsPayload (2 ^ 24) name → count ≡ length name → InUnit BetweenHunks begun (suc whole) ws []
 named begun whole ws name count h fits counts =
     record {
       units = h.units;
@@ -209,25 +209,25 @@ named begun whole ws name count h fits counts =
       whole_are = ap suc h.none_whole;
     }
 
-count_goes_on : (begun whole : ℕ) (ws : List ℕ) (w : ℕ) → BehindUnits begun whole ws (unit_word ∷ []) → w < 2 ^ 24 → Reached (behind_name w) begun whole (ws ++ w ∷ [])
+count_goes_on : (begun whole : ℕ) (ws : List ℕ) (w : ℕ) → AfterUnits begun whole ws (unit_word ∷ []) → w < 2 ^ 24 → Reached (after_name w) begun whole (ws ++ w ∷ [])
 count_goes_on begun whole ws zero h few = named begun whole (ws ++ 0 ∷ []) [] 0 (units_more begun whole ws (unit_word ∷ []) 0 h) (omega arith, tt) refl
 count_goes_on begun whole ws (suc owed) h few =
-    record { name = []; count = suc owed; name_fits = tt; few = few; counts = omega arith; behind = units_more begun whole ws (unit_word ∷ []) (suc owed) h }
+    record { name = []; count = suc owed; name_fits = tt; few = few; counts = omega arith; after = units_more begun whole ws (unit_word ∷ []) (suc owed) h }
 
-name_goes_on : (owed begun whole : ℕ) (ws : List ℕ) (w : ℕ) → InUnitName owed begun whole ws → IsLong w → Reached (behind_name owed) begun whole (ws ++ w ∷ [])
+name_goes_on : (owed begun whole : ℕ) (ws : List ℕ) (w : ℕ) → InUnitName owed begun whole ws → IsLong w → Reached (after_name owed) begun whole (ws ++ w ∷ [])
 name_goes_on owed begun whole ws w h l = go owed h.counts
   where
     fit : AreLongs (h.name ++ w ∷ [])
     fit = All-more IsLong h.name w h.name_fits l
 
-    behind : BehindUnits begun whole (ws ++ w ∷ []) (unit_word ∷ h.count ∷ (h.name ++ w ∷ []))
-    behind = units_more begun whole ws (unit_word ∷ h.count ∷ h.name) w h.behind
+    after : AfterUnits begun whole (ws ++ w ∷ []) (unit_word ∷ h.count ∷ (h.name ++ w ∷ []))
+    after = units_more begun whole ws (unit_word ∷ h.count ∷ h.name) w h.after
 
-    go : (n : ℕ) → h.count ≡ length h.name + suc n → Reached (behind_name n) begun whole (ws ++ w ∷ [])
+    go : (n : ℕ) → h.count ≡ length h.name + suc n → Reached (after_name n) begun whole (ws ++ w ∷ [])
     go zero e =
         let same : h.count ≡ length (h.name ++ w ∷ []) = omega (arith, e, length-append h.name (w ∷ [])) in
-        named begun whole (ws ++ w ∷ []) (h.name ++ w ∷ []) h.count behind (omega (arith, same, h.few), fit) same
-    go (suc n) e = record { name = h.name ++ w ∷ []; count = h.count; name_fits = fit; few = h.few; counts = e ∙ sym (more_owed h.name w (suc n)); behind = behind }
+        named begun whole (ws ++ w ∷ []) (h.name ++ w ∷ []) h.count after (omega (arith, same, h.few), fit) same
+    go (suc n) e = record { name = h.name ++ w ∷ []; count = h.count; name_fits = fit; few = h.few; counts = e ∙ sym (more_owed h.name w (suc n)); after = after }
 
 inside_goes_on : (next : WordPlace) (x : Inside) (begun whole : ℕ) (ws : List ℕ) (w : ℕ) → InUnitBlock next x begun whole ws → IsLong w → refuse_inside (part_of x) w ≡ None → Reached (in_block next (step_inside x w)) begun whole (ws ++ w ∷ [])
 inside_goes_on next x begun whole ws w h l ok =
@@ -253,7 +253,7 @@ counted_expects AtCount begun whole before role h e =
     subst (Expects objects before) same (in_file before (unit_word ∷ []) UnitCount h.units h.are_units h.words_are (expects_count (place_after h.units)))
 counted_expects (InName owed) begun whole before role h e =
     let same : UnitName ≡ role = cc in
-    let b = h.behind in
+    let b = h.after in
     subst (Expects objects before) same (in_file before (unit_word ∷ h.count ∷ h.name) UnitName b.units b.are_units b.words_are (name_expected (place_after b.units) h.count h.name owed h.name_fits h.few h.counts))
 counted_expects (InBlock next x) begun whole before role h e =
     let same : Within (part_of x) ≡ role = cc in

@@ -68,34 +68,34 @@ run_within : (next : WordPlace) (o : Option Phase) → scan.run (scan.within nex
 run_within next (Some phase) = refl
 run_within next None = refl
 
-behind_within : (next : WordPlace) (o : Option Phase) → scan.behind (scan.within next o) ≡ scan.within next (skip_all o)
-behind_within next (Some phase) = refl
-behind_within next None = refl
+after_within : (next : WordPlace) (o : Option Phase) → scan.after (scan.within next o) ≡ scan.within next (skip_all o)
+after_within next (Some phase) = refl
+after_within next None = refl
 
 -- One longword of a run, of which this number is left.
 record OneOff (p : ObjectPosition) (left w : ℕ) : Type 0 where
   run_is : scan.run (scan.step p w) ≡ left
-  behind_is : scan.behind (scan.step p w) ≡ scan.behind p
+  after_is : scan.after (scan.step p w) ≡ scan.after p
 
 one_off : (p : ObjectPosition) (left w : ℕ) → scan.run p ≡ suc left → OneOff p left w
 one_off (positions.Word place) left w e = absurd (omega (arith, e))
 one_off positions.UnitCount left w e = absurd (omega (arith, e))
-one_off (positions.UnitName zero) left w e = record { run_is = omega (arith, e); behind_is = refl }
-one_off (positions.UnitName (suc owed)) left w e = record { run_is = omega (arith, e); behind_is = refl }
+one_off (positions.UnitName zero) left w e = record { run_is = omega (arith, e); after_is = refl }
+one_off (positions.UnitName (suc owed)) left w e = record { run_is = omega (arith, e); after_is = refl }
 one_off (positions.Block next phase) left w e =
     let o = one_skipped phase left w e in
-    record { run_is = run_within next _ ∙ o.run_is; behind_is = behind_within next _ ∙ ap (scan.within next) o.behind_is }
+    record { run_is = run_within next _ ∙ o.run_is; after_is = after_within next _ ∙ ap (scan.within next) o.after_is }
 
-none_off : (p : ObjectPosition) → scan.run p ≡ 0 → p ≡ scan.behind p
+none_off : (p : ObjectPosition) → scan.run p ≡ 0 → p ≡ scan.after p
 none_off (positions.Word place) e = refl
 none_off positions.UnitCount e = refl
 none_off (positions.UnitName owed) e = absurd (omega (arith, e))
 none_off (positions.Block next phase) e = sym (ap (scan.within next) (none_skipped phase e))
 
--- Whatever the longwords of a run are, they lead behind it.
-pub behind_is : (p : ObjectPosition) (ws : List ℕ) → length ws ≡ scan.run p → leads_to scan.step p ws ≡ scan.behind p
-behind_is p [] e = none_off p (sym e)
-behind_is p (w ∷ ws) e = let o = one_off p (length ws) w (sym e) in behind_is (scan.step p w) ws (sym o.run_is) ∙ o.behind_is
+-- Whatever the longwords of a run are, they lead after it.
+pub after_is : (p : ObjectPosition) (ws : List ℕ) → length ws ≡ scan.run p → leads_to scan.step p ws ≡ scan.after p
+after_is p [] e = none_off p (sym e)
+after_is p (w ∷ ws) e = let o = one_off p (length ws) w (sym e) in after_is (scan.step p w) ws (sym o.run_is) ∙ o.after_is
 
 free_phase : (phase : Phase) → is_free_in_object (Within (part_at phase)) ≡ is_some (skip phase)
 free_phase phases.FirstBlock = refl

@@ -14,7 +14,7 @@ use Rattle.hunk_blocks.proofs.OneBlockFault.{part_not_word}
 use Rattle.hunk_files.specs.ObjectFile.{ObjectHunk, UnitValue, ObjectFileValue, IsUnit, unit_word, unit_text, object_text}
 use Rattle.hunk_files.specs.ObjectFault.{WordPlace, BeforeUnits, BetweenHunks, InHunk, ObjectRole, WordAt, UnitCount, UnitName, Within, has_content, object_role_at, blocks_from, units_from, objects}
 use Rattle.hunk_grammar.specs.Standings.{BlockStanding, refuse_standing, standing_of_kind}
-use Rattle.hunk_files.proofs.HunkFaults.{blocks_at, expects_block, expects_word, expects_within, expects_behind, place_behind}
+use Rattle.hunk_files.proofs.HunkFaults.{blocks_at, expects_block, expects_word, expects_within, expects_after, place_past}
 use Rattle.hunk_files.proofs.HunkOrder.{Leads}
 use Rattle.hunk_files.proofs.FileText.{standings}
 use Rattle.hunk_files.proofs.OneObjectFault.{ObjectState, AtWord, AtCount, InName, InBlock, place_next}
@@ -23,7 +23,7 @@ use Rattle.hunk_files.proofs.UnitFaults.{place_after, one_unit, one_is, expects_
 
 -- ---- what is read so far
 
--- Units, a unit with its hunks, the blocks of the open hunk, and what was read behind them: so many units began, and so
+-- Units, a unit with its hunks, the blocks of the open hunk, and what was read after them: so many units began, and so
 -- many parts of the last are whole, its name and hunks.
 pub record InUnit (place : WordPlace) (begun whole : ℕ) (ws tail : List ℕ) : Type 0 where
   pub units : ObjectFileValue
@@ -33,27 +33,27 @@ pub record InUnit (place : WordPlace) (begun whole : ℕ) (ws tail : List ℕ) :
   pub is_unit : IsUnit unit_open
   pub are_blocks : AllByRecursion IsBlock blocks
   pub leads : Leads false (standings blocks) (has_content place)
-  pub place_is : place_behind BetweenHunks blocks ≡ place
+  pub place_is : place_past BetweenHunks blocks ≡ place
   pub words_are : ws ≡ object_text units ++ (unit_text unit_open ++ (flat_map block_text blocks ++ tail))
   pub begun_are : begun ≡ suc (length units)
   pub whole_are : whole ≡ suc (length unit_open.hunks)
 
 -- units, and what was read of the next, whose name is not whole
-pub record BehindUnits (begun whole : ℕ) (ws tail : List ℕ) : Type 0 where
+pub record AfterUnits (begun whole : ℕ) (ws tail : List ℕ) : Type 0 where
   pub units : ObjectFileValue
   pub are_units : AllByRecursion IsUnit units
   pub words_are : ws ≡ object_text units ++ tail
   pub begun_are : begun ≡ suc (length units)
   pub none_whole : whole ≡ 0
 
--- the longwords of a name, and how many are to come behind the next
+-- the longwords of a name, and how many are to come after the next
 pub record InUnitName (owed begun whole : ℕ) (ws : List ℕ) : Type 0 where
   pub name : List ℕ
   pub count : ℕ
   pub name_fits : AreLongs name
   pub few : count < 2 ^ 24
   pub counts : count ≡ length name + suc owed
-  pub behind : BehindUnits begun whole ws (unit_word ∷ count ∷ name)
+  pub after : AfterUnits begun whole ws (unit_word ∷ count ∷ name)
 
 pub record InUnitBlock (next : WordPlace) (x : Inside) (begun whole : ℕ) (ws : List ℕ) : Type 0 where
   pub place : WordPlace
@@ -72,11 +72,11 @@ CountedAt (InHunk has) begun whole ws = InUnit (InHunk has) begun whole ws []
 -- These longwords lead to the state, with so many units begun, and so many parts of the last whole.
 abbrev pub Counted : ObjectState → ℕ → ℕ → List ℕ → Type 0
 Counted (AtWord place) begun whole ws = CountedAt place begun whole ws
-Counted AtCount begun whole ws = BehindUnits begun whole ws (unit_word ∷ [])
+Counted AtCount begun whole ws = AfterUnits begun whole ws (unit_word ∷ [])
 Counted (InName owed) begun whole ws = InUnitName owed begun whole ws
 Counted (InBlock next x) begun whole ws = InUnitBlock next x begun whole ws
 
--- The state is new: behind a unit's word a unit has begun, and between hunks one part more is whole.
+-- The state is new: after a unit's word a unit has begun, and between hunks one part more is whole.
 abbrev pub Reached : ObjectState → ℕ → ℕ → List ℕ → Type 0
 Reached (AtWord BeforeUnits) begun whole ws = CountedAt BeforeUnits begun whole ws
 Reached (AtWord BetweenHunks) begun whole ws = CountedAt BetweenHunks begun (suc whole) ws
@@ -112,7 +112,7 @@ in_open place begun whole ws tail role h e =
       are_units = h.are_units;
       is_unit = h.is_unit;
       split = h.words_are;
-      goes_on = expects_behind h.blocks (has_content place) h.are_blocks h.leads tail role here;
+      goes_on = expects_after h.blocks (has_content place) h.are_blocks h.leads tail role here;
       begun_are = h.begun_are;
       whole_are = h.whole_are;
     }

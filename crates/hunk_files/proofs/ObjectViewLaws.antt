@@ -10,7 +10,7 @@ use Rattle.hunk_files.specs.ObjectFile.{ObjectHunk, UnitValue, IsObjectHunk, uni
 use Rattle.hunk_files.specs.ObjectViews.{HunksAt, hunk_at, hunks_at, unit_at}
 use Rattle.hunk_files.specs.UnitCuts.{ends_unit, hunks_cut, unit_cut}
 use Rattle.hunk_files.specs.{InPlace.{FirstEndsAt, GivesPart, IsFirstPart, StandAt}, Units.UnitAt}
-use Rattle.hunk_files.proofs.{PlaceLaws.{stand_behind, stand_first, stand_passed}, Taking.first_given}
+use Rattle.hunk_files.proofs.{PlaceLaws.{stand_after, stand_first, stand_passed}, PartsInTurn.first_given}
 use Rattle.hunk_files.proofs.UnitCutLaws.{hunk_goes_on, hunk_is, hunks_are, unit_is}
 use Rattle.hunk_files.proofs.UnitReading.{hunk_longs, hunks_longs, unit_longs}
 
@@ -39,9 +39,9 @@ hunks_at_are bytes rest next start hs stand =
     ap (λ (c : Cut (List ObjectHunk)). c.value)
     (ap hunks_cut (ap longs stand.text_is ∙ longs-bytes_of (flat_map block_texts hs) rest (hunks_longs hs stand.each)) ∙ hunks_are hs (longs rest) stand.each next)
 
--- A hunk is given that stands here, and hunks stand behind it.
+-- A hunk is given that stands here, and hunks stand after it.
 pub record HunkPassed (bytes : List ℕ) (start end : ℕ) : Type 0 where
-  pub behind : HunksAt bytes end
+  pub after : HunksAt bytes end
   pub gives : GivesPart block_texts (hunks_at bytes start) (Some (hunk_at bytes start)) (hunks_at bytes end)
 
 module _ (bytes : List ℕ) (start : ℕ) (rest : List ℕ) (next : ends_unit (longs rest) ≡ true) where
@@ -64,10 +64,10 @@ module _ (bytes : List ℕ) (start : ℕ) (rest : List ℕ) (next : ends_unit (l
   hunk_passed_in (h ∷ hs) s goes_on end e =
       let one : HunkAt bytes start = record { blocks = h; is = s.each.0; rest = bytes_of (flat_map block_texts hs) ++ rest; text = stand_first s } in
       let is : h ≡ (hunk_at bytes start).value = sym (hunk_at_is bytes start one) in
-      let left = stand_behind s end (e one) in
+      let left = stand_after s end (e one) in
       let size : end ≡ start + 4 * length (block_texts (hunk_at bytes start).value) = e one ∙ ap (λ (bs : ObjectHunk). start + 4 * length (block_texts bs)) is in
       record {
-        behind = record { hunks = hs; rest = rest; stand = left; next = next };
+        after = record { hunks = hs; rest = rest; stand = left; next = next };
         gives = (
           ap (λ (xs : List ObjectHunk). record { place = start; value = xs })
               (hunks_at_are bytes rest next start (h ∷ hs) s ∙ ap₂ (λ (x : ObjectHunk) (xs : List ObjectHunk). x ∷ xs) is (sym (hunks_at_are bytes rest next end hs left))),

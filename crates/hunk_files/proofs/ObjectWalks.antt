@@ -16,7 +16,7 @@ use Rattle.hunk_files.specs.ObjectSteps.{role_at, within}
 use Rattle.hunk_files.specs.declared.object.position.ObjectPosition.TheVariants as positions
 use Rattle.hunk_files.specs.ObjectSteps as scan
 use Rattle.hunk_files.proofs.{ObjectOutcome.{keeps, leads_there}, ObjectGoesOn.whole_units, ObjectWords.within_split}
-use Rattle.hunk_files.proofs.OneObjectFault.{ObjectState, AtWord, AtCount, InName, InBlock, in_block, behind_name, reader}
+use Rattle.hunk_files.proofs.OneObjectFault.{ObjectState, AtWord, AtCount, InName, InBlock, in_block, after_name, reader}
 use Rattle.hunk_files.proofs.UnitReading.{text_longs}
 
 -- ---- positions
@@ -31,7 +31,7 @@ within_position : (next : WordPlace) (n : BlockNext) → position_of (in_block n
 within_position next (Open x) = refl
 within_position next (Whole b) = refl
 
-name_position : (owed : ℕ) → position_of (behind_name owed) ≡ scan.owe_name owed
+name_position : (owed : ℕ) → position_of (after_name owed) ≡ scan.owe_name owed
 name_position zero = refl
 name_position (suc owed) = refl
 
@@ -83,18 +83,18 @@ run_within : (next : WordPlace) (n : BlockNext) → scan.run (position_of (in_bl
 run_within next (Open x) = refl
 run_within next (Whole b) = refl
 
-behind_within : (next : WordPlace) (n : BlockNext) → scan.behind (position_of (in_block next n)) ≡ within next (skip_all (next_phase n))
-behind_within next (Open x) = refl
-behind_within next (Whole b) = refl
+after_within : (next : WordPlace) (n : BlockNext) → scan.after (position_of (in_block next n)) ≡ within next (skip_all (next_phase n))
+after_within next (Open x) = refl
+after_within next (Whole b) = refl
 
-pub runs : HasRuns objects reader traced position_of scan.run scan.behind
+pub runs : HasRuns objects reader traced position_of scan.run scan.after
 runs = record { one = one; none = none }
   where
-    one : (s : ObjectState) (before : List ℕ) (left w : ℕ) → traced.SoFar s before → scan.run (position_of s) ≡ suc left → OnePasses objects reader traced position_of scan.run scan.behind s left w
+    one : (s : ObjectState) (before : List ℕ) (left w : ℕ) → traced.SoFar s before → scan.run (position_of s) ≡ suc left → OnePasses objects reader traced position_of scan.run scan.after s left w
     one (AtWord place) before left w h e = absurd (omega (arith, e))
     one AtCount before left w h e = absurd (omega (arith, e))
-    one (InName zero) before left w h e = record { role = UnitName; expects = refl; passes = refl; run_is = omega (arith, e); behind_is = refl }
-    one (InName (suc owed)) before left w h e = record { role = UnitName; expects = refl; passes = refl; run_is = omega (arith, e); behind_is = refl }
+    one (InName zero) before left w h e = record { role = UnitName; expects = refl; passes = refl; run_is = omega (arith, e); after_is = refl }
+    one (InName (suc owed)) before left w h e = record { role = UnitName; expects = refl; passes = refl; run_is = omega (arith, e); after_is = refl }
     one (InBlock next x) before left w h e =
         let o = skips_inside x left w e in
         record {
@@ -102,10 +102,10 @@ runs = record { one = one; none = none }
           expects = refl;
           passes = within_split (part_of x) w ∙ o.0;
           run_is = run_within next _ ∙ o.1;
-          behind_is = behind_within next _ ∙ ap (within next) o.2;
+          after_is = after_within next _ ∙ ap (within next) o.2;
         }
 
-    none : (s : ObjectState) → scan.run (position_of s) ≡ 0 → scan.behind (position_of s) ≡ position_of s
+    none : (s : ObjectState) → scan.run (position_of s) ≡ 0 → scan.after (position_of s) ≡ position_of s
     none (AtWord place) e = refl
     none AtCount e = refl
     none (InName owed) e = absurd (omega (arith, e))
@@ -114,15 +114,15 @@ runs = record { one = one; none = none }
 -- ---- the walk
 
 abbrev pub ObjectWalks : List ℕ → ℕ → ObjectPosition → Type 0
-ObjectWalks bytes at p = Walks objects reader traced position_of scan.run scan.behind (longs bytes) at p
+ObjectWalks bytes at p = Walks objects reader traced position_of scan.run scan.after (longs bytes) at p
 
 module _ (bytes : List ℕ) (fit : IsBytes bytes) where
   pub start : ObjectWalks bytes 0 (positions.Word BeforeUnits)
-  start = starts objects reader traced position_of scan.run scan.behind (longs bytes)
+  start = starts objects reader traced position_of scan.run scan.after (longs bytes)
 
   module _ (at : ℕ) (p : ObjectPosition) (h : ObjectWalks bytes at p) (l : at < length (longs bytes)) (w : ℕ) (is : w ≡ get_or (longs bytes) at 0) where
-    s : StandsAt objects reader traced position_of scan.run scan.behind (longs bytes) at p
-    s = stands objects reader traced position_of scan.run scan.behind (longs bytes) at p h (omega (arith, l))
+    s : StandsAt objects reader traced position_of scan.run scan.after (longs bytes) at p
+    s = stands objects reader traced position_of scan.run scan.after (longs bytes) at p h (omega (arith, l))
 
     n : Expected s.state (get_or (longs bytes) at 0)
     n = expected s.state (get_or (longs bytes) at 0)
@@ -132,12 +132,12 @@ module _ (bytes : List ℕ) (fit : IsBytes bytes) where
 
     -- The longword is refused.
     pub refused : (reason : Reason) → refuse_object (role_at p) w ≡ Some reason → HasObjectFault bytes (4 * at) reason
-    refused reason e = inl (word_refused objects reader traced position_of scan.run scan.behind (longs bytes) (longs_fit bytes fit) at p s l n.role n.expects reason (same ∙ e))
+    refused reason e = inl (word_refused objects reader traced position_of scan.run scan.after (longs bytes) (longs_fit bytes fit) at p s l n.role n.expects reason (same ∙ e))
 
-    -- The walk goes on behind it.
-    pub passes : refuse_object (role_at p) w ≡ None → ObjectWalks bytes (at + (1 + scan.run (scan.step p w))) (scan.behind (scan.step p w))
+    -- The walk goes on after it.
+    pub passes : refuse_object (role_at p) w ≡ None → ObjectWalks bytes (at + (1 + scan.run (scan.step p w))) (scan.after (scan.step p w))
     passes e =
-        word_passes objects reader traced position_of scan.run scan.behind (longs bytes) (longs_fit bytes fit) at p s l n.role n.expects runs (same ∙ e) (scan.step p w)
+        word_passes objects reader traced position_of scan.run scan.after (longs bytes) (longs_fit bytes fit) at p s l n.role n.expects runs (same ∙ e) (scan.step p w)
         (step_position s.state (get_or (longs bytes) at 0) ∙ ap (λ (q : ObjectPosition). scan.step q (get_or (longs bytes) at 0)) s.position_is ∙ ap (scan.step p) (sym is))
 
   -- ---- the end
@@ -160,7 +160,7 @@ module _ (bytes : List ℕ) (fit : IsBytes bytes) where
   pub ends : (at : ℕ) (p : ObjectPosition) → ObjectWalks bytes at p → scan.may_end p ≡ true → at ≤ length (longs bytes) → length (longs bytes) ≤ at → length bytes ≡ 4 * length (longs bytes) → AreObjectFile bytes
   unfolding keeps traced
   ends at p h may few many all =
-      let s = stands objects reader traced position_of scan.run scan.behind (longs bytes) at p h few in
+      let s = stands objects reader traced position_of scan.run scan.after (longs bytes) at p h few in
       let read = subst (SoFar s.state) (take_all at (longs bytes) many) s.so_far in
       let here = subst (λ (t : ObjectState). SoFar t (longs bytes)) (between s.state (s.position_is ∙ end_between p may)) read in
       let o = whole_units here.0.0 here.0.1 (longs bytes) here.0.2 in

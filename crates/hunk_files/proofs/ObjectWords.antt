@@ -15,7 +15,7 @@ pub use Rattle.hunk_files.specs.ObjectSteps.{refuse_place}
 pub word_split : (place : WordPlace) (w : ℕ) → refuse_object_word place w ≡ cond (eqb w unit_word) (refuse_unit place) (first_of (refuse_alone_word modes.Object w) (refuse_place place (standing_of_kind (kind w))))
 word_split place w = search rules
 
--- ---- behind a block word
+-- ---- after a block word
 
 -- the types that are accepted have a shape
 ext_type_split : (n : ℕ) → refuse_ext_type n ≡ refuse_shape (ext_shape n)

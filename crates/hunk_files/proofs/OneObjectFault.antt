@@ -14,7 +14,7 @@ use Rattle.hunk_blocks.proofs.Lists.{All-append, passes_then, passes_else}
 use Rattle.hunk_blocks.proofs.OneBlockFault.{PartsPass, body_passes, part_not_word}
 use Rattle.hunk_files.specs.LoadFile.{standing, AreInOrder}
 use Rattle.hunk_files.specs.ObjectFile.{ObjectHunk, UnitValue, ObjectFileValue, IsObjectFile, IsObjectHunk, IsUnit, IsNoObjectFile, unit_word}
-use Rattle.hunk_files.specs.ObjectFault.{WordPlace, BeforeUnits, BetweenHunks, InHunk, ObjectRole, WordAt, UnitCount, UnitName, Within, has_content, behind_block, object_role_at, object_block_labelled, object_blocks_labelled, object_hunk_labelled, unit_header_labelled, unit_labelled, units_labelled, refuse_unit, refuse_object_word, refuse_object, objects, IsTruncatedObject, HasObjectFault}
+use Rattle.hunk_files.specs.ObjectFault.{WordPlace, BeforeUnits, BetweenHunks, InHunk, ObjectRole, WordAt, UnitCount, UnitName, Within, has_content, after_block, object_role_at, object_block_labelled, object_blocks_labelled, object_hunk_labelled, unit_header_labelled, unit_labelled, units_labelled, refuse_unit, refuse_object_word, refuse_object, objects, IsTruncatedObject, HasObjectFault}
 use Rattle.hunk_grammar.specs.Standings.{BlockStanding, Beside, Content, Relocating, Ending, is_content, refuse_standing, standing_of_kind, first_of}
 pub use Rattle.hunk_files.specs.ObjectSteps.{place_next}
 use Rattle.hunk_files.proofs.{HunkOrder.standing_is, FileText.standings}
@@ -41,14 +41,14 @@ abbrev pub in_block : WordPlace → BlockNext → ObjectState
 in_block next (Open x) = InBlock next x
 in_block next (Whole b) = AtWord next
 
-abbrev pub behind_name : ℕ → ObjectState
-behind_name zero = AtWord BetweenHunks
-behind_name (suc owed) = InName owed
+abbrev pub after_name : ℕ → ObjectState
+after_name zero = AtWord BetweenHunks
+after_name (suc owed) = InName owed
 
 abbrev pub step : ObjectState → ℕ → ObjectState
 step (AtWord place) w = cond (eqb w unit_word) AtCount (in_block (place_next place (standing_of_kind (kind w))) (begin_body (kind w)))
-step AtCount w = behind_name w
-step (InName owed) w = behind_name owed
+step AtCount w = after_name w
+step (InName owed) w = after_name owed
 step (InBlock next x) w = in_block next (step_inside x w)
 
 abbrev pub reader : Machine ObjectState ObjectRole
@@ -107,7 +107,7 @@ placed (InHunk has) s h ok = ok
 -- what the order of the blocks says of the first
 pub record Next (place : WordPlace) (s : BlockStanding) (bs : ObjectHunk) : Type 0 where
   pub stands : refuse_standing (has_content place) s ≡ None
-  pub goes : ((bs ≡ []) × (place_next place s ≡ BetweenHunks)) ⊎ ((place_next place s ≡ behind_block place s) × AreInOrder (has_content place || is_content s) (standings bs))
+  pub goes : ((bs ≡ []) × (place_next place s ≡ BetweenHunks)) ⊎ ((place_next place s ≡ after_block place s) × AreInOrder (has_content place || is_content s) (standings bs))
 
 pub order_next : (place : WordPlace) (s : BlockStanding) (bs : ObjectHunk) → AreInOrder (has_content place) (s ∷ standings bs) → Next place s bs
 order_next place s bs h = go (has_content place) s h refl
@@ -140,10 +140,10 @@ blocks_run place (b ∷ bs) h are order =
     let n = order_next place s bs order in
     let one : Runs (AtWord place) (object_block_labelled place b) (AtWord (place_next place s)) = (block_leads place b are.0, block_passes place b are.0 (placed place s h n.stands)) in
     elim n.goes [
-      | inl last ↦ runs_on (AtWord place) (AtWord (place_next place s)) (AtWord BetweenHunks) (object_block_labelled place b) (object_blocks_labelled (behind_block place s) bs) one
-          (subst (λ (cs : ObjectHunk). Runs (AtWord (place_next place s)) (object_blocks_labelled (behind_block place s) cs) (AtWord BetweenHunks)) (sym last.0) (ap (λ (p : WordPlace). AtWord p) last.1, tt))
-      | inr more ↦ runs_on (AtWord place) (AtWord (place_next place s)) (AtWord BetweenHunks) (object_block_labelled place b) (object_blocks_labelled (behind_block place s) bs) one
-          (subst (λ (p : WordPlace). Runs (AtWord p) (object_blocks_labelled (behind_block place s) bs) (AtWord BetweenHunks)) (sym more.0) (blocks_run (behind_block place s) bs tt are.1 more.1))
+      | inl last ↦ runs_on (AtWord place) (AtWord (place_next place s)) (AtWord BetweenHunks) (object_block_labelled place b) (object_blocks_labelled (after_block place s) bs) one
+          (subst (λ (cs : ObjectHunk). Runs (AtWord (place_next place s)) (object_blocks_labelled (after_block place s) cs) (AtWord BetweenHunks)) (sym last.0) (ap (λ (p : WordPlace). AtWord p) last.1, tt))
+      | inr more ↦ runs_on (AtWord place) (AtWord (place_next place s)) (AtWord BetweenHunks) (object_block_labelled place b) (object_blocks_labelled (after_block place s) bs) one
+          (subst (λ (p : WordPlace). Runs (AtWord p) (object_blocks_labelled (after_block place s) bs) (AtWord BetweenHunks)) (sym more.0) (blocks_run (after_block place s) bs tt are.1 more.1))
     ]
 
 hunks_run : (hs : List ObjectHunk) → AllByRecursion IsObjectHunk hs → Runs (AtWord BetweenHunks) (flat_map object_hunk_labelled hs) (AtWord BetweenHunks)
@@ -152,7 +152,7 @@ hunks_run (x ∷ hs) h = runs_on (AtWord BetweenHunks) (AtWord BetweenHunks) (At
 
 -- ---- units
 
-name_runs : (name : List ℕ) → Runs (behind_name (length name)) (map (λ (w : ℕ). (UnitName, w)) name) (AtWord BetweenHunks)
+name_runs : (name : List ℕ) → Runs (after_name (length name)) (map (λ (w : ℕ). (UnitName, w)) name) (AtWord BetweenHunks)
 name_runs [] = (refl, tt)
 name_runs (w ∷ name) = let r = name_runs name in ((refl, r.0), (refl, r.1))
 

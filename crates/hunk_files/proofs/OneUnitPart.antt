@@ -14,7 +14,7 @@ use Rattle.hunk_files.specs.ObjectFile.{ObjectFileValue, ObjectHunk, UnitValue, 
 use Rattle.hunk_files.specs.declared.part.Part.{Part}
 use Rattle.hunk_files.specs.declared.part.Part.TheVariants as parts
 use Rattle.hunk_files.proofs.{FileText.standings, HunkFaults.blocks_words}
-use Rattle.hunk_files.proofs.OneObjectFault.{IsInUnit, ObjectState, AtWord, AtCount, InName, InBlock, behind_name, in_block, order_next, place_next, reader, word_steps}
+use Rattle.hunk_files.proofs.OneObjectFault.{IsInUnit, ObjectState, AtWord, AtCount, InName, InBlock, after_name, in_block, order_next, place_next, reader, word_steps}
 use Rattle.hunk_files.proofs.UnitParts.{State, counter, part_by, reach}
 
 abbrev Numbers : Type 0
@@ -59,7 +59,7 @@ hunks_count n (x ∷ hs) h =
     ∙ hunks_count (n.0, suc n.1) hs h.1
     ∙ ap (λ (k : ℕ). (AtWord BetweenHunks, (n.0, k))) (omega arith)
 
-name_counts : (n : Numbers) (name : List ℕ) → along (reach (behind_name (length name)) n) name ≡ (AtWord BetweenHunks, (n.0, suc n.1))
+name_counts : (n : Numbers) (name : List ℕ) → along (reach (after_name (length name)) n) name ≡ (AtWord BetweenHunks, (n.0, suc n.1))
 name_counts n [] = refl
 name_counts n (w ∷ name) = name_counts n name
 
@@ -70,13 +70,13 @@ unit_counts place n u is =
     ∙ hunks_count (suc n.0, 1) u.hunks is.hunks
     ∙ ap (λ (k : ℕ). (AtWord BetweenHunks, (suc n.0, k))) (omega arith)
 
--- behind whole units
-record BehindWhole (c : State) (begun : ℕ) : Type 0 where
+-- after whole units
+record AfterWhole (c : State) (begun : ℕ) : Type 0 where
   place : WordPlace
   whole : ℕ
   is : c ≡ (AtWord place, (begun, whole))
 
-units_count : (place : WordPlace) (n : Numbers) (us : ObjectFileValue) → AllByRecursion IsUnit us → BehindWhole (along (AtWord place, n) (object_text us)) (n.0 + length us)
+units_count : (place : WordPlace) (n : Numbers) (us : ObjectFileValue) → AllByRecursion IsUnit us → AfterWhole (along (AtWord place, n) (object_text us)) (n.0 + length us)
 units_count place n [] are = record { place = place; whole = n.1; is = ap (λ (k : ℕ). (AtWord place, (k, n.1))) (omega arith) }
 units_count place n (u ∷ us) are =
     let k = suc (length u.hunks) in
@@ -163,8 +163,8 @@ name_front n name k short = go (drop k all) (sym (take-append-drop k all)) (leng
 abbrev PartBy : State → Part
 PartBy c = part_by c.1.0 c.1.1
 
-behind_units : (ws back : List ℕ) (units : ObjectFileValue) → AllByRecursion IsUnit units → ws ≡ object_text units ++ back → (b : BehindWhole (along counter.start (object_text units)) (0 + length units)) × (along counter.start ws ≡ along (AtWord b.place, (0 + length units, b.whole)) back)
-behind_units ws back units are e =
+after_units : (ws back : List ℕ) (units : ObjectFileValue) → AllByRecursion IsUnit units → ws ≡ object_text units ++ back → (b : AfterWhole (along counter.start (object_text units)) (0 + length units)) × (along counter.start ws ≡ along (AtWord b.place, (0 + length units, b.whole)) back)
+after_units ws back units are e =
     let b = units_count BeforeUnits (0, 0) units are in
     (b, ap (along counter.start) e ∙ along-append counter.start (object_text units) back ∙ ap (λ (c : State). along c back) b.is)
 
@@ -174,7 +174,7 @@ header_by ws unit h zero e =
     let empty : ws ≡ [] = h.split ∙ ap₂ (λ (us : ObjectFileValue) (k : ℕ). object_text us ++ take k (unit_header h.name)) none e in
     ap (λ (k : ℕ). parts.Unit k None) (omega (arith, h.unit_is, ap length none)) ∙ ap (λ (xs : List ℕ). PartBy (along counter.start xs)) (sym empty)
 header_by ws unit h (suc k) e =
-    let b = behind_units ws (take (suc k) (unit_header h.name)) h.units h.are_units (h.split ∙ ap (λ (n : ℕ). object_text h.units ++ take n (unit_header h.name)) e) in
+    let b = after_units ws (take (suc k) (unit_header h.name)) h.units h.are_units (h.split ∙ ap (λ (n : ℕ). object_text h.units ++ take n (unit_header h.name)) e) in
     let short : k < suc (length h.name) = omega (arith, h.not_whole, e) in
     ap (λ (n : ℕ). parts.Unit n None) (omega (arith, h.unit_is))
     ∙ ap (λ (n : Numbers). part_by n.0 n.1) (sym (name_front (suc (0 + length h.units), 0) h.name k short))
@@ -183,7 +183,7 @@ header_by ws unit h (suc k) e =
 part_numbers : (ws : List ℕ) (part : Part) → IsUnitPart ws part → part ≡ PartBy (along counter.start ws)
 part_numbers ws (parts.Unit unit None) h = header_by ws unit h h.count refl
 part_numbers ws (parts.Unit unit (Some hunk)) h =
-    let b = behind_units ws (unit_text h.unit_open ++ h.front) h.units h.are_units h.split in
+    let b = after_units ws (unit_text h.unit_open ++ h.front) h.units h.are_units h.split in
     let n : Numbers = (suc (0 + length h.units), suc (length h.unit_open.hunks)) in
     let from : State = (AtWord b.0.place, (0 + length h.units, b.0.whole)) in
     let ends : along from (unit_text h.unit_open ++ h.front) ≡ along (AtWord BetweenHunks, n) h.front =

@@ -2,7 +2,7 @@
 use Rattle.std.proofs.Common.{◌≡◌, ℕ, suc, ◌+◌, ◌≤◌, ◌<◌, Bool, true, false, cond, List, [], ◌∷◌, length, refl, ap, ◌∙◌, arith}
 use Rattle.std.proofs.lemmas.List.{length-append, length-map}
 use Rattle.hunk_blocks.specs.Values.{BlockValue}
-use Rattle.hunk_grammar.specs.{Positions.{is_behind_header, is_between_hunks}, Roles.Role}
+use Rattle.hunk_grammar.specs.{Positions.{is_after_header, is_between_hunks}, Roles.Role}
 use Rattle.hunk_grammar.specs.declared.position.Position.TheVariants as positions
 use Rattle.hunk_files.specs.LoadFile.{TableEntry, HunkValue}
 use Rattle.hunk_files.specs.LoadText.{table}
@@ -11,7 +11,7 @@ use Rattle.hunk_files.specs.ReaderPosition.{block_phase, open_of, opened, positi
 use Rattle.hunk_files.specs.WordsRead.{Labelled}
 use Rattle.hunk_files.proofs.Positions.{Moves, MovesTo, inside_open, step_moves}
 
--- Behind the last hunk one more is counted, as if another opened there.
+-- After the last hunk one more is counted, as if another opened there.
 abbrev pub opened_count : Next → ℕ
 opened_count (More p) = length (opened p)
 opened_count (Finished v) = suc (length v)
@@ -75,14 +75,14 @@ pub opens_count : (hunks : ℕ) (finished : List HunkValue) (ahead : List TableE
 opens_count hunks finished [] = refl
 opens_count hunks finished (e ∷ ahead) = omega (arith, length-append (table finished) (e ∷ []), length-map finished (λ (h : HunkValue). h.entry))
 
--- Behind the header one is open.
-pub behind_count : (n : Next) → is_behind_header (position_of n) ≡ true → 0 < opened_count n
-behind_count (More (AtBlock o)) b = omega (arith, length-append (table o.finished) (o.entry ∷ []))
-behind_count (More (InBody o word x)) b = omega (arith, length-append (table o.finished) (o.entry ∷ []))
-behind_count (Finished v) b = omega arith
-behind_count _ b = absurd cc
+-- After the header one is open.
+pub after_count : (n : Next) → is_after_header (position_of n) ≡ true → 0 < opened_count n
+after_count (More (AtBlock o)) b = omega (arith, length-append (table o.finished) (o.entry ∷ []))
+after_count (More (InBody o word x)) b = omega (arith, length-append (table o.finished) (o.entry ∷ []))
+after_count (Finished v) b = omega arith
+after_count _ b = absurd cc
 
-pub header_count : (n : Next) → is_behind_header (position_of n) ≡ false → opened_count n ≡ 0
+pub header_count : (n : Next) → is_after_header (position_of n) ≡ false → opened_count n ≡ 0
 header_count (More (AtBlock o)) b = absurd cc
 header_count (More (InBody o word x)) b = absurd cc
 header_count (Finished v) b = absurd cc

@@ -10,18 +10,18 @@ module _ (ws : List ℕ) where
 
   groups_on : (hunks declared from at : ℕ) → AreGroups ws hunks declared from at → from ≤ at
   groups_on hunks declared from _ no_group = omega arith
-  groups_on hunks declared from _ (one_group at behind before group) = omega (arith, groups_on hunks declared from at before, group.ends)
+  groups_on hunks declared from _ (one_group at after before group) = omega (arith, groups_on hunks declared from at before, group.ends)
 
   symbols_on : (from at : ℕ) → AreSymbols ws from at → from ≤ at
   symbols_on from _ no_symbol = omega arith
   symbols_on from _ (one_symbol at before some whole) = omega (arith, symbols_on from at before)
 
-  -- A block ends behind its word, and in the bytes.
-  pub block_on : (hunks declared at : ℕ) (has : Bool) (behind : ℕ) (now : Bool) → IsWholeBlock ws hunks declared at has behind now → (at < behind) × (behind ≤ length ws)
-  block_on hunks declared at has _ _ (content behind begun c) = (omega (arith, c.ends), c.whole)
-  block_on hunks declared at has _ _ (counted behind begun c) = (omega (arith, c.ends), c.whole)
-  block_on hunks declared at has _ _ (groups behind begun l) = (omega (arith, groups_on hunks declared (at + 1) l.end l.items, l.ends), l.whole)
-  block_on hunks declared at has _ _ (symbols behind begun l) = (omega (arith, symbols_on (at + 1) l.end l.items, l.ends), l.whole)
+  -- A block ends after its word, and in the bytes.
+  pub block_on : (hunks declared at : ℕ) (has : Bool) (after : ℕ) (now : Bool) → IsWholeBlock ws hunks declared at has after now → (at < after) × (after ≤ length ws)
+  block_on hunks declared at has _ _ (content after begun c) = (omega (arith, c.ends), c.whole)
+  block_on hunks declared at has _ _ (counted after begun c) = (omega (arith, c.ends), c.whole)
+  block_on hunks declared at has _ _ (groups after begun l) = (omega (arith, groups_on hunks declared (at + 1) l.end l.items, l.ends), l.whole)
+  block_on hunks declared at has _ _ (symbols after begun l) = (omega (arith, symbols_on (at + 1) l.end l.items, l.ends), l.whole)
 
   pub passed_on : (declared from : ℕ) (p : Position) (end : ℕ) (q : Position) → IsPassed ws declared from p end q → from ≤ end
   passed_on declared from p _ _ nothing = omega arith

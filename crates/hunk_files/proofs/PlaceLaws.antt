@@ -4,7 +4,7 @@ use Rattle.std.specs.List.{flat_map}
 use Rattle.std.proofs.lemmas.List.{length-drop, drop-drop, drop_at}
 use Rattle.hunk_words.specs.Longs.{bytes_of}
 use Rattle.hunk_words.proofs.LongLaws.{bytes_of-append, length-bytes_of}
-use Rattle.hunk_files.specs.{Lacks.{Behind, EndsAt, IsLast}, InPlace.{FirstEndsAt, StandAt}}
+use Rattle.hunk_files.specs.{Lacks.{After, EndsAt, IsLast}, InPlace.{FirstEndsAt, StandAt}}
 
 -- Where a text stands, there is room for it.
 pub text_inside : (bytes : List ℕ) (start : ℕ) (words rest : List ℕ) → drop start bytes ≡ bytes_of words ++ rest → 1 ≤ length words → start + 4 * length words ≤ length bytes
@@ -19,8 +19,8 @@ last_at text start end place some e p = record { number = length text - 1; ends 
 pub ends_map : {P Q : ℕ → Type 0} {start place : ℕ} → ((n : ℕ) → P n → Q n) → EndsAt P start place → EndsAt Q start place
 ends_map f e = record { number = e.number; ends = f e.number e.ends; place = e.place }
 
-pub ends_behind : {Ends : ℕ → Type 0} {start from place : ℕ} (count : ℕ) → from ≡ start + 4 * count → EndsAt Ends from place → EndsAt (Behind count Ends) start place
-ends_behind count behind e = record { number = count + e.number; ends = record { number = e.number; ends = e.ends; place = refl }; place = omega (arith, behind, e.place) }
+pub ends_after : {Ends : ℕ → Type 0} {start from place : ℕ} (count : ℕ) → from ≡ start + 4 * count → EndsAt Ends from place → EndsAt (After count Ends) start place
+ends_after count after e = record { number = count + e.number; ends = record { number = e.number; ends = e.ends; place = refl }; place = omega (arith, after, e.place) }
 
 -- ---- parts that stand one after the other
 
@@ -29,21 +29,21 @@ module _ {A : Type 0} {Is : A → Type 0} {text : A → List ℕ} {bytes : List 
   pub stand_first : drop start bytes ≡ bytes_of (text x) ++ (bytes_of (flat_map text xs) ++ rest)
   stand_first = s.text_is ∙ ap (λ (l : List ℕ). l ++ rest) (bytes_of-append (text x) (flat_map text xs)) ∙ append_assoc (bytes_of (text x)) (bytes_of (flat_map text xs)) rest
 
-  -- Behind it stand the others.
-  pub stand_behind : (end : ℕ) → end ≡ start + 4 * length (text x) → StandAt Is text bytes end xs rest
-  stand_behind end e =
+  -- After it stand the others.
+  pub stand_after : (end : ℕ) → end ≡ start + 4 * length (text x) → StandAt Is text bytes end xs rest
+  stand_after end e =
       let size : ℕ = 4 * length (text x) in
-      let behind : List ℕ = bytes_of (flat_map text xs) ++ rest in
+      let after : List ℕ = bytes_of (flat_map text xs) ++ rest in
       record {
         each = s.each.1;
-        inside = omega (arith, e, s.inside, ap length stand_first, length-drop start bytes, length-append (bytes_of (text x)) behind, length-bytes_of (text x));
-        text_is = ap (λ (n : ℕ). drop n bytes) e ∙ sym (drop-drop size start bytes) ∙ ap (drop size) stand_first ∙ drop_at (bytes_of (text x)) behind size (length-bytes_of (text x));
+        inside = omega (arith, e, s.inside, ap length stand_first, length-drop start bytes, length-append (bytes_of (text x)) after, length-bytes_of (text x));
+        text_is = ap (λ (n : ℕ). drop n bytes) e ∙ sym (drop-drop size start bytes) ∙ ap (drop size) stand_first ∙ drop_at (bytes_of (text x)) after size (length-bytes_of (text x));
       }
 
 -- Where the first ends, the others stand.
 pub stand_passed : {A : Type 0} {Is : A → Type 0} {text : A → List ℕ} {bytes : List ℕ} {start : ℕ} {rest : List ℕ} (parts : List A) → StandAt Is text bytes start parts rest → (end : ℕ) → FirstEndsAt text start parts end → StandAt Is text bytes end (drop 1 parts) rest
 stand_passed [] s end e = absurd e
-stand_passed (x ∷ xs) s end e = stand_behind s end e
+stand_passed (x ∷ xs) s end e = stand_after s end e
 
 -- The first of them, and the others.
 pub record First {A : Type 0} (Is : A → Type 0) (text : A → List ℕ) (bytes : List ℕ) (start : ℕ) (parts : List A) (rest : List ℕ) : Type 0 where

@@ -62,7 +62,7 @@ values_units number place (u ∷ us) =
 pub findings_placed : (o : ObjectFileValue) → map (λ f. f.value) (placed_findings o) ≡ findings o
 findings_placed o = values_units 0 0 o
 
--- ---- what is left to find is that of the first item or part, and that of those behind it
+-- ---- what is left to find is that of the first item or part, and that of those after it
 
 pub item_first : {T A : Type 0} (view : T → A) (found : ℕ → A → List PlacedFinding) (text : A → List ℕ) (old new : Placed (List A)) (item : T) → GivesFirst view text old (Some item) new →
     in_turn found text old.place old.value ≡ found old.place (view item) ++ in_turn found text new.place new.value

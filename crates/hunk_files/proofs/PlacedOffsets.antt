@@ -68,8 +68,8 @@ module _ (words : List ℕ) where
     place_is = f.place_is;
   }
 
-  behind : (place : ℕ) (xs ys : List ℕ) → From place (xs ++ ys) → From (place + 4 * length xs) ys
-  behind place xs ys f = record {
+  from_next : (place : ℕ) (xs ys : List ℕ) → From place (xs ++ ys) → From (place + 4 * length xs) ys
+  from_next place xs ys f = record {
     before = f.before ++ xs;
     after = f.after;
     split = f.split ∙ ap (λ (ws : List ℕ). f.before ++ ws) (append_assoc xs ys f.after) ∙ sym (append_assoc f.before xs (ys ++ f.after));
@@ -82,7 +82,7 @@ module _ (words : List ℕ) where
   stand_in_turn found text Is each place (x ∷ xs) are f =
       let next = place + 4 * length (text x) in
       both (found place x) (in_turn found text next xs) (each place x are.0 (front place (text x) (flat_map text xs) f))
-      (stand_in_turn found text Is each next xs are.1 (behind place (text x) (flat_map text xs) f))
+      (stand_in_turn found text Is each next xs are.1 (from_next place (text x) (flat_map text xs) f))
 
   stands : (place offset : ℕ) (found : List FindingValue) → Have offset found → From place (offset ∷ []) → All (standing_at place found)
   stands place offset [] has f = tt
@@ -101,18 +101,18 @@ module _ (words : List ℕ) where
   offsets_stand found has place (o ∷ os) f =
       let next = place + 4 * length (o ∷ []) in
       both (standing_at place (found o)) (offsets_findings_at found next os) (stands place o (found o) (has o) (front place (o ∷ []) os f))
-      (offsets_stand found has next os (behind place (o ∷ []) os f))
+      (offsets_stand found has next os (from_next place (o ∷ []) os f))
 
   group_stands : (s : HunkContext) (width place : ℕ) (g : RelocGroup) → From place (group_text g) → All (group_findings_at s width place g)
   group_stands s width place g f =
       offsets_stand (relocation_findings s width g.target) (relocation_has s width g.target) (place + 8) g.offsets
-      (behind place (length g.offsets ∷ g.target ∷ []) g.offsets (subst (From place) (group_text_is g) f))
+      (from_next place (length g.offsets ∷ g.target ∷ []) g.offsets (subst (From place) (group_text_is g) f))
 
   entry_stands : (s : HunkContext) (place : ℕ) (e : ExtEntry) → IsExtEntry e → From place (ext_text e) → All (entry_findings_at s (place + 4 * length (ext_text e)) e)
   entry_stands s place e is f =
       let ends = entry_ends e is in
       let found = outside s (reference_width e) in
-      let from = behind place ends.0 e.offsets (subst (From place) ends.1 f) in
+      let from = from_next place ends.0 e.offsets (subst (From place) ends.1 f) in
       let same : place + 4 * length ends.0 ≡ place + 4 * length (ext_text e) - 4 * length e.offsets = omega (arith, ap (λ (ws : List ℕ). length ws) ends.1, length-append ends.0 e.offsets) in
       subst (λ (n : ℕ). All (offsets_findings_at found n e.offsets)) same (offsets_stand found (outside_has s (reference_width e)) (place + 4 * length ends.0) e.offsets from)
 
@@ -120,7 +120,7 @@ module _ (words : List ℕ) where
   any [] = tt
   any (g ∷ gs) = (tt, any gs)
 
-  -- behind its word
+  -- after its word
   body_stands : (s : HunkContext) (place word : ℕ) (body : BlockBody) → FitsWord word body → From (place + 4) (body_text body) → All (body_findings_at s place word body)
   body_stands s place word (Reloc gs) is f =
       let width = relocation_width (kind word) in
@@ -132,7 +132,7 @@ module _ (words : List ℕ) where
   body_stands s place word _ is f = tt
 
   block_stands : (s : HunkContext) (place : ℕ) (b : BlockValue) → IsBlock b → From place (block_text b) → All (block_findings_at s place b)
-  block_stands s place b is f = body_stands s place b.word b.body is.body (behind place (b.word ∷ []) (body_text b.body) f)
+  block_stands s place b is f = body_stands s place b.word b.body is.body (from_next place (b.word ∷ []) (body_text b.body) f)
 
   hunk_stands : (s : HunkContext) (place : ℕ) (h : ObjectHunk) → IsObjectHunk h → From place (block_texts h) → All (hunk_findings_at s place h)
   hunk_stands s place h is f = stand_in_turn (block_findings_at s) block_text IsBlock (block_stands s) place h is.blocks f
@@ -144,7 +144,7 @@ module _ (words : List ℕ) where
       let next = place + 4 * length (block_texts h) in
       both (hunk_findings_at s place h) (hunks_findings_at unit hunks (number + 1) next hs)
       (hunk_stands s place h are.0 (front place (block_texts h) (flat_map block_texts hs) f))
-      (hunks_stand unit hunks (number + 1) next hs are.1 (behind place (block_texts h) (flat_map block_texts hs) f))
+      (hunks_stand unit hunks (number + 1) next hs are.1 (from_next place (block_texts h) (flat_map block_texts hs) f))
 
   units_stand : (number place : ℕ) (us : List UnitValue) → AllByRecursion IsUnit us → From place (object_text us) → All (units_findings_at number place us)
   units_stand number place [] are f = tt
@@ -152,8 +152,8 @@ module _ (words : List ℕ) where
       let next = place + 4 * length (unit_text u) in
       let here = front place (unit_text u) (object_text us) f in
       both (unit_findings_at number place u) (units_findings_at (number + 1) next us)
-      (hunks_stand number (length u.hunks) 0 (place + 4 * length (unit_header u.name)) u.hunks are.0.hunks (behind place (unit_header u.name) (flat_map block_texts u.hunks) here))
-      (units_stand (number + 1) next us are.1 (behind place (unit_text u) (object_text us) f))
+      (hunks_stand number (length u.hunks) 0 (place + 4 * length (unit_header u.name)) u.hunks are.0.hunks (from_next place (unit_header u.name) (flat_map block_texts u.hunks) here))
+      (units_stand (number + 1) next us are.1 (from_next place (unit_text u) (object_text us) f))
 
 pub findings_stand : (o : ObjectFileValue) → IsObjectFile o → AllByRecursion (StandsInPlace (object_text o)) (placed_findings o)
 findings_stand o is =

@@ -18,7 +18,7 @@ use Rattle.hunk_grammar.specs.Positions as scan
 use Rattle.hunk_files.specs.{LoadFile.{TableEntry, HunkValue, standing}, LoadText.table}
 use Rattle.hunk_files.specs.ReaderPosition.{open_of, block_phase, position_of, open_longs, opened}
 use Rattle.hunk_files.specs.FileSteps.{HunkSoFar, Progress, AtFirst, AtLastHunk, AtSizeWord, AtAttributes, AtBlock, InBody, Next, More, Finished, role_of, place_of, step_file, rows, open_hunk, with_block, close_by, sized_row, after, hunk, block, table_entry}
-use Rattle.hunk_files.proofs.{FileProgress.ProgressFits, HunkProgress.Within, Shapes.by_shape}
+use Rattle.hunk_files.proofs.{FileProgress.ProgressFits, HunkProgress.Within, EntrySteps.by_shape}
 
 -- ---- refusals
 
@@ -52,7 +52,7 @@ sized_position : (hunks : ℕ) (done : List TableEntry) (w owed : ℕ) (b : Bool
 sized_position hunks done w owed true e = refl
 sized_position hunks done w owed false e = rows_position hunks (done ++ table_entry w 0 ∷ []) owed (more_owed done (table_entry w 0) owed ∙ e)
 
--- behind a whole block that stands so
+-- after a whole block that stands so
 abbrev closed : numbers.OpenHunk → BlockStanding → Position
 closed o Content = scan.at (scan.with_content o) phases.BlockWord
 closed o Ending = scan.close o
@@ -78,7 +78,7 @@ after_position o word (Open x) here p e d = ap (scan.onward (open_of o) here) d
 after_position o word (Whole body) here p e d = closed_position o (block word body) (standing body) ∙ e ∙ ap (scan.onward (open_of o) here) d
 
 module _ (o : numbers.OpenHunk) where
-  -- behind a whole payload
+  -- after a whole payload
   abbrev filled : Filling → Position
   filled (Counted c) = scan.at o phases.BlockWord
   filled f = scan.at (scan.with_content o) phases.BlockWord
@@ -97,7 +97,7 @@ module _ (o : numbers.OpenHunk) where
   ext_left here es word done (suc owed) = refl
 
   -- A whole block leaves the hunk as the phase of its last longword tells.
-  inside_left : (x : Inside) (w : ℕ) → left_at o (scan.behind o (phase_of x)) (step_inside x w) ≡ scan.behind o (phase_of x)
+  inside_left : (x : Inside) (w : ℕ) → left_at o (scan.after o (phase_of x)) (step_inside x w) ≡ scan.after o (phase_of x)
   inside_left (AtCount ForName) w = fill_left (Counted ForName) [] w
   inside_left (AtCount c) w = fill_left (Counted c) [] w
   inside_left (AtSize ForCode) w = fill_left (SizedCode (w / 2 ^ 30)) [] (w % 2 ^ 30)

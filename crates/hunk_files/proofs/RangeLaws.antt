@@ -7,7 +7,7 @@ use Rattle.hunk_words.specs.Longs.{bytes_of}
 use Rattle.hunk_words.proofs.LongLaws.{bytes_of-append, bytes_of-nil, length-bytes_of}
 use Rattle.hunk_blocks.specs.Placed.{Placed}
 use Rattle.hunk_files.specs.{Items.{ItemValue, ItemsStand, item_text}, ItemViews.{kept_text, stays}, InPlace.GivesPart}
-use Rattle.hunk_files.proofs.PlaceLaws.{stand_behind, stand_first}
+use Rattle.hunk_files.proofs.PlaceLaws.{stand_after, stand_first}
 
 -- ---- ranges
 
@@ -63,7 +63,7 @@ module _ {T : Type 0} (takes : T → List ℕ → T → Type 0) (more : (a b c :
           taken = next.taken;
           took = next.took;
           ordered = omega (arith, next.ordered, gives.1);
-          stand = stand_behind next.stand after.place gives.1;
+          stand = stand_after next.stand after.place gives.1;
           split =
               ap (λ (xs : List ℕ). next.taken ++ xs)
               (ap (λ (xs : List ℕ). xs ++ rest) (range-text bytes from item.place after.place text _ next.ordered gives.1 (stand_first next.stand))
@@ -81,7 +81,7 @@ module _ {T : Type 0} (takes : T → List ℕ → T → Type 0) (more : (a b c :
           taken = next.taken ++ pending;
           took = more old now new next.taken pending next.took took;
           ordered = omega arith;
-          stand = stand_behind next.stand after.place gives.1;
+          stand = stand_after next.stand after.place gives.1;
           split =
               append_assoc next.taken pending (none ++ rest)
               ∙ ap (λ (xs : List ℕ). next.taken ++ (pending ++ xs)) (ap (λ (xs : List ℕ). xs ++ rest) (range-none bytes after.place) ∙ ap stay (sym e))

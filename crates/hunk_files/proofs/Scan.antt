@@ -153,7 +153,7 @@ abbrev expects : Next → Option Role
 expects (More p) = Some (role_of p)
 expects (Finished v) = None
 
--- nothing is read behind the end
+-- nothing is read after the end
 abbrev next : Next → ℕ → Next
 next (More p) w = step_file p w
 next (Finished v) w = Finished v
@@ -181,7 +181,7 @@ one_front a b xs ys h k e =
 pub one_value : (a b : LoadFileValue) (more : List ℕ) → IsLoadFile a → IsLoadFile b → text a ++ more ≡ text b → (a ≡ b) × (more ≡ [])
 one_value a b more h k e = one_front a b more [] h k (e ∙ sym (append-nil (text b)))
 
--- Two places behind the same longwords are one.
+-- Two places after the same longwords are one.
 pub one_role : (before : List ℕ) (r s : Role) → Expects before r → Expects before s → r ≡ s
 one_role before r s e f =
     let same : Some r ≡ Some s = sym (expected_role load_files load_reader load_reads before r e) ∙ expected_role load_files load_reader load_reads before s f in
@@ -221,7 +221,7 @@ read_front n done h = front load_files load_reader keeps n (words done) (done, h
 -- ---- one of the three holds
 
 -- All longwords were read, and more are expected.
-pub record GoesOnBehind (ws : List ℕ) : Type 0 where
+pub record GoesOnAfter (ws : List ℕ) : Type 0 where
   pub progress : Progress
   pub done : Labelled
   pub reads : Reads (More progress) done
@@ -232,7 +232,7 @@ not_nil [] y ys h = cc
 not_nil (x ∷ xs) y ys h = cc
 
 -- Where all longwords were accepted and none ends a file, the input is too short.
-pub truncated_of : (bytes : List ℕ) → GoesOnBehind (longs bytes) → IsTruncated bytes (4 * length (longs bytes))
+pub truncated_of : (bytes : List ℕ) → GoesOnAfter (longs bytes) → IsTruncated bytes (4 * length (longs bytes))
 truncated_of bytes g =
     let f = front_of g.progress g.done g.reads in
     let more : List ℕ = f.word ∷ words f.more in

@@ -15,7 +15,7 @@ use Rattle.hunk_files.specs.ReaderPosition.{open_table}
 use Rattle.hunk_files.specs.LoadText.{blocks_labelled, hunk_labelled}
 use Rattle.hunk_files.specs.WordsRead.{HasRead, Labelled}
 use Rattle.hunk_files.proofs.{FileProgress.{ProgressFits, header_so_far, open_so_far, read_progress}, FileText.in_place, HunkProgress.Within}
-use Rattle.hunk_files.proofs.{Peel.{blocks_words, placed_words}, Reading.reads, TableReading.{all_words, entries_are}}
+use Rattle.hunk_files.proofs.{OneReading.{blocks_words, placed_words}, Reading.reads, TableReading.{all_words, entries_are}}
 
 -- ---- of a block
 

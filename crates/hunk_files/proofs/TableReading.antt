@@ -9,7 +9,7 @@ use Rattle.hunk_files.specs.LoadFile.{TableEntry, LoadFileValue}
 use Rattle.hunk_files.specs.LoadText.{entry_labelled, header_labelled, hunk_labelled, labelled, table, text}
 use Rattle.hunk_files.specs.{Fault.BeginsWithLoadFile, Tables.{entry_text, header_text, hunk_texts}}
 use Rattle.hunk_grammar.specs.Roles.{Role, Role as roles}
-use Rattle.hunk_files.proofs.{Scan.begun_longs, Peel.hunk_words}
+use Rattle.hunk_files.proofs.{Scan.begun_longs, OneReading.hunk_words}
 
 abbrev pub entries_words : List TableEntry → List ℕ
 entries_words es = words (flat_map entry_labelled es)
@@ -36,7 +36,7 @@ entries_are (e ∷ es) = entries_more e es ∙ ap (λ (l : List ℕ). entry_text
 pub header_size : (v : LoadFileValue) → length (header_text v) ≡ 5 + length (flat_map entry_text (table v))
 header_size v = omega (arith, ap length (entries_are (table v)))
 
--- Behind the header stand the hunks.
+-- After the header stand the hunks.
 pub header_split : (bytes : List ℕ) (file : BeginsWithLoadFile bytes) → bytes ≡ bytes_of (header_text file.value) ++ (bytes_of (hunk_texts file.value) ++ file.rest)
 header_split bytes file =
     let w = header_text file.value in

@@ -23,7 +23,7 @@ all_blocks hs = flat_map (λ (h : LoadHunk). block_texts h.blocks.items) hs
 abbrev pub numbers : ℕ → List ℕ
 numbers count = 0x3F3 ∷ 0 ∷ count ∷ 0 ∷ (count - 1) ∷ []
 
--- what stands behind the first longword of a text
+-- what stands after the first longword of a text
 abbrev pub after_first : LoadFileValue → List ℕ
 after_first v = 0 ∷ length (table v) ∷ 0 ∷ (length (table v) - 1) ∷ (entries_words (table v) ++ hunk_texts v)
 

@@ -22,7 +22,7 @@ use Rattle.hunk_files.proofs.{Scan.front_of, TableReading.{all_words, text_is}}
 
 -- ---- longwords cut in two
 
--- in the first of two lists, or behind it
+-- in the first of two lists, or after it
 cut_two : (xs ys done : List ℕ) (w : ℕ) (more : List ℕ) → xs ++ ys ≡ done ++ w ∷ more → ((rest : List ℕ) × (xs ≡ done ++ w ∷ rest)) ⊎ ((front : List ℕ) × (done ≡ xs ++ front) × (ys ≡ front ++ w ∷ more))
 cut_two [] ys done w more e = inr (done, refl, e)
 cut_two (x ∷ xs) ys [] w more e = let head : x ≡ w = cc in inl (xs, ap (λ y. y ∷ xs) head)
@@ -50,11 +50,11 @@ in_item text [] [] w more e = absurd cc
 in_item text [] (d ∷ done) w more e = absurd cc
 in_item text (x ∷ items) done w more e = elim (cut_two (text x) (flat_map text items) done w more e) [
   | inl r ↦ record { before = []; item = x; after = items; front = done; rest = r.0; items_are = refl; done_is = refl; item_is = r.1 }
-  | inr r ↦ behind r.0 r.1 (in_item text items r.0 w more r.2)
+  | inr r ↦ in_rest r.0 r.1 (in_item text items r.0 w more r.2)
 ]
   where
-    behind : (front : List ℕ) → done ≡ text x ++ front → InItem text items front w → InItem text (x ∷ items) done w
-    behind front e i = record {
+    in_rest : (front : List ℕ) → done ≡ text x ++ front → InItem text items front w → InItem text (x ∷ items) done w
+    in_rest front e i = record {
       before = x ∷ i.before;
       item = i.item;
       after = i.after;
@@ -126,19 +126,19 @@ module _ (before : List ℕ) (hunk : ℕ) (h : IsInLoadHunk before hunk) where
   abbrev here : Next
   here = open_hunk (length file) h.whole (table (h.hunk_open ∷ h.ahead))
 
-  -- and behind it
+  -- and after it
   abbrev with_open : List HunkValue
   with_open = h.whole ++ h.hunk_open ∷ []
 
-  abbrev behind : Next
-  behind = open_hunk (length (with_open ++ h.ahead)) with_open (table h.ahead)
+  abbrev in_rest : Next
+  in_rest = open_hunk (length (with_open ++ h.ahead)) with_open (table h.ahead)
 
   same_file : with_open ++ h.ahead ≡ file
   same_file = append_assoc h.whole (h.hunk_open ∷ []) h.ahead
 
-  read_behind : HasRead (before ++ h.next ∷ h.more) behind
-  read_behind =
-      subst (λ (ws : List ℕ). HasRead ws behind)
+  read_after : HasRead (before ++ h.next ∷ h.more) in_rest
+  read_after =
+      subst (λ (ws : List ℕ). HasRead ws in_rest)
       (ap (λ (v : LoadFileValue). header_text v ++ hunk_texts with_open) same_file
       ∙ ap (λ (ws : List ℕ). header_text file ++ ws)
       (flat_map-more (λ (x : HunkValue). block_texts x.blocks) h.whole h.hunk_open
@@ -150,8 +150,8 @@ module _ (before : List ℕ) (hunk : ℕ) (h : IsInLoadHunk before hunk) where
 
   pub hunk_place : (p : Progress) × HasRead before (More p) × (length (opened p) ≡ suc hunk)
   hunk_place =
-      let r = read_to before h.next h.more behind read_behind in
-      let most = leads_open r.progress behind r.label r.rest (opens_between (length (with_open ++ h.ahead)) with_open (table h.ahead)) r.run in
+      let r = read_to before h.next h.more in_rest read_after in
+      let most = leads_open r.progress in_rest r.label r.rest (opens_between (length (with_open ++ h.ahead)) with_open (table h.ahead)) r.run in
       let open_read = hunks_read h.whole (h.hunk_open ∷ h.ahead) h.is_load_file in
       let front = rest_read (header_text file ++ hunk_texts h.whole) here open_read before (More r.progress) r.read h.front (h.split ∙ sym (append_assoc (header_text file) (hunk_texts h.whole) h.front)) in
       let least = leads_count here (More r.progress) front.0 front.1 in (

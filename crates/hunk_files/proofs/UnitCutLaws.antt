@@ -18,7 +18,7 @@ hunk_is h rest is = hunk_cut_is false h rest is.blocks is.order
 -- ---- items up to their end
 
 module _ {A : Type 0} (Is : A → Type 0) (text : A → List ℕ) (ends : List ℕ → Bool) (one : List ℕ → Cut A) where
-  -- An item is cut off in front of others, behind which they end.
+  -- An item is cut off in front of others, after which they end.
   record AreCut : Type 0 where
     pub some : (x : A) → Is x → 1 ≤ length (text x)
     pub goes_on : (x : A) (rest : List ℕ) → Is x → ends (text x ++ rest) ≡ false
@@ -60,9 +60,9 @@ hunks_are hs rest each stop = all_are IsObjectHunk block_texts ends_unit hunk_cu
 pub unit_is : (u : UnitValue) (rest : List ℕ) → IsUnit u → ends_unit rest ≡ true → unit_cut (unit_text u ++ rest) ≡ cut u rest
 unit_is u rest is stop =
     let hunks : List ℕ = flat_map block_texts u.hunks in
-    let behind : Cut (List ℕ) → Cut UnitValue = λ name. cut_map (λ hs. record { name = name.value; hunks = hs }) (hunks_cut name.rest) in
+    let after : Cut (List ℕ) → Cut UnitValue = λ name. cut_map (λ hs. record { name = name.value; hunks = hs }) (hunks_cut name.rest) in
     ap unit_cut (append_assoc (unit_header u.name) hunks rest)
-    ∙ ap behind (longs_cut_is (length u.name) u.name (hunks ++ rest) refl)
+    ∙ ap after (longs_cut_is (length u.name) u.name (hunks ++ rest) refl)
     ∙ ap (cut_map (λ hs. record { name = u.name; hunks = hs })) (hunks_are u.hunks rest is.hunks stop)
 
 -- In front of units, or of nothing, a unit ends.

@@ -46,13 +46,13 @@ expects_unit place = record { value = one_unit []; is = one_is [] no_name; done 
 pub expects_count : (place : WordPlace) → Expects (units_from place) (unit_word ∷ []) UnitCount
 expects_count place = record { value = one_unit []; is = one_is [] no_name; done = (WordAt place, unit_word) ∷ []; word = 0; more = []; labels = refl; begins = refl }
 
--- ---- behind hunks and units
+-- ---- after hunks and units
 hunk_embeds : (place : WordPlace) (u : UnitValue) → IsUnit u → Embeds (blocks_from BetweenHunks) (units_from place) (unit_labelled place u)
 hunk_embeds place u is =
     record {
       into = λ h. unit u.name (u.hunks ++ h ∷ []) ∷ [];
       role = λ r. r;
-      behind = λ h. [];
+      after = λ h. [];
       is = λ h k. (omega arith, (record { name = is.name; hunks = All-append IsObjectHunk u.hunks (h ∷ []) is.hunks (record { blocks = k.0; order = k.1 }, tt) }, tt));
       labels = λ h k.
           append-nil (unit_labelled place (unit u.name (u.hunks ++ h ∷ [])))
@@ -62,7 +62,7 @@ hunk_embeds place u is =
       refuses = λ r w reason h. h;
     }
 
--- What is expected behind these hunks is expected of the units.
+-- What is expected after these hunks is expected of the units.
 pub expects_hunk : (place : WordPlace) (u : UnitValue) → IsUnit u → (before : List ℕ) (role : ObjectRole) → Expects (blocks_from BetweenHunks) before role → Expects (units_from place) (unit_text u ++ before) role
 unfolding hunk_embeds
 expects_hunk place u is before role e =
@@ -87,7 +87,7 @@ units_embed us are =
     labels [] vs = refl
     labels (x ∷ xs) vs = units-append BeforeUnits x xs vs
 
--- What is expected behind these units is expected of the file.
+-- What is expected after these units is expected of the file.
 pub expects_units : (us : ObjectFileValue) → AllByRecursion IsUnit us → (before : List ℕ) (role : ObjectRole) → Expects (units_from (place_after us)) before role → Expects objects (object_text us ++ before) role
 unfolding units_embed embeds_same
 expects_units us are before role e =

@@ -6,8 +6,8 @@ use Rattle.hunk_files.specs.Hunks.{IsRead, block_texts}
 use Rattle.hunk_files.specs.Lacks.{EndsAt, EndsHunkPart, EndsObjectPart, EndsUnitPart, Within}
 use Rattle.hunk_files.specs.ObjectFile.{ObjectHunk, UnitValue, ObjectFileValue, IsUnit, unit_header, unit_text}
 use Rattle.hunk_files.specs.{ObjectViews.{UnitsAt, hunks_at, unit_at, units_at}, Units.UnitAt}
-use Rattle.hunk_files.proofs.{PlaceLaws.{ends_behind, ends_map, last_at}, ObjectViewLaws.unit_at_is}
-use Rattle.hunk_files.proofs.{Taking.{Taken, all_taken, part_taken, part_within}, UnitReading.{unit, unit_inside}}
+use Rattle.hunk_files.proofs.{PlaceLaws.{ends_after, ends_map, last_at}, ObjectViewLaws.unit_at_is}
+use Rattle.hunk_files.proofs.{PartsInTurn.{Taken, all_taken, part_taken, part_within}, UnitReading.{unit, unit_inside}}
 use Rattle.hunk_files.proofs.UnitViewLaws.{UnitPassed, hunks_are_here, next_unit, no_unit, unit_ends, unit_passed}
 
 -- The name and the hunks of the unit that stands here.
@@ -45,17 +45,17 @@ module _ (bytes : List ℕ) (at : ℕ) (here : UnitsAt bytes at) (more : at < le
 
     -- A part of its hunks is one of the file.
     pub part_of_unit : (place : ℕ) → EndsAt (Within block_texts EndsHunkPart hunks.value) hunks.place place → EndsAt (EndsObjectPart all.value) all.place place
-    part_of_unit place e = part_of_units place (ends_map (λ n part. inr part) (ends_behind (length (unit_header name)) hunks_place e))
+    part_of_unit place e = part_of_units place (ends_map (λ n part. inr part) (ends_after (length (unit_header name)) hunks_place e))
 
     module _ (end : ℕ) (e : end ≡ hunks.place + 4 * length (flat_map block_texts hunks.value)) where
-      pub units_behind : UnitsAt bytes end
-      units_behind = (passed end e).behind
+      pub units_after : UnitsAt bytes end
+      units_after = (passed end e).after
 
       pub nearer : length bytes - end < length bytes - at
       nearer = omega (arith, unit_ends bytes at one name start end (header one) hunks are e, unit_inside bytes at one)
 
-      pub some_behind : 4 ≤ end
-      some_behind = omega (arith, ends_here end e)
+      pub some_after : 4 ≤ end
+      some_after = omega (arith, ends_here end e)
 
       -- It is kept.
       pub unit_kept : Taken unit_text all (units_at bytes end) (done ++ unit name hunks.value ∷ [])

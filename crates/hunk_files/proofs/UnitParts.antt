@@ -1,4 +1,4 @@
--- The part of an object file behind longwords that were read.
+-- The part of an object file after longwords that were read.
 use Rattle.std.proofs.Common.{◌≡◌, ℕ, zero, suc, ◌-◌, ◌/◌, ◌^◌, ◌<◌, ◌≤◌, List, [], ◌∷◌, ◌++◌, length, take, drop, refl, sym, ap, ap₂, subst, ◌∙◌, length-append, arith, Option, Some, None, inl, inr}
 use Rattle.std.specs.Option.{SomeIff}
 use Rattle.std.proofs.lemmas.List.{take_all, take-append-drop}
@@ -23,7 +23,7 @@ use Rattle.hunk_files.specs.declared.object.position.ObjectPosition.{ObjectPosit
 use Rattle.hunk_files.specs.declared.object.position.ObjectPosition.TheVariants as positions
 use Rattle.hunk_files.specs.declared.part.Part.{Part}
 use Rattle.hunk_files.specs.declared.part.Part.TheVariants as parts
-use Rattle.hunk_files.proofs.ObjectProgress.{Counted, Reached, BehindUnits, InOpen, inside_open, word_open, zeros, zeros_fit}
+use Rattle.hunk_files.proofs.ObjectProgress.{Counted, Reached, AfterUnits, InOpen, inside_open, word_open, zeros, zeros_fit}
 use Rattle.hunk_files.proofs.ObjectGoesOn.{counted_expects, counted_goes_on, never}
 use Rattle.hunk_files.proofs.ObjectWalks.{position_of, step_position}
 use Rattle.hunk_files.proofs.OneObjectFault.{ObjectState, AtWord, AtCount, InName, InBlock, reader, object_reads}
@@ -127,7 +127,7 @@ open_part begun (suc whole) ws role h =
       hunk_is = omega (arith, h.whole_are);
     }
 
-header_part : (begun whole : ℕ) (ws tail name : List ℕ) (count : ℕ) → BehindUnits begun whole ws tail → IsPayload (2 ^ 24) name → take (suc count) (unit_header name) ≡ tail → suc count < length (unit_header name) → IsUnitPart ws (part_by begun whole)
+header_part : (begun whole : ℕ) (ws tail name : List ℕ) (count : ℕ) → AfterUnits begun whole ws tail → IsPayload (2 ^ 24) name → take (suc count) (unit_header name) ≡ tail → suc count < length (unit_header name) → IsUnitPart ws (part_by begun whole)
 header_part begun (suc whole) ws tail name count h is e short = absurd (omega (arith, h.none_whole))
 header_part begun zero ws tail name count h is e short =
     record {
@@ -162,7 +162,7 @@ name_part owed begun whole ws h =
     let z = zeros_fit owed in
     let all : List ℕ = h.name ++ 0 ∷ zeros owed in
     let same : length all ≡ h.count = omega (arith, h.counts, z.1, length-append h.name (0 ∷ zeros owed)) in
-    header_part begun whole ws (unit_word ∷ h.count ∷ h.name) all (suc (length h.name)) h.behind
+    header_part begun whole ws (unit_word ∷ h.count ∷ h.name) all (suc (length h.name)) h.after
     (omega (arith, same, h.few), All-append IsLong h.name (0 ∷ zeros owed) h.name_fits (omega arith, z.0))
     (ap₂ (λ (n : ℕ) (xs : List ℕ). unit_word ∷ n ∷ xs) same (take-append_seam h.name (0 ∷ zeros owed)))
     (omega (arith, same, h.counts))

@@ -10,7 +10,7 @@ use Rattle.hunk_files.specs.ObjectFile.{ObjectHunk, UnitValue, ObjectFileValue, 
 use Rattle.hunk_files.specs.{ObjectViews.{HunksAt, UnitsAt, hunks_at, unit_at, units_at, units_of}, UnitCuts.units_cut}
 use Rattle.hunk_files.specs.{InPlace.{FirstEndsAt, GivesPart, IsFirstPart, StandAt}, Units.UnitAt}
 use Rattle.hunk_files.proofs.ObjectViewLaws.{hunks_at_are, unit_at_is}
-use Rattle.hunk_files.proofs.{PlaceLaws.{stand_behind, stand_first, stand_passed}, Taking.first_given}
+use Rattle.hunk_files.proofs.{PlaceLaws.{stand_after, stand_first, stand_passed}, PartsInTurn.first_given}
 use Rattle.hunk_files.proofs.{UnitCutLaws.{units_are, units_end}, UnitReading.{header_inside, header_split, text_longs}}
 
 -- ---- the hunks of a unit that stands here
@@ -58,9 +58,9 @@ units_at_are bytes start us stand =
     ap (λ (c : Cut ObjectFileValue). c.value)
     (ap units_cut (text_longs (drop start bytes) us stand.each (stand.text_is ∙ append-nil (bytes_of (object_text us)))) ∙ units_are us stand.each)
 
--- A unit is given that stands here, and units stand behind it.
+-- A unit is given that stands here, and units stand after it.
 pub record UnitPassed (bytes : List ℕ) (start end : ℕ) : Type 0 where
-  pub behind : UnitsAt bytes end
+  pub after : UnitsAt bytes end
   pub gives : GivesPart unit_text (units_at bytes start) (Some (unit_at bytes start)) (units_at bytes end)
 
 module _ (bytes : List ℕ) (start : ℕ) where
@@ -81,10 +81,10 @@ module _ (bytes : List ℕ) (start : ℕ) where
   unit_passed_in (u ∷ us) s more end e =
       let one : UnitAt bytes start = some_unit s in
       let is : u ≡ (unit_at bytes start).value = sym (unit_at_is bytes start one) in
-      let left = stand_behind s end (e one) in
+      let left = stand_after s end (e one) in
       let size : end ≡ start + 4 * length (unit_text (unit_at bytes start).value) = e one ∙ ap (λ (x : UnitValue). start + 4 * length (unit_text x)) is in
       record {
-        behind = record { units = us; stand = left };
+        after = record { units = us; stand = left };
         gives = (
           ap (λ (xs : ObjectFileValue). record { place = start; value = xs })
               (units_at_are bytes start (u ∷ us) s ∙ ap₂ (λ (x : UnitValue) (xs : ObjectFileValue). x ∷ xs) is (sym (units_at_are bytes end us left))),
@@ -119,7 +119,7 @@ module _ (bytes : List ℕ) (start : ℕ) where
               (units_at_are bytes end (drop 1 here.units) left ∙ ap (drop 1) (sym are) ∙ ap (λ (p : Placed ObjectFileValue). drop 1 p.value) is),
         )
 
--- Behind the header and the hunks a unit ends.
+-- After the header and the hunks a unit ends.
 pub unit_ends : (bytes : List ℕ) (start : ℕ) (here : UnitAt bytes start) (name : List ℕ) (at end : ℕ) (r : IsRead unit_header here.unit.name start name at) →
     (hunks : Placed (List ObjectHunk)) → hunks ≡ hunks_at bytes at → end ≡ hunks.place + 4 * length (flat_map block_texts hunks.value) → end ≡ start + 4 * length (unit_text here.unit)
 unit_ends bytes start here name at end r hunks are e =

@@ -48,7 +48,7 @@ pub data IsLoadPart (before : List ℕ) : Part → Type 0 where
 
 -- ---- object files
 
--- Whole units, and of the next its header, but not all of it: behind a unit, at least the word.
+-- Whole units, and of the next its header, but not all of it: after a unit, at least the word.
 pub record IsInHeader (before : List ℕ) (unit : ℕ) : Type 0 where
   pub units : ObjectFileValue
   pub name : List ℕ
@@ -81,13 +81,13 @@ IsUnitPart before part = ⊥
 
 -- ---- either
 
-abbrev pub IsPartBehind : Sniff → List ℕ → Part → Type 0
-IsPartBehind sniffs.Object before part = IsUnitPart before part
-IsPartBehind kind before part = IsLoadPart before part
+abbrev pub IsPartAfter : Sniff → List ℕ → Part → Type 0
+IsPartAfter sniffs.Object before part = IsUnitPart before part
+IsPartAfter kind before part = IsLoadPart before part
 
 -- By the longwords before it, the longword at this byte is of this part.
 abbrev pub IsPartAt : Sniff → List ℕ → ℕ → Part → Type 0
-IsPartAt kind bytes place part = IsPartBehind kind (take (place / 4) (longs bytes)) part
+IsPartAt kind bytes place part = IsPartAfter kind (take (place / 4) (longs bytes)) part
 
 abbrev pub fault_at : ℕ → Reason → Fault
 fault_at place reason = record { place = place; reason = reason }

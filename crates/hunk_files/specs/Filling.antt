@@ -16,7 +16,7 @@ abbrev pub memory_of : List ℕ → ℕ → List BlockValue → List ℕ
 memory_of bases size blocks =
     relocated bases (filled size (flat_map (λ b. block_content b.body) blocks)) (flat_map (λ b. block_relocations b.body) blocks)
 
--- What a block makes of the memory of its hunk: its content and zero bytes behind it, or it relocates.
+-- What a block makes of the memory of its hunk: its content and zero bytes after it, or it relocates.
 abbrev pub filled_by : List ℕ → List ℕ → BlockBody → List ℕ
 filled_by bases memory (Code top words) = filled (length memory) (bytes_of words)
 filled_by bases memory (Data top words) = filled (length memory) (bytes_of words)

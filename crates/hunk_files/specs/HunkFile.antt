@@ -62,6 +62,6 @@ stripped (files.Load value rest) = files.Load (strip_file value) rest
 stripped (files.Object value) = files.Object (strip_object value)
 
 -- how many bytes follow it
-abbrev pub bytes_behind : HunkFile → ℕ
-bytes_behind (files.Load value rest) = rest
-bytes_behind (files.Object value) = 0
+abbrev pub bytes_after : HunkFile → ℕ
+bytes_after (files.Load value rest) = rest
+bytes_after (files.Object value) = 0

@@ -13,7 +13,7 @@ use Rattle.hunk_files.specs.Cuts.{hunk_cut, load_hunks_cut}
 use Rattle.hunk_files.specs.Fault.{BeginsWithLoadFile}
 
 -- Of parts that are still to come the first was given, where one was left, with the byte of the input at which its text
--- begins; behind it the next begins.
+-- begins; after it the next begins.
 abbrev pub GivesPart : {A : Type 0} → (A → List ℕ) → Placed (List A) → Option (Placed A) → Placed (List A) → Type 0
 GivesPart text old None new = (old.value ≡ []) × (new ≡ old)
 GivesPart text old (Some part) new =

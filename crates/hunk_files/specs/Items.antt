@@ -48,7 +48,7 @@ object_items units = record { place = 0; value = units_items 0 units }
 
 -- ---- those that are still to come
 
--- the byte behind blocks
+-- the byte after blocks
 abbrev pub end_of_blocks : Placed (List BlockValue) → ℕ
 end_of_blocks blocks = blocks.place + 4 * length (block_texts blocks.value)
 
@@ -59,7 +59,7 @@ pub record ItemsAt (bytes : List ℕ) (units hunks start : ℕ) : Type 0 where
   pub few_units : 4 * units ≤ start
   pub few_hunks : 4 * hunks ≤ start
 
--- blocks of the open hunk, the hunks behind them, and the units behind those
+-- blocks of the open hunk, the hunks after them, and the units after those
 abbrev pub items_at : List ℕ → ℕ → ℕ → ℕ → ℕ → Placed (List BlockValue) → Placed (List ItemValue)
 items_at bytes unit hunk units hunks blocks =
     let here = hunks_at bytes (end_of_blocks blocks) in

@@ -17,8 +17,8 @@ use Rattle.hunk_files.specs.Tables.{entry_text, header_text}
 abbrev pub IsLast : List ℕ → ℕ → Type 0
 IsLast text n = n + 1 ≡ length text
 
--- It stands behind this number of longwords, and counted from there this holds of it.
-pub record Behind (count : ℕ) (Ends : ℕ → Type 0) (n : ℕ) : Type 0 where
+-- It stands after this number of longwords, and counted from there this holds of it.
+pub record After (count : ℕ) (Ends : ℕ → Type 0) (n : ℕ) : Type 0 where
   pub number : ℕ
   pub ends : Ends number
   pub place : n ≡ count + number
@@ -27,32 +27,32 @@ pub record Behind (count : ℕ) (Ends : ℕ → Type 0) (n : ℕ) : Type 0 where
 pub record Within {A : Type 0} (text : A → List ℕ) (Ends : A → ℕ → Type 0) (items : List A) (n : ℕ) : Type 0 where
   pub before : List A
   pub item : A
-  pub after : List A
-  pub split : items ≡ before ++ item ∷ after
-  pub behind : Behind (length (flat_map text before)) (Ends item) n
+  pub rest : List A
+  pub split : items ≡ before ++ item ∷ rest
+  pub after : After (length (flat_map text before)) (Ends item) n
 
 -- ---- the parts
 
--- It ends the block, or a group or an entry behind the block's word.
+-- It ends the block, or a group or an entry after the block's word.
 abbrev pub EndsBlockPart : BlockValue → ℕ → Type 0
-EndsBlockPart b n = IsLast (block_text b) n ⊎ Behind 1 (EndsItemOf b.body) n
+EndsBlockPart b n = IsLast (block_text b) n ⊎ After 1 (EndsItemOf b.body) n
 
 -- It ends the hunk, or a part of a block.
 abbrev pub EndsHunkPart : List BlockValue → ℕ → Type 0
 EndsHunkPart blocks n = IsLast (block_texts blocks) n ⊎ Within block_text EndsBlockPart blocks n
 
--- It ends the unit, or a part of a hunk behind the unit's header.
+-- It ends the unit, or a part of a hunk after the unit's header.
 abbrev pub EndsUnitPart : UnitValue → ℕ → Type 0
-EndsUnitPart u n = IsLast (unit_text u) n ⊎ Behind (length (unit_header u.name)) (Within block_texts EndsHunkPart u.hunks) n
+EndsUnitPart u n = IsLast (unit_text u) n ⊎ After (length (unit_header u.name)) (Within block_texts EndsHunkPart u.hunks) n
 
 abbrev pub EndsObjectPart : ObjectFileValue → ℕ → Type 0
 EndsObjectPart o n = Within unit_text EndsUnitPart o n
 
--- It ends an entry of the table, which stands behind five longwords, or a part of a hunk behind the header.
+-- It ends an entry of the table, which stands after five longwords, or a part of a hunk after the header.
 abbrev pub EndsLoadPart : LoadFileValue → ℕ → Type 0
 EndsLoadPart v n =
-    Behind 5 (Within entry_text (λ e. IsLast (entry_text e)) (table v)) n
-    ⊎ Behind (length (header_text v)) (Within (λ h. block_texts h.blocks) (λ h. EndsHunkPart h.blocks) v) n
+    After 5 (Within entry_text (λ e. IsLast (entry_text e)) (table v)) n
+    ⊎ After (length (header_text v)) (Within (λ h. block_texts h.blocks) (λ h. EndsHunkPart h.blocks) v) n
 
 -- ---- in bytes
 

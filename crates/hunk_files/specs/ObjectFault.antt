@@ -32,8 +32,8 @@ has_content (InHunk has) = has
 has_content _ = false
 
 -- where the next block word stands
-abbrev pub behind_block : WordPlace → BlockStanding → WordPlace
-behind_block place s = InHunk (has_content place || is_content s)
+abbrev pub after_block : WordPlace → BlockStanding → WordPlace
+after_block place s = InHunk (has_content place || is_content s)
 
 abbrev pub object_role_at : WordPlace → Part → ObjectRole
 object_role_at place parts.BlockWord = WordAt place
@@ -46,7 +46,7 @@ object_block_labelled place b = map (λ x. (object_role_at place x.0, x.1)) (blo
 abbrev pub object_blocks_labelled : WordPlace → ObjectHunk → List (ObjectRole × ℕ)
 object_blocks_labelled place [] = []
 object_blocks_labelled place (b ∷ rest) =
-    object_block_labelled place b ++ object_blocks_labelled (behind_block place (standing b.body)) rest
+    object_block_labelled place b ++ object_blocks_labelled (after_block place (standing b.body)) rest
 
 abbrev pub object_hunk_labelled : ObjectHunk → List (ObjectRole × ℕ)
 object_hunk_labelled h = object_blocks_labelled BetweenHunks h

@@ -10,17 +10,17 @@ use Rattle.hunk_grammar.specs.Standings.{BlockStanding, Ending, refuse_standing,
 use Rattle.hunk_files.specs.declared.object.position.ObjectPosition.{ObjectPosition}
 use Rattle.hunk_files.specs.declared.object.position.ObjectPosition.TheVariants as positions
 use Rattle.hunk_files.specs.ObjectFile.{unit_word}
-use Rattle.hunk_files.specs.ObjectFault.{WordPlace, BeforeUnits, BetweenHunks, ObjectRole, WordAt, UnitCount, UnitName, Within, has_content, behind_block}
+use Rattle.hunk_files.specs.ObjectFault.{WordPlace, BeforeUnits, BetweenHunks, ObjectRole, WordAt, UnitCount, UnitName, Within, has_content, after_block}
 
 -- The test of the place of a block that is no unit.
 abbrev pub refuse_place : WordPlace → BlockStanding → Option Reason
 refuse_place BeforeUnits s = Some reasons.Misplaced
 refuse_place place s = refuse_standing (has_content place) s
 
--- the place behind a block that stands here
+-- the place after a block that stands here
 abbrev pub place_next : WordPlace → BlockStanding → WordPlace
 place_next place Ending = BetweenHunks
-place_next place s = behind_block place s
+place_next place s = after_block place s
 
 -- The role of the next longword.
 abbrev pub role_at : ObjectPosition → ObjectRole
@@ -29,7 +29,7 @@ role_at positions.UnitCount = UnitCount
 role_at (positions.UnitName owed) = UnitName
 role_at (positions.Block next phase) = Within (part_at phase)
 
--- in a block, or behind it
+-- in a block, or after it
 abbrev pub within : WordPlace → Option Phase → ObjectPosition
 within next (Some phase) = positions.Block next phase
 within next None = positions.Word next
@@ -39,7 +39,7 @@ abbrev pub owe_name : ℕ → ObjectPosition
 owe_name zero = positions.Word BetweenHunks
 owe_name (suc owed) = positions.UnitName owed
 
--- Behind a longword that is not refused.
+-- After a longword that is not refused.
 abbrev pub step : ObjectPosition → ℕ → ObjectPosition
 step (positions.Word place) w = if w == unit_word then positions.UnitCount else within (place_next place (standing_of_kind (kind w))) (inside.begin (kind w))
 step positions.UnitCount w = owe_name w
@@ -63,8 +63,8 @@ run (positions.UnitName owed) = suc owed
 run (positions.Block next phase) = skip phase
 run _ = 0
 
--- behind all of them
-abbrev pub behind : ObjectPosition → ObjectPosition
-behind (positions.UnitName owed) = positions.Word BetweenHunks
-behind (positions.Block next phase) = within next (inside.behind phase)
-behind position = position
+-- after all of them
+abbrev pub after : ObjectPosition → ObjectPosition
+after (positions.UnitName owed) = positions.Word BetweenHunks
+after (positions.Block next phase) = within next (inside.after phase)
+after position = position

@@ -10,7 +10,7 @@ use Rattle.hunk_files.specs.UnitCuts.{ends_unit, hunks_cut, unit_cut, units_cut}
 
 -- ---- hunks and units that stand in bytes
 
--- From this byte on stand hunks, behind which their unit ends.
+-- From this byte on stand hunks, after which their unit ends.
 pub record HunksAt (bytes : List ℕ) (start : ℕ) : Type 0 where
   pub hunks : List ObjectHunk
   pub rest : List ℕ

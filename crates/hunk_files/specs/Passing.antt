@@ -13,80 +13,80 @@ use Rattle.hunk_grammar.specs.Roles.{refuse_word}
 
 -- ---- rows of the table
 
--- the longword behind the row whose size word stands at this one
-abbrev pub behind_row : List ℕ → ℕ → ℕ
-behind_row ws at = at + entry_longs (slice_index ws at)
+-- the longword after the row whose size word stands at this one
+abbrev pub after_row : List ℕ → ℕ → ℕ
+after_row ws at = at + entry_longs (slice_index ws at)
 
 -- So many whole rows stand from the one longword up to the other.
 pub data AreRows (ws : List ℕ) (from : ℕ) : ℕ → ℕ → Type 0 where
   no_row : AreRows ws from 0 from
-  one_row : (count at : ℕ) → AreRows ws from count at → behind_row ws at ≤ length ws → AreRows ws from (suc count) (behind_row ws at)
+  one_row : (count at : ℕ) → AreRows ws from count at → after_row ws at ≤ length ws → AreRows ws from (suc count) (after_row ws at)
 
 -- ---- groups
 
 -- A group goes from the one longword up to the other: the number of its offsets, the number of a hunk, and the offsets. The long
 -- at each ends in a hunk of the declared number of longs.
-pub record IsGroup (ws : List ℕ) (hunks longs at behind : ℕ) : Type 0 where
+pub record IsGroup (ws : List ℕ) (hunks longs at after : ℕ) : Type 0 where
   pub some : 0 < slice_index ws at
-  pub ends : behind ≡ at + 2 + slice_index ws at
-  pub whole : behind ≤ length ws
+  pub ends : after ≡ at + 2 + slice_index ws at
+  pub whole : after ≤ length ws
   pub target : slice_index ws (at + 1) < hunks
-  pub inside : (i : ℕ) → at + 2 ≤ i → i < behind → EndsWithin (4 * longs) (slice_index ws i)
+  pub inside : (i : ℕ) → at + 2 ≤ i → i < after → EndsWithin (4 * longs) (slice_index ws i)
 
 -- Such groups stand from the one longword up to the other.
 pub data AreGroups (ws : List ℕ) (hunks longs from : ℕ) : ℕ → Type 0 where
   no_group : AreGroups ws hunks longs from from
-  one_group : (at behind : ℕ) → AreGroups ws hunks longs from at → IsGroup ws hunks longs at behind → AreGroups ws hunks longs from behind
+  one_group : (at after : ℕ) → AreGroups ws hunks longs from at → IsGroup ws hunks longs at after → AreGroups ws hunks longs from after
 
 -- ---- symbols
 
--- the longword behind the symbol whose word stands at this one: behind it come its name, and its value
-abbrev pub behind_symbol : List ℕ → ℕ → ℕ
-behind_symbol ws at = at + (name_longs (slice_index ws at) + 2)
+-- the longword after the symbol whose word stands at this one: after it come its name, and its value
+abbrev pub after_symbol : List ℕ → ℕ → ℕ
+after_symbol ws at = at + (name_longs (slice_index ws at) + 2)
 
 -- Whole symbols stand from the one longword up to the other. None has 0 for its word.
 pub data AreSymbols (ws : List ℕ) (from : ℕ) : ℕ → Type 0 where
   no_symbol : AreSymbols ws from from
-  one_symbol : (at : ℕ) → AreSymbols ws from at → 0 < slice_index ws at → behind_symbol ws at ≤ length ws → AreSymbols ws from (behind_symbol ws at)
+  one_symbol : (at : ℕ) → AreSymbols ws from at → 0 < slice_index ws at → after_symbol ws at ≤ length ws → AreSymbols ws from (after_symbol ws at)
 
 -- ---- blocks
 
--- The word of a block stands at this longword, is not refused, and the phase comes behind it.
+-- The word of a block stands at this longword, is not refused, and the phase comes after it.
 pub record BeginsBlock (ws : List ℕ) (has : Bool) (at : ℕ) (phase : Phase) : Type 0 where
   pub inside : at < length ws
   pub accepted : refuse_word has (slice_index ws at) ≡ None
   pub begins : begin (kind (slice_index ws at)) ≡ Some phase
 
 -- The size word of a content stands at this longword, which has at most the declared number of longs, and ends at the other.
-pub record IsContent (ws : List ℕ) (longs at behind : ℕ) : Type 0 where
+pub record IsContent (ws : List ℕ) (longs at after : ℕ) : Type 0 where
   pub fits : size_longs (slice_index ws at) ≤ longs
-  pub ends : behind ≡ at + 1 + size_longs (slice_index ws at)
-  pub whole : behind ≤ length ws
+  pub ends : after ≡ at + 1 + size_longs (slice_index ws at)
+  pub whole : after ≤ length ws
 
 -- The count of a payload stands at this longword, which ends at the other.
-pub record IsCounted (ws : List ℕ) (at behind : ℕ) : Type 0 where
-  pub ends : behind ≡ at + 1 + slice_index ws at
-  pub whole : behind ≤ length ws
+pub record IsCounted (ws : List ℕ) (at after : ℕ) : Type 0 where
+  pub ends : after ≡ at + 1 + slice_index ws at
+  pub whole : after ≤ length ws
 
 -- A list that may go up to some longword goes up to this one, with the 0 that ends it.
-pub record IsList (ws : List ℕ) (GoesTo : ℕ → Type 0) (behind : ℕ) : Type 0 where
+pub record IsList (ws : List ℕ) (GoesTo : ℕ → Type 0) (after : ℕ) : Type 0 where
   pub end : ℕ
   pub items : GoesTo end
   pub zero_is : slice_index ws end ≡ 0
-  pub ends : behind ≡ end + 1
-  pub whole : behind ≤ length ws
+  pub ends : after ≡ end + 1
+  pub whole : after ≤ length ws
 
--- A block goes from the one longword up to the other, in a hunk that has its content block or not, before it and behind it.
+-- A block goes from the one longword up to the other, in a hunk that has its content block or not, before it and after it.
 pub data IsWholeBlock (ws : List ℕ) (hunks longs at : ℕ) (has : Bool) : ℕ → Bool → Type 0 where
-  content : (behind : ℕ) → BeginsBlock ws has at phases.ContentSize → IsContent ws longs (at + 1) behind → IsWholeBlock ws hunks longs at has behind true
-  counted : (behind : ℕ) → BeginsBlock ws has at phases.LongCount → IsCounted ws (at + 1) behind → IsWholeBlock ws hunks longs at has behind has
-  groups : (behind : ℕ) → BeginsBlock ws has at phases.GroupCount → IsList ws (AreGroups ws hunks longs (at + 1)) behind → IsWholeBlock ws hunks longs at has behind has
-  symbols : (behind : ℕ) → BeginsBlock ws has at phases.EntryWord → IsList ws (AreSymbols ws (at + 1)) behind → IsWholeBlock ws hunks longs at has behind has
+  content : (after : ℕ) → BeginsBlock ws has at phases.ContentSize → IsContent ws longs (at + 1) after → IsWholeBlock ws hunks longs at has after true
+  counted : (after : ℕ) → BeginsBlock ws has at phases.LongCount → IsCounted ws (at + 1) after → IsWholeBlock ws hunks longs at has after has
+  groups : (after : ℕ) → BeginsBlock ws has at phases.GroupCount → IsList ws (AreGroups ws hunks longs (at + 1)) after → IsWholeBlock ws hunks longs at has after has
+  symbols : (after : ℕ) → BeginsBlock ws has at phases.EntryWord → IsList ws (AreSymbols ws (at + 1)) after → IsWholeBlock ws hunks longs at has after has
 
 -- Such blocks go from the one longword up to the other.
 pub data AreBlocks (ws : List ℕ) (hunks longs from : ℕ) (has : Bool) : ℕ → Bool → Type 0 where
   no_block : AreBlocks ws hunks longs from has from has
-  one_block : (at behind : ℕ) (before now : Bool) → AreBlocks ws hunks longs from has at before → IsWholeBlock ws hunks longs at before behind now → AreBlocks ws hunks longs from has behind now
+  one_block : (at after : ℕ) (before now : Bool) → AreBlocks ws hunks longs from has at before → IsWholeBlock ws hunks longs at before after now → AreBlocks ws hunks longs from has after now
 
 -- ---- rows, or blocks
 

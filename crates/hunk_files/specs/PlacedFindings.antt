@@ -17,7 +17,7 @@ PlacedFinding = placed.PlacedFinding
 abbrev pub standing_at : ℕ → List FindingValue → List PlacedFinding
 standing_at place found = map (λ f. record { place = place; value = f }) found
 
--- those of items whose texts stand one behind the other, from this byte on
+-- those of items whose texts stand one after the other, from this byte on
 abbrev pub in_turn : {A : Type 0} → (ℕ → A → List PlacedFinding) → (A → List ℕ) → ℕ → List A →
     List PlacedFinding
 in_turn found text place [] = []
@@ -29,7 +29,7 @@ abbrev pub offsets_findings_at : (ℕ → List FindingValue) → ℕ → List �
 offsets_findings_at found =
     in_turn (λ place offset. standing_at place (found offset)) (λ offset. offset ∷ [])
 
--- those of a group that begins at this byte: its offsets stand behind their number and the target
+-- those of a group that begins at this byte: its offsets stand after their number and the target
 abbrev pub group_findings_at : HunkContext → ℕ → ℕ → RelocGroup → List PlacedFinding
 group_findings_at s width place g =
     offsets_findings_at (relocation_findings s width g.target) (place + 8) g.offsets
@@ -46,7 +46,7 @@ abbrev pub entries_findings_at : HunkContext → ℕ → List ExtEntry → List 
 entries_findings_at s =
     in_turn (λ place e. entry_findings_at s (place + 4 * length (ext_text e)) e) ext_text
 
--- those of a block that begins at this byte: its list stands behind its word
+-- those of a block that begins at this byte: its list stands after its word
 abbrev pub body_findings_at : HunkContext → ℕ → ℕ → BlockBody → List PlacedFinding
 body_findings_at s place word (Reloc groups) =
     groups_findings_at s (relocation_width (kind word)) (place + 4) groups

@@ -8,7 +8,7 @@ use Rattle.hunk_blocks.specs.declared.phase.Phase.{Phase}
 use Rattle.hunk_blocks.specs.declared.phase.Phase.TheVariants as phases
 use Rattle.hunk_grammar.specs.declared.position.Position.{Position}
 use Rattle.hunk_grammar.specs.declared.position.Position.TheVariants as positions
-use Rattle.hunk_grammar.specs.Positions.{is_behind_header}
+use Rattle.hunk_grammar.specs.Positions.{is_after_header}
 use Rattle.hunk_files.specs.LoadFile.{TableEntry}
 use Rattle.hunk_files.specs.LoadText.{table}
 use Rattle.hunk_files.specs.FileSteps.{HunkSoFar, Progress, AtFirst, AtResident, AtTableSize, AtFirstHunk, AtLastHunk, AtSizeWord, AtAttributes, AtBlock, InBody, Next, More, Finished}
@@ -16,12 +16,12 @@ use Rattle.hunk_files.specs.FileSteps.{HunkSoFar, Progress, AtFirst, AtResident,
 abbrev pub open_of : HunkSoFar → numbers.OpenHunk
 open_of o = record { hunks = o.hunks; ahead = length o.ahead; has_content = o.has_content }
 
--- behind these blocks of a hunk
+-- after these blocks of a hunk
 abbrev pub block_phase : List BlockValue → Phase
 block_phase [] = phases.FirstBlock
 block_phase (b ∷ blocks) = phases.BlockWord
 
--- The position behind what was read.
+-- The position after what was read.
 abbrev pub position_of : Next → Position
 position_of (More AtFirst) = positions.FirstLong
 position_of (More AtResident) = positions.ResidentName
@@ -59,5 +59,5 @@ table_of (Finished v) = table v
 table_of _ = []
 
 -- the header was read
-abbrev pub IsBehindHeader : Next → Type 0
-IsBehindHeader n = is_behind_header (position_of n) ≡ true
+abbrev pub IsAfterHeader : Next → Type 0
+IsAfterHeader n = is_after_header (position_of n) ≡ true

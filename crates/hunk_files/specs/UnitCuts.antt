@@ -25,7 +25,7 @@ hunks_cut words = items_until ends_unit hunk_cut (length words) words
 
 -- ---- a unit, and the units of a file
 
--- behind the unit's word, the number of longwords of its name
+-- after the unit's word, the number of longwords of its name
 abbrev pub unit_cut : List ℕ → Cut UnitValue
 unit_cut words =
     let count = long_cut (long_cut words).rest in

@@ -9,7 +9,7 @@ ghost use Rattle.hunk_files.specs.Hunks.{HunkAt, block_texts};
 ghost use Rattle.hunk_files.specs.InPlace.{GivesPart};
 ghost use Rattle.hunk_files.specs.Lacks.{EndsAt, EndsHunkPart};
 
-use crate::place::out_of_memory;
+use crate::out_of_memory::out_of_memory;
 use hunk_blocks::{Block, BlockView, BodyView, append};
 use hunk_words::{FileFault, Printer, Sink};
 use std::alloc::Global;
@@ -62,7 +62,7 @@ impl<'a> BlockViews<'a> {
         }
     }
 
-    /// The byte of the input at which the next block begins, or behind END the byte at which the
+    /// The byte of the input at which the next block begins, or after END the byte at which the
     /// hunk ends.
     #[inline(always)]
     pub fn place(&self) -> u64
@@ -104,7 +104,7 @@ pub(crate) fn keep_blocks<'a>(
     blocks: &mut BlockViews<'a>,
 ) -> Result<Vec<Block<'a>>, FileFault>
     ensures kept { IfOk result (λ kept. kept.items ≡ blocks.old.value) }
-    ensures behind { IfOk result (λ kept. blocks.new.place
+    ensures after { IfOk result (λ kept. blocks.new.place
         ≡ blocks.old.place + 4 * length (block_texts blocks.old.value)) }
     ensures memory { IfErr result (λ fault. fault.reason ≡ reasons.OutOfMemory) }
     ensures place { IfErr result (λ fault.

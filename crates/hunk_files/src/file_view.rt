@@ -5,7 +5,7 @@ ghost use Rattle.hunk_words.specs.declared.reason.Reason.TheVariants as reasons;
 ghost use Rattle.hunk_grammar.specs.FileKind.{sniffed};
 ghost use Rattle.hunk_files.specs.FileView.{file_of};
 ghost use Rattle.hunk_files.specs.HunkFile.{AreFile, IsFileOf, IsRefusal};
-ghost use Rattle.hunk_files.specs.HunkFile.{EndsFilePart, bytes_behind};
+ghost use Rattle.hunk_files.specs.HunkFile.{EndsFilePart, bytes_after};
 ghost use Rattle.hunk_files.specs.HunkFile.{file_bytes, stripped};
 ghost use Rattle.hunk_files.specs.Lacks.{EndsAt};
 ghost use Rattle.hunk_files.specs.StandingBlocks.{file_items};
@@ -61,7 +61,7 @@ impl<'a> FileView<'a> {
 
     /// The number of bytes that follow the file.
     pub fn rest(&self) -> u64
-        ensures { result ≡ bytes_behind (file_of self.now) }
+        ensures { result ≡ bytes_after (file_of self.now) }
     {
         match self {
             FileView::Load { file: _, rest } => *rest,

@@ -4,7 +4,7 @@ ghost use Rattle.hunk_words.specs.Longs.{longs};
 ghost use Rattle.hunk_words.specs.Puts.{PutsText};
 ghost use Rattle.hunk_words.specs.declared.reason.Reason.TheVariants as reasons;
 ghost use Rattle.hunk_grammar.specs.FileKind.{sniffed};
-ghost use Rattle.hunk_files.specs.HunkFile.{AreFile, IsFileOf, IsMemory, IsRefusal, bytes_behind};
+ghost use Rattle.hunk_files.specs.HunkFile.{AreFile, IsFileOf, IsMemory, IsRefusal, bytes_after};
 ghost use Rattle.hunk_files.specs.HunkFile.{file_bytes, stripped};
 
 use crate::file_view::FileView;
@@ -46,7 +46,7 @@ impl<'a> HunkFile<'a> {
 
     /// The number of bytes that follow the file.
     pub fn rest(&self) -> u64
-        ensures { result ≡ bytes_behind self.now }
+        ensures { result ≡ bytes_after self.now }
     {
         match self {
             HunkFile::Load { file: _, rest } => *rest,

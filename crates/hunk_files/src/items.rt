@@ -5,8 +5,8 @@ ghost use Rattle.hunk_files.specs.ItemViews.{GivesItem, item_seen, stays};
 ghost use Rattle.hunk_files.specs.Items.{ItemsAt, items_at};
 
 use crate::blocks::BlockViews;
+use crate::kept;
 use crate::object::{ends_unit, read_header};
-use crate::order;
 use hunk_blocks::{BlockView, Payload};
 use std::marker::Model;
 
@@ -62,7 +62,7 @@ impl Item<'_> {
         ensures { result ≡ stays (item_seen self.now).value }
     {
         match self {
-            Item::Block { view, .. } => order::stays(view),
+            Item::Block { view, .. } => kept::stays(view),
             _ => true,
         }
     }
@@ -112,7 +112,7 @@ impl<'a> Items<'a> {
         }
     }
 
-    /// The byte of the input at which the next item begins, or behind the last the byte at which
+    /// The byte of the input at which the next item begins, or after the last the byte at which
     /// the file ends.
     #[inline(always)]
     pub fn place(&self) -> u64

@@ -19,7 +19,7 @@ ghost use Rattle.hunk_blocks.specs.Faults.{words};
 ghost use Rattle.hunk_files.specs.Findings.{findings};
 ghost use Rattle.hunk_files.specs.PlacedFindings.{StandsInPlace, placed_findings};
 ghost use Rattle.hunk_files.specs.Strip.{strip_file, strip_object};
-ghost use Rattle.hunk_blocks.specs.Along.{GoesAlong};
+ghost use Rattle.hunk_blocks.specs.AlongText.{GoesAlong};
 ghost use Rattle.hunk_files.specs.Machines.{EndsHunk, is_free, is_free_in_object, leading};
 ghost use Rattle.hunk_files.specs.Machines.{leads_to, load_at, object_at};
 ghost use Rattle.hunk_files.specs.Machines.{refuse_in_load, refuse_in_object};
@@ -185,7 +185,7 @@ pub fn load_places()
     ensures end { (v : LoadFileValue) (ws more : List ℕ) → IsLoadFile v → text v ≡ ws ++ more →
         load.is_done (load_at ws) ≡ true ↔ (more ≡ []) }
     ensures header { (v : LoadFileValue) (ws more : List ℕ) → IsLoadFile v → text v ≡ ws ++ more →
-        load.is_behind_header (load_at ws) ≡ true
+        load.is_after_header (load_at ws) ≡ true
         ↔ ((rest : List ℕ) × (ws ≡ header_text v ++ rest)) }
     ensures hunks { (v : LoadFileValue) (ws more : List ℕ) → IsLoadFile v → text v ≡ ws ++ more →
         load.is_between_hunks (load_at ws) ≡ true ↔ EndsHunk v ws }
@@ -211,6 +211,6 @@ pub fn object_places()
         object.run (object_at (words done)) ≡ leading is_free_in_object more }
     ensures free { (role : ObjectRole) (word : ℕ) → is_free_in_object role ≡ true →
         refuse_object role word ≡ None }
-    ensures behind { (p : ObjectPosition) (ws : List ℕ) → length ws ≡ object.run p →
-        leads_to object.step p ws ≡ object.behind p }
+    ensures after { (p : ObjectPosition) (ws : List ℕ) → length ws ≡ object.run p →
+        leads_to object.step p ws ≡ object.after p }
 {}

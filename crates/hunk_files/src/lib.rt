@@ -6,12 +6,12 @@ mod blocks;
 mod file_view;
 mod hunk_file;
 mod items;
+mod kept;
 pub mod laws;
 mod load;
 mod object;
-mod order;
+mod out_of_memory;
 mod part;
-mod place;
 mod ranges;
 mod row;
 mod takes;
@@ -24,8 +24,7 @@ pub use crate::items::{Item, Items};
 pub use crate::load::{ImageFault, LoadFile, LoadHunkView, LoadHunkViews, LoadView, TableIter};
 pub use crate::object::{
     Finding, FindingKind, Findings, Hunk, HunkView, HunkViews, ObjectFile, ObjectView,
-    PlacedFinding, Unit, UnitView, UnitViews, reference_width,
-    relocation_width, walk_object,
+    PlacedFinding, Unit, UnitView, UnitViews, reference_width, relocation_width, walk_object,
 };
 pub use crate::part::{Part, part_at};
 pub use crate::ranges::TakesBytes;

@@ -21,7 +21,7 @@ pub enum Part {
     Header,
     /// A hunk of a load file.
     Hunk { number: u64 },
-    /// A unit of an object file, and the hunk in it: none up to the end of the unit's name. Behind
+    /// A unit of an object file, and the hunk in it: none up to the end of the unit's name. After
     /// a whole hunk, or the name, it is the hunk that is to come.
     Unit { number: u64, hunk: Option<u64> },
 }

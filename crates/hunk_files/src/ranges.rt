@@ -16,7 +16,7 @@ use hunk_words::{Printer, Sink};
 pub trait TakesBytes {
     ghost takes: { Self → List ℕ → Self → Type 0 };
 
-    /// Takes these bytes, behind those that were taken before.
+    /// Takes these bytes, after those that were taken before.
     fn take(&mut self, bytes: &[u8])
         ensures { takes self.old bytes.now self.new };
 
@@ -61,7 +61,7 @@ pub(crate) fn strip_items<T: TakesBytes>(taker: &mut T, bytes: &[u8], mut items:
     ensures { T.takes taker.old (slice_range bytes.now 0 items.entry.place
         ++ bytes_of (flat_map kept_text items.entry.value)) taker.new }
 {
-    // What stays and was not handed over yet begins behind the last item that was dropped.
+    // What stays and was not handed over yet begins after the last item that was dropped.
     let mut from = 0;
     'stripping: while let Some(item) = items.next() {
         if !item.stays() {

@@ -16,7 +16,7 @@ use Rattle.hunk_grammar.specs.Roles.{Place, Role, Role as roles, InBlock}
 abbrev pub place : ℕ → OpenHunk → Place
 place longs o = record { hunks = o.hunks; longs = longs; has_content = o.has_content }
 
--- The role of the next longword, where the open hunk declares this number of longs. Behind the end nothing is refused.
+-- The role of the next longword, where the open hunk declares this number of longs. After the end nothing is refused.
 abbrev pub role_at : ℕ → Position → Role
 role_at longs positions.FirstLong = roles.FirstLong
 role_at longs positions.ResidentName = roles.ResidentName
@@ -46,25 +46,25 @@ abbrev pub owe_entries : ℕ → ℕ → Position
 owe_entries hunks zero = open_next hunks hunks
 owe_entries hunks (suc owed) = positions.SizeWord hunks owed
 
--- Behind a longword of a block: inside it, or here where it is whole.
+-- After a longword of a block: inside it, or here where it is whole.
 abbrev pub onward : OpenHunk → Position → Option Phase → Position
 onward o here (Some phase) = at o phase
 onward o here None = here
 
--- Behind the END of the hunk.
+-- After the END of the hunk.
 abbrev pub close : OpenHunk → Position
 close o = open_next o.hunks o.ahead
 
--- Behind a block whose last longword stands at this phase.
-abbrev pub behind : OpenHunk → Phase → Position
-behind o phases.FirstBlock = close o
-behind o phases.BlockWord = close o
-behind o phases.ContentSize = at (with_content o) phases.BlockWord
-behind o phases.BssSize = at (with_content o) phases.BlockWord
-behind o (phases.Content longs owed) = at (with_content o) phases.BlockWord
-behind o phase = at o phases.BlockWord
+-- After a block whose last longword stands at this phase.
+abbrev pub after : OpenHunk → Phase → Position
+after o phases.FirstBlock = close o
+after o phases.BlockWord = close o
+after o phases.ContentSize = at (with_content o) phases.BlockWord
+after o phases.BssSize = at (with_content o) phases.BlockWord
+after o (phases.Content longs owed) = at (with_content o) phases.BlockWord
+after o phase = at o phases.BlockWord
 
--- behind a block word
+-- after a block word
 abbrev pub begin : OpenHunk → Kind → Position
 begin o k = onward o (close o) (inside.begin k)
 
@@ -82,9 +82,9 @@ abbrev pub owe_symbol : OpenHunk → ℕ → Position
 owe_symbol o owed = onward o (at o phases.BlockWord) (inside.owe_symbol owed)
 
 abbrev pub step_in : OpenHunk → Phase → ℕ → Position
-step_in o phase w = onward o (behind o phase) (inside.step phase w)
+step_in o phase w = onward o (after o phase) (inside.step phase w)
 
--- Behind a longword that is not refused.
+-- After a longword that is not refused.
 abbrev pub step : Position → ℕ → Position
 step positions.FirstLong w = positions.ResidentName
 step positions.ResidentName w = positions.TableSize
@@ -102,10 +102,10 @@ is_done positions.Done = true
 is_done _ = false
 
 -- the header is whole
-abbrev pub is_behind_header : Position → Bool
-is_behind_header (positions.Body o phase) = true
-is_behind_header positions.Done = true
-is_behind_header _ = false
+abbrev pub is_after_header : Position → Bool
+is_after_header (positions.Body o phase) = true
+is_after_header positions.Done = true
+is_after_header _ = false
 
 -- No hunk is open any more: the next opens here, or the file is whole.
 abbrev pub is_between_hunks : Position → Bool
@@ -123,9 +123,9 @@ abbrev pub run : Position → ℕ
 run (positions.Body o phase) = run_in phase
 run _ = 0
 
--- behind one longword of a run and this number of further ones
+-- after one longword of a run and this number of further ones
 abbrev pub pass_in : OpenHunk → Phase → ℕ → Position
-pass_in o phase n = onward o (behind o phase) (inside.pass phase n)
+pass_in o phase n = onward o (after o phase) (inside.pass phase n)
 
 abbrev pub pass : Position → ℕ → Position
 pass p zero = p
@@ -164,7 +164,7 @@ least_in o (phases.ExtFront owed) = owed + 3 + end_least o.has_content + 3 * o.a
 least_in o phases.ExtCount = 2 + end_least o.has_content + 3 * o.ahead
 least_in o (phases.ExtRest owed) = owed + 2 + end_least o.has_content + 3 * o.ahead
 
--- Up to the end of the header, or behind it up to the end of the file.
+-- Up to the end of the header, or after it up to the end of the file.
 abbrev pub least_longs : Position → ℕ
 least_longs positions.FirstLong = 6
 least_longs positions.ResidentName = 5

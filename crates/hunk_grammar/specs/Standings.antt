@@ -6,7 +6,7 @@ use Rattle.hunk_words.specs.declared.block_word.Kind.TheVariants as kinds
 use Rattle.hunk_words.specs.declared.reason.Reason.{Reason}
 use Rattle.hunk_words.specs.declared.reason.Reason.TheVariants as reasons
 
--- Anywhere, or once, or only behind the content block, or at the end.
+-- Anywhere, or once, or only after the content block, or at the end.
 pub data BlockStanding : Type 0 where
   Beside : BlockStanding
   Content : BlockStanding

@@ -2,7 +2,7 @@
 ghost use Rattle.std.specs.Prelude.{◌≡◌, ◌≤◌, ◌<◌, ◌^◌, false};
 ghost use Rattle.hunk_grammar.specs.Positions as positions;
 ghost use Rattle.hunk_grammar.specs.Positions.{step, run, pass, least_longs};
-ghost use Rattle.hunk_grammar.specs.Positions.{is_done, is_behind_header, is_between_hunks};
+ghost use Rattle.hunk_grammar.specs.Positions.{is_done, is_after_header, is_between_hunks};
 
 use crate::phase::OpenHunk;
 use hunk_blocks::Phase;
@@ -10,11 +10,11 @@ use hunk_words::SizeWord;
 
 /// The longword of the header, counted from 0, that has the number of hunks.
 ///
-/// Source: The AmigaDOS Manual. It stands behind the header's word and the empty list of resident
+/// Source: The AmigaDOS Manual. It stands after the header's word and the empty list of resident
 /// names.
 pub const TABLE_SIZE_AT: usize = 2;
 
-/// The longword of the header, counted from 0, at which the table begins, behind the number of the
+/// The longword of the header, counted from 0, at which the table begins, after the number of the
 /// last hunk.
 ///
 /// Source: The AmigaDOS Manual.
@@ -38,9 +38,9 @@ pub enum Position {
     LastHunk { hunks: u32 },
     /// The size word of an entry of the table.
     SizeWord { hunks: u32, owed: u32 },
-    /// The memory attributes of an entry, behind its size word, which is `word`.
+    /// The memory attributes of an entry, after its size word, which is `word`.
     Attributes { hunks: u32, word: u32, owed: u32 },
-    /// A longword behind the header: the hunk that it is of, and what it is for there.
+    /// A longword after the header: the hunk that it is of, and what it is for there.
     Body(OpenHunk, Phase),
     /// The file is whole.
     Done,
@@ -49,8 +49,8 @@ pub enum Position {
 impl Position {
     /// Whether the header is whole.
     #[inline(always)]
-    pub fn is_behind_header(self) -> bool
-        ensures { result ≡ is_behind_header self }
+    pub fn is_after_header(self) -> bool
+        ensures { result ≡ is_after_header self }
     {
         match self {
             Position::Body(_, _) | Position::Done => true,
@@ -69,7 +69,7 @@ impl Position {
         }
     }
 
-    /// Behind a longword that is not refused.
+    /// After a longword that is not refused.
     #[inline(always)]
     pub fn step(self, word: u32) -> Position
         ensures { result ≡ step self word }
@@ -85,7 +85,7 @@ impl Position {
             Position::Body(hunk, phase) => {
                 return match phase.step(word) {
                     Some(next) => Position::Body(hunk, next),
-                    None => behind(hunk, phase),
+                    None => after(hunk, phase),
                 };
             }
             Position::Done => return Position::Done,
@@ -120,7 +120,7 @@ impl Position {
         }
     }
 
-    /// Behind `count` longwords of a run.
+    /// After `count` longwords of a run.
     #[inline(always)]
     pub fn pass(self, count: u64) -> Position
         requires { count ≤ run self }
@@ -129,13 +129,13 @@ impl Position {
         match self {
             Position::Body(hunk, phase) if count > 0 => match phase.pass((count - 1) as u32) {
                 Some(next) => Position::Body(hunk, next),
-                None => behind(hunk, phase),
+                None => after(hunk, phase),
             },
             _ => self,
         }
     }
 
-    /// The least number of longwords up to the end of the header, or behind it up to the end of the
+    /// The least number of longwords up to the end of the header, or after it up to the end of the
     /// file.
     #[inline(always)]
     pub fn least_longs(self) -> u64
@@ -183,10 +183,10 @@ impl Position {
     }
 }
 
-/// Behind a block of the hunk whose last longword stands at this phase.
+/// After a block of the hunk whose last longword stands at this phase.
 #[inline(always)]
-fn behind(hunk: OpenHunk, phase: Phase) -> Position
-    ensures { result ≡ positions.behind hunk phase }
+fn after(hunk: OpenHunk, phase: Phase) -> Position
+    ensures { result ≡ positions.after hunk phase }
 {
     match phase {
         // The block that ends with its word is END.

@@ -64,7 +64,7 @@ impl Position {
 /// Whether the long at the offset, in bytes from the start of a hunk that declares `longs`
 /// longwords, passes the end of the hunk.
 ///
-/// That an offset may be odd, and may lie behind the content, is this project's own choice.
+/// That an offset may be odd, and may lie after the content, is this project's own choice.
 #[inline(always)]
 pub fn is_outside(offset: u32, longs: u32) -> bool
     ensures { result ≡ nat_lt (4 * longs) (offset + 4) }
@@ -75,7 +75,7 @@ pub fn is_outside(offset: u32, longs: u32) -> bool
 /// Why a block of this kind may not stand here, where it may not. `has_content` says whether the
 /// hunk has its content block.
 ///
-/// Just one content block, relocations and EXT only behind it, END last: this project's own choice.
+/// Just one content block, relocations and EXT only after it, END last: this project's own choice.
 #[inline(always)]
 pub fn refuse_place(kind: Kind, has_content: bool) -> Option<Reason>
     ensures { result ≡ refuse_standing has_content (standing_of_kind kind) }

@@ -14,10 +14,10 @@ length_power (suc k) n more few fits =
     let step = ap length (decimal_step n (omega (arith, more)) fits) ∙ length-append (decimal (n / 10)) ((48 + n % 10) ∷ []) in
     omega (arith, step, length_power k (n / 10) (omega (arith, more)) (omega (arith, few)) (omega (arith, fits)))
 
--- A line's first bytes stay, and digits were written behind them.
-pub put_behind : (before after line digits rest : List ℕ) (len at count : ℕ) → take len before ≡ line → len ≤ length before → at + count ≡ len + count → length digits ≡ count →
+-- A line's first bytes stay, and digits were written after them.
+pub put_at_end : (before after line digits rest : List ℕ) (len at count : ℕ) → take len before ≡ line → len ≤ length before → at + count ≡ len + count → length digits ≡ count →
     take at after ≡ take at before → drop at after ≡ digits ++ rest → take (len + count) after ≡ line ++ digits
-put_behind before after line digits rest len at count is within ends counted same behind =
+put_at_end before after line digits rest len at count is within ends counted same rest_is =
     let front : take at after ≡ line = same ∙ ap (λ (k : ℕ). take k before) (omega (arith, ends)) ∙ is in
-    let whole : after ≡ (line ++ digits) ++ rest = sym (take-append-drop at after) ∙ ap₂ (λ (xs ys : List ℕ). xs ++ ys) front behind ∙ sym (append_assoc line digits rest) in
+    let whole : after ≡ (line ++ digits) ++ rest = sym (take-append-drop at after) ∙ ap₂ (λ (xs ys : List ℕ). xs ++ ys) front rest_is ∙ sym (append_assoc line digits rest) in
     ap (take (len + count)) whole ∙ take_at (line ++ digits) rest (len + count) (omega (arith, length-append line digits, length-take-le len before within, ap length is, counted))

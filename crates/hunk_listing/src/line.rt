@@ -111,7 +111,7 @@ impl Line {
         page.print(&self.bytes[..self.len]);
     }
 
-    /// Prints the line, the digits of the offset behind it and the end. The line stays as it is,
+    /// Prints the line, the digits of the offset after it and the end. The line stays as it is,
     /// and so serves for the next offset.
     pub(crate) fn print_offset<W: Sink, const END: usize>(
         &mut self,
@@ -123,10 +123,10 @@ impl Line {
         ensures prints { Prints page.old page.new (self.old ++ digits offset ++ end.now) }
         ensures kept { self.new ≡ self.old }
     {
-        let behind = self.len + 8;
-        let whole = behind + END;
-        encode(&offset.to_be_bytes(), &mut self.bytes[self.len..behind]);
-        self.bytes[behind..whole].copy_from_slice(end);
+        let after = self.len + 8;
+        let whole = after + END;
+        encode(&offset.to_be_bytes(), &mut self.bytes[self.len..after]);
+        self.bytes[after..whole].copy_from_slice(end);
         page.print(&self.bytes[..whole]);
     }
 }

@@ -56,7 +56,7 @@ fn print_units<W: Sink>(page: &mut Printer<'_, W>, mut units: UnitViews<'_>)
     }
 }
 
-/// Prints the lines of the unit, and answers the byte behind it.
+/// Prints the lines of the unit, and answers the byte after it.
 fn print_unit<W: Sink>(page: &mut Printer<'_, W>, number: u64, unit: &UnitView<'_>) -> u64
     ensures prints { Prints page.old page.new (unit_lines number unit.now.value) }
     ensures end { result ≡ unit.now.place + 4 * length (unit_text unit.now.value) }
@@ -76,7 +76,7 @@ fn print_unit_line<W: Sink>(page: &mut Printer<'_, W>, number: u64, name: &Paylo
     print_named(page, &line, name);
 }
 
-/// Prints the lines of the hunks, and answers the byte behind them.
+/// Prints the lines of the hunks, and answers the byte after them.
 fn print_hunks<W: Sink>(page: &mut Printer<'_, W>, mut hunks: HunkViews<'_>) -> u64
     requires { length hunks.value < 2 ^ 64 }
     ensures prints { Prints page.old page.new (numbered object_hunk_lines 0 hunks.entry.value) }
@@ -92,7 +92,7 @@ fn print_hunks<W: Sink>(page: &mut Printer<'_, W>, mut hunks: HunkViews<'_>) -> 
     hunks.place()
 }
 
-/// Prints the lines of the hunk, and answers the byte behind it.
+/// Prints the lines of the hunk, and answers the byte after it.
 fn print_hunk<W: Sink>(page: &mut Printer<'_, W>, number: u64, hunk: &HunkView<'_>) -> u64
     ensures prints { Prints page.old page.new (object_hunk_lines number hunk.now.value) }
     ensures end { result ≡ hunk.now.place + 4 * length (block_texts hunk.now.value) }

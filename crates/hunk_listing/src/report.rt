@@ -125,7 +125,7 @@ impl FindingLine {
         }
     }
 
-    /// Prints the front, which stays, and the rest of the line behind it.
+    /// Prints the front, which stays, and the rest of the line after it.
     fn print_rest<W: Sink>(&mut self, page: &mut Printer<'_, W>, fault: FindingKind, offset: u32)
         ensures prints { Prints page.old page.new
             (self.old ++ hexadecimal offset ++ codes " " ++ finding_name fault ++ codes "\n") }

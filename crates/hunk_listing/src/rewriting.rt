@@ -6,7 +6,7 @@ ghost use Rattle.hunk_listing.specs.RewritingLines.{left_out_line, wrote_line};
 use crate::line::Line;
 use hunk_words::{PagePrinter, Sink};
 
-/// Prints the lines that say how many bytes were written, and how many behind the file, where
+/// Prints the lines that say how many bytes were written, and how many after the file, where
 /// there are some, were left out: `written` and `rest`.
 #[tactic(auto, unfolding(crate::specs::RewritingLines::wrote_line, crate::specs::RewritingLines::left_out_line))]
 pub fn print_rewriting<W: Sink, const ROOM: usize>(

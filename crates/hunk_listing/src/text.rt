@@ -9,7 +9,7 @@ use crate::line::{Line, encode};
 use hunk_blocks::Payload;
 use hunk_words::{Printer, Sink};
 
-/// Prints the line, the name's text behind it and the end of the line.
+/// Prints the line, the name's text after it and the end of the line.
 #[inline(always)]
 pub(crate) fn print_named<W: Sink>(page: &mut Printer<'_, W>, line: &Line, name: &Payload<'_>)
     ensures { Prints page.old page.new (line.now ++ name_text (longs name.now) ++ codes "\n") }

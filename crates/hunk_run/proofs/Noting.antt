@@ -211,7 +211,7 @@ module _ {W : Type 0} (outlet : W → Outlet) (old new : Writing W) where
   says_left_out first made most known strip (Err fault) input output cause result rewrites ends none =
       let (name, untouched, by, names) = rewriting_fault strip fault input output cause result ends in absurd (not_done fault name cause untouched result by none)
 
--- a run that was to list an input; the output is mid behind what was listed
+-- a run that was to list an input; the output is mid after what was listed
 module _ {W : Type 0} (outlet : W → Outlet) (old mid new : Writing W) (name : Option (List ℕ)) (cause : Option Error) (result : Ended) where
   notes_since : (fault : RunFault) → mid ≡ old → EndsByFault outlet mid new fault name cause None result → Notes outlet old new result.status result.note
   notes_since fault same ends =

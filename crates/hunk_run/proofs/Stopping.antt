@@ -131,7 +131,7 @@ lacks fault name (Some error) untouched memory = tt
 lacks fault name None untouched memory = memory refl
 
 module _ {W : Type 0} (outlet : W → Outlet) (old mid new : Writing W) (cause : Option Error) (result : Ended) (sound : (outlet old.sink).failed ≡ false) where
-  -- the output is mid behind what was listed
+  -- the output is mid after what was listed
   lacks_since : (fault : RunFault) (name : Option (List ℕ)) → ¬ IsWrite fault → StopsOutput outlet old mid fault →
       (cause ≡ None → (outlet mid.sink).failed ≡ false → fault ≡ Memory) → EndsByFault outlet mid new fault name cause None result → LacksMemory result.note
   lacks_since fault name other stops memory ends =

@@ -57,7 +57,7 @@ lists_loaded outlet old new base limits before after value all =
       takes = takes_whole outlet old new (IsListingOf base limits.budget all.given) all.done;
     }
 
--- what is printed of a front is printed of the bytes, where the reading stops behind it
+-- what is printed of a front is printed of the bytes, where the reading stops after it
 listed_front : (listing : Listing) (bytes given written rest : List ℕ) (failed : Bool) → bytes ≡ given ++ rest → StopsReading false listing given (record { left = Some rest; failed = failed }) →
     IsListed listing given written → IsListed listing bytes written
 listed_front listings.Show bytes given written rest failed split stops is =

@@ -22,8 +22,8 @@ const NO_HEX_TEXT: &str = "no hexadecimal text: two digits a byte are wanted, an
 /// What is said of the bytes that `--strip` left out.
 const OF_BLOCKS: &str = "bytes of NAME, SYMBOL, DEBUG and ADVISORY blocks";
 
-/// What is said of the bytes behind a load file.
-const BEHIND: &str = "bytes after the load file";
+/// What is said of the bytes after a load file.
+const AFTER: &str = "bytes after the load file";
 
 /// What a run says on standard error, to a person. It is displayed with its last line end.
 #[derive(Debug, Drop)]
@@ -161,14 +161,14 @@ fn write_left_out<W: fmt::Write>(
 {
     let name = name.as_str();
     if stripped == 0 {
-        return write!(f, "hunkinfo: {name}: left out: {rest} {BEHIND}\n");
+        return write!(f, "hunkinfo: {name}: left out: {rest} {AFTER}\n");
     }
     if rest == 0 {
         return write!(f, "hunkinfo: {name}: left out: {stripped} {OF_BLOCKS}\n");
     }
     write!(
         f,
-        "hunkinfo: {name}: left out: {stripped} {OF_BLOCKS}, {rest} {BEHIND}\n"
+        "hunkinfo: {name}: left out: {stripped} {OF_BLOCKS}, {rest} {AFTER}\n"
     )
 }
 

@@ -9,11 +9,11 @@ use Rattle.hunk_blocks.specs.{Faults.words, declared.phase.Phase.Phase}
 use Rattle.hunk_files.specs.{Fault.IsTruncated, Image.{image, images}, LoadFile.{HunkValue, LoadFileValue, IsLoadFile}}
 use Rattle.hunk_files.specs.{LoadText.{text, table}, FileSteps.{Progress, AtBlock, InBody, Next, More, Finished, Leads}}
 use Rattle.hunk_files.specs.{WordsRead.{HasRead, Labelled}, declared.row.Row.Row}
-use Rattle.hunk_files.specs.ReaderPosition.{position_of, IsBehindHeader}
+use Rattle.hunk_files.specs.ReaderPosition.{position_of, IsAfterHeader}
 use Rattle.hunk_grammar.specs.{Roles.Role, declared.phase.OpenHunk.OpenHunk, declared.position.Position.Position}
 use Rattle.hunk_grammar.specs.Positions.{is_done, least_longs, run}
 use Rattle.hunk_scatter.specs.{LoadOutcomes.GoesPastNoFile, Owing.{BytesToCome, FileOwes, run_of}}
-use Rattle.hunk_scatter.specs.{declared.store.BodyState.BodyState, StoreContent.HasSizedImage, BodyLoaderFields.{IsFed, StandsBehind}}
+use Rattle.hunk_scatter.specs.{declared.store.BodyState.BodyState, StoreContent.HasSizedImage, BodyLoaderFields.{IsFed, StandsAfter}}
 use Rattle.hunk_scatter.specs.declared.stream.Standing.{Standing}
 use Rattle.hunk_scatter.specs.LoaderValues.{IsWholeFile, IsImageOf, HasNoRefusal, segments_in}
 use Rattle.hunk_scatter.specs.{BodyReader.{sizes_of, state_of}, BodySteps.IsInStore, Rows.{words_of, bases_of}}
@@ -35,8 +35,8 @@ none_of None e = refl
 none_of (Some f) e = absurd cc
 
 -- A load text that another begins with is that one.
-none_behind : (u v : LoadFileValue) → IsLoadFile u → IsLoadFile v → (more : List ℕ) → text u ≡ text v ++ more → more ≡ []
-none_behind u v is in_front more e =
+none_after : (u v : LoadFileValue) → IsLoadFile u → IsLoadFile v → (more : List ℕ) → text u ≡ text v ++ more → more ≡ []
+none_after u v is in_front more e =
     let r = rest_read (text v) (Finished v) (text_read v in_front) (text u) (Finished u) (text_read u is) more e in
     go r.0 r.1 r.3
   where
@@ -50,7 +50,7 @@ cut_images bases (x ∷ v) h =
     ap₂ (λ (s : List ℕ) (ss : List (List ℕ)). s ∷ ss) (take_at (image bases x) (images bases v) (4 * size_longs x.entry.word) h.0)
     (ap (λ (s : List ℕ). segments_in (sizes_of (table v)) s) (drop_at (image bases x) (images bases v) (4 * size_longs x.entry.word) h.0) ∙ cut_images bases v h.1)
 
-state_position : (p : Progress) → IsBehindHeader (More p) → least_longs (state_of (More p)).position ≡ least_longs (position_of (More p))
+state_position : (p : Progress) → IsAfterHeader (More p) → least_longs (state_of (More p)).position ≡ least_longs (position_of (More p))
 state_position (AtBlock o) b = refl
 state_position (InBody o word x) b = refl
 state_position _ b = absurd cc
@@ -91,9 +91,9 @@ module _ (rows : List Row) (store : List ℕ) (s : Standing) (fed : List ℕ) (h
   abbrev pending : List ℕ
   pending = pending_of s.pending
 
-  -- Numbers and a store behind more bytes.
+  -- Numbers and a store after more bytes.
   pub fed_more : (store2 : List ℕ) (to : Standing) (bytes : List ℕ) → length store2 ≡ length store → to.fed ≡ saturated (length (fed ++ bytes)) →
-      StandsBehind rows store2 to.state (pending_of to.pending) (fed ++ bytes) → IsFed rows store2 to (fed ++ bytes)
+      StandsAfter rows store2 to.state (pending_of to.pending) (fed ++ bytes) → IsFed rows store2 to (fed ++ bytes)
   fed_more store2 to bytes same count r = search rules
 
   pub whole_file : is_done s.state.position ≡ true → IsWholeFile rows fed
@@ -113,15 +113,15 @@ module _ (rows : List Row) (store : List ℕ) (s : Standing) (fed : List ℕ) (h
   pub fed_clean : HasNoRefusal fed
   fed_clean = let r = h.stands in read_clean r.ws r.next pending fed r.read r.few r.spelled
 
-  -- Behind a header a hunk is open, or the file is whole.
+  -- After a header a hunk is open, or the file is whole.
   pub done_unless_open : ((hunk : OpenHunk) (phase : Phase) → s.state.position ≡ positions.Body hunk phase → ⊥) → is_done s.state.position ≡ true
   done_unless_open closed = search rules
 
   -- At the end nothing is to come.
   pub none_to_come : is_done s.state.position ≡ true → (p : ℕ) → BytesToCome fed p → p ≡ 0
-  none_to_come done p t = let r = h.stands in go r.next r.read r.behind r.state_is (words_same r.ws pending fed r.spelled r.few (read_longs r.ws r.next r.read) p t)
+  none_to_come done p t = let r = h.stands in go r.next r.read r.after r.state_is (words_same r.ws pending fed r.spelled r.few (read_longs r.ws r.next r.read) p t)
     where
-      go : (n : Next) → HasRead h.stands.ws n → IsBehindHeader n → state_of n ≡ s.state → (words t.done ≡ h.stands.ws) × (length t.pending ≡ length pending) → p ≡ 0
+      go : (n : Next) → HasRead h.stands.ws n → IsAfterHeader n → state_of n ≡ s.state → (words t.done ≡ h.stands.ws) × (length t.pending ≡ length pending) → p ≡ 0
       go (More q) read b e w = search rules
       go (Finished v) read b e w =
           let none_left : run_of t.more ≡ 0 = to_come h.stands.ws (Finished v) read t.value t.is_load_file t.done t.more t.labels w.0 in
@@ -168,7 +168,7 @@ module _ (rows : List Row) (store : List ℕ) (s : Standing) (fed : List ℕ) (h
         let most : run_of t.more ≤ least_longs (position_of (More gone.at)) = to_come_least gone.ws gone.at gone.read t.value t.is_load_file t.done t.more t.labels w.0 in
         omega (arith, t.count, w.1, most, here)
 
-  -- No byte is fed behind a load text.
+  -- No byte is fed after a load text.
   pub fed_within : GoesPastNoFile fed
   fed_within v more is e = go (is_done s.state.position) refl
     where
@@ -181,7 +181,7 @@ module _ (rows : List Row) (store : List ℕ) (s : Standing) (fed : List ℕ) (h
           ∙ sym (longs-bytes_of (text w.0) [] (text_longs w.0 w.1.is_load_file))
           ∙ ap longs (append-nil (bytes_of (text w.0)) ∙ w.1.bytes_are ∙ e)
           ∙ longs-bytes_of (text v) more (text_longs v is) in
-          let over : longs more ≡ [] = none_behind w.0 v w.1.is_load_file is (longs more) same in
+          let over : longs more ≡ [] = none_after w.0 v w.1.is_load_file is (longs more) same in
           none_over more
           (omega (
             arith,
@@ -201,7 +201,7 @@ module _ (rows : List Row) (store : List ℕ) (s : Standing) (fed : List ℕ) (h
   pub done_if_whole : IsWholeFile rows fed → is_done s.state.position ≡ true
   done_if_whole w = search (rules, not_whole)
 
-  at_least : (n : Next) → IsBehindHeader n → state_of n ≡ s.state → least_longs (position_of n) ≡ least_longs s.state.position
+  at_least : (n : Next) → IsAfterHeader n → state_of n ≡ s.state → least_longs (position_of n) ≡ least_longs s.state.position
   at_least (More (AtBlock o)) b e = ap (λ (x : BodyState). least_longs x.position) e
   at_least (More (InBody o word x)) b e = ap (λ (x : BodyState). least_longs x.position) e
   at_least (Finished v) b e = ap (λ (x : BodyState). least_longs x.position) e
@@ -219,7 +219,7 @@ module _ (rows : List Row) (store : List ℕ) (s : Standing) (fed : List ℕ) (h
     pub owes_file : FileOwes fed owed
     owes_file =
         let r = h.stands in
-        let e = file_ends r.ws r.next r.read r.behind in
+        let e = file_ends r.ws r.next r.read r.after in
         record {
           least = owes_least_bytes;
           value = e.value;
@@ -231,7 +231,7 @@ module _ (rows : List Row) (store : List ℕ) (s : Standing) (fed : List ℕ) (h
                 arith,
                 is,
                 e.count,
-                at_least r.next r.behind r.state_is,
+                at_least r.next r.after r.state_is,
                 r.few,
                 ap length r.spelled,
                 length-append (bytes_of r.ws) pending,

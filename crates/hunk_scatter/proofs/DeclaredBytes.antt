@@ -42,7 +42,7 @@ declared_front [] (suc i) = omega arith
 declared_front (r ∷ rows) (suc i) =
     omega (arith, declared-cons (row_entry r) (entries_of (take i rows)), declared-cons (row_entry r) (entries_of rows), declared_front rows i)
 
--- The segment of a hunk begins behind those before it.
+-- The segment of a hunk begins after those before it.
 pub cut_at : (rows : List Row) (store : List ℕ) (i : ℕ) (d : Row) → i < length rows →
     slice_get (segments_in (words_of rows) store) i ≡ Some (take (4 * size_longs (get_or rows i d).word) (drop (declared_bytes (entries_of (take i rows))) store))
 cut_at [] store i d h = absurd (omega arith)
@@ -61,19 +61,19 @@ segment_within rows i start size d h e f = omega (arith, e, f, declared_take row
 pub table_fits : (rows : List Row) → length rows ≤ 65536 → declared_bytes (entries_of rows) < 2 ^ 49
 table_fits rows few = omega (arith, declared_limit (entries_of rows), length-map rows row_entry)
 
--- the rows in front, and this many behind them
+-- the rows in front, and this many after them
 pub declared_range : (rows : List Row) (a n : ℕ) → declared_bytes (entries_of (take (a + n) rows)) ≡ declared_bytes (entries_of (take a rows)) + declared_bytes (entries_of (take n (drop a rows)))
 declared_range rows a n =
     ap (λ (xs : List Row). declared_bytes (entries_of xs)) (take-add a n rows)
     ∙ ap declared_bytes (map-append row_entry (take a rows) (take n (drop a rows)))
     ∙ declared-append (entries_of (take a rows)) (entries_of (take n (drop a rows)))
 
--- Where the next segments begin, behind this many rows more at most.
-pub next_rows : (rows rest front behind : List Row) (a b m n total more : ℕ) → rest ≡ drop a rows → m ≡ min n (length rest) → front ≡ take m rest → behind ≡ drop m rest → a + n ≡ b →
-    total ≡ declared_bytes (entries_of (take a rows)) → more ≡ declared_bytes (entries_of front) → (behind ≡ drop b rows) × (total + more ≡ declared_bytes (entries_of (take b rows)))
-next_rows rows rest front behind a b m n total more e f g h s t u =
+-- Where the next segments begin, after this many rows more at most.
+pub next_rows : (rows rest front after : List Row) (a b m n total more : ℕ) → rest ≡ drop a rows → m ≡ min n (length rest) → front ≡ take m rest → after ≡ drop m rest → a + n ≡ b →
+    total ≡ declared_bytes (entries_of (take a rows)) → more ≡ declared_bytes (entries_of front) → (after ≡ drop b rows) × (total + more ≡ declared_bytes (entries_of (take b rows)))
+next_rows rows rest front after a b m n total more e f g h s t u =
     let taken : front ≡ take n (drop a rows) = g ∙ ap (λ (k : ℕ). take k rest) f ∙ take_min n rest ∙ ap (λ (xs : List Row). take n xs) e in
-    let left : behind ≡ drop (a + n) rows = h ∙ ap (λ (k : ℕ). drop k rest) f ∙ drop_min n rest ∙ ap (λ (xs : List Row). drop n xs) e ∙ drop-drop n a rows in (
+    let left : after ≡ drop (a + n) rows = h ∙ ap (λ (k : ℕ). drop k rest) f ∙ drop_min n rest ∙ ap (λ (xs : List Row). drop n xs) e ∙ drop-drop n a rows in (
       left ∙ ap (λ (k : ℕ). drop k rows) s,
       omega (
         arith,

@@ -16,7 +16,7 @@ use Rattle.hunk_words.specs.declared.reason.Reason.TheVariants as reasons
 no_less : (m n : ℕ) → (m < n → ⊥) → n ≤ m
 no_less m n h = omega (arith, h)
 
--- the second front of a list is within the first, or goes on behind it
+-- the second front of a list is within the first, or goes on after it
 pub fronts_of : (xs cs ys bs : List ℕ) → xs ++ cs ≡ ys ++ bs → ((m : List ℕ) × (xs ≡ ys ++ m) × (m ++ cs ≡ bs)) ⊎ ((m : List ℕ) × (ys ≡ xs ++ m) × (cs ≡ m ++ bs))
 fronts_of [] cs ys bs e = inr (ys, refl, e)
 fronts_of (x ∷ xs) cs [] bs e = inl (x ∷ xs, refl, e)

@@ -8,12 +8,12 @@ use Rattle.hunk_grammar.specs.{Positions.{end_least, least_in, least_longs}, Rol
 use Rattle.hunk_grammar.specs.declared.phase.OpenHunk.{OpenHunk}
 use Rattle.hunk_files.specs.Fault.{completing}
 use Rattle.hunk_files.specs.FileSteps.{Progress, AtBlock, InBody, Next, More, Finished, role_of, step_file, Leads}
-use Rattle.hunk_files.specs.ReaderPosition.{IsBehindHeader, block_phase, open_of, position_of}
+use Rattle.hunk_files.specs.ReaderPosition.{IsAfterHeader, block_phase, open_of, position_of}
 use Rattle.hunk_files.specs.WordsRead.{HasRead, Labelled}
 use Rattle.hunk_files.specs.{LoadFile.{LoadFileValue, IsLoadFile}, LoadText.text}
 use Rattle.hunk_files.proofs.{Completion.{IsOwed, completes}, FileProgress.ProgressFits, Positions.step_position}
 use Rattle.hunk_files.proofs.Reading.{read_ended, reads, step_read}
-use Rattle.hunk_scatter.proofs.Forget.{step_behind}
+use Rattle.hunk_scatter.proofs.Forget.{step_after}
 
 -- ---- a longword that is owed takes one off
 
@@ -31,7 +31,7 @@ module _ (o : OpenHunk) where
   block_least [] w is = word_least o.has_content w refl is
   block_least (b ∷ blocks) w is = word_least o.has_content w refl is
 
-one_least : (p : Progress) (w : ℕ) → IsBehindHeader (More p) → ProgressFits p → w ≡ completing (role_of p) → least_longs (position_of (More p)) ≡ suc (least_longs (position_of (step_file p w)))
+one_least : (p : Progress) (w : ℕ) → IsAfterHeader (More p) → ProgressFits p → w ≡ completing (role_of p) → least_longs (position_of (More p)) ≡ suc (least_longs (position_of (step_file p w)))
 one_least (AtBlock o) w b f is = omega (arith, block_least (open_of o) o.blocks w is, ap least_longs (step_position (AtBlock o) w f))
 one_least (InBody o word x) w b f is = search rules
 one_least _ w b f is = absurd cc
@@ -55,7 +55,7 @@ one_more ws w n e = record {
   count = ap suc e.count;
 }
 
-run_ends : (n : Next) (ws : List ℕ) (ls : Labelled) (v : LoadFileValue) → HasRead ws n → IsBehindHeader n → AllByRecursion IsOwed ls → Leads n ls (Finished v) → EndsIn ws (least_longs (position_of n))
+run_ends : (n : Next) (ws : List ℕ) (ls : Labelled) (v : LoadFileValue) → HasRead ws n → IsAfterHeader n → AllByRecursion IsOwed ls → Leads n ls (Finished v) → EndsIn ws (least_longs (position_of n))
 run_ends (Finished u) ws [] v h b ok run =
     let e = read_ended ws u h in
     record { value = u; is_load_file = e.0; more = []; begins = e.1 ∙ sym (append-nil ws); count = refl }
@@ -63,9 +63,9 @@ run_ends (Finished u) ws (l ∷ ls) v h b ok run = absurd run
 run_ends (More p) ws [] v h b ok run = absurd cc
 run_ends (More p) ws (l ∷ ls) v h b ok run =
     let pass : refuse (role_of p) l.1 ≡ None = ap (λ (r : Role). refuse r l.1) run.0 ∙ ok.0.0.1 in
-    let rest = run_ends (step_file p l.1) (ws ++ l.1 ∷ []) ls v (step_read ws p l.1 h ok.0.0.0 pass) (step_behind p l.1 b) ok.1 run.1 in
+    let rest = run_ends (step_file p l.1) (ws ++ l.1 ∷ []) ls v (step_read ws p l.1 h ok.0.0.0 pass) (step_after p l.1 b) ok.1 run.1 in
     subst (EndsIn ws) (sym (one_least p l.1 b (reads h).0 (ok.0.1 ∙ ap completing (sym run.0)))) (one_more ws l.1 _ rest)
 
 -- What was read is the beginning of a load file that ends in the least number of longwords.
-pub file_ends : (ws : List ℕ) (n : Next) → HasRead ws n → IsBehindHeader n → EndsIn ws (least_longs (position_of n))
+pub file_ends : (ws : List ℕ) (n : Next) → HasRead ws n → IsAfterHeader n → EndsIn ws (least_longs (position_of n))
 file_ends ws n h b = let c = completes n (reads h).0 in run_ends n ws c.labels c.value h b c.accepted c.run

@@ -6,7 +6,7 @@ use Rattle.hunk_words.specs.Bits.{size_longs, kind}
 use Rattle.hunk_blocks.specs.{Values.BlockValue, BlockSteps.{BlockNext, Open, Whole, step_inside, begin_body}}
 use Rattle.hunk_files.specs.{Image.declared_bytes, LoadFile.{TableEntry, HunkValue, standing}, LoadText.table}
 use Rattle.hunk_files.specs.FileSteps.{hunk, block, HunkSoFar, Progress, AtBlock, InBody, Next, More, Finished, role_of, open_hunk, close_by, after, step_file}
-use Rattle.hunk_files.specs.ReaderPosition.{position_of, open_of, block_phase, open_longs, opened, open_table, table_of, IsBehindHeader}
+use Rattle.hunk_files.specs.ReaderPosition.{position_of, open_of, block_phase, open_longs, opened, open_table, table_of, IsAfterHeader}
 use Rattle.hunk_grammar.specs.{Standings.{BlockStanding, Ending}, Roles.refuse, declared.position.Position.Position}
 use Rattle.hunk_grammar.specs.Positions.{is_between_hunks, role_at}
 use Rattle.hunk_files.proofs.FileProgress.{ProgressFits}
@@ -86,7 +86,7 @@ module _ (o : HunkSoFar) where
     block_state q [] m = next_state q.finished _ (m ∙ opened_is) refl
     block_state q (b ∷ blocks) m = same_hunk q.finished q.entry _ (m.1 ∙ opened_is) (m.0 ∙ longs_is) refl
 
-    after_state : (n : Next) → IsBehindHeader n → Moves p n → state_of n ≡ move_to (sizes_of (open_table o)) (state_at o.finished (position_of n)) (position_of n)
+    after_state : (n : Next) → IsAfterHeader n → Moves p n → state_of n ≡ move_to (sizes_of (open_table o)) (state_at o.finished (position_of n)) (position_of n)
     after_state (More (AtBlock q)) b m = block_state q q.blocks m
     after_state (More (InBody q word x)) b m = same_hunk q.finished q.entry _ (m.1 ∙ opened_is) (m.0 ∙ longs_is) (inside_open x (open_of q))
     after_state (Finished v) b m = next_state v positions.Done (m ∙ opened_is) refl
@@ -96,7 +96,7 @@ module _ (o : HunkSoFar) where
 
 -- the table stays, and the header was read
 abbrev Keeps : List TableEntry → Next → Type 0
-Keeps table n = (table_of n ≡ table) × IsBehindHeader n
+Keeps table n = (table_of n ≡ table) × IsAfterHeader n
 
 open_keeps : (hunks : ℕ) (finished : List HunkValue) (x : HunkValue) (ahead : List TableEntry) →
     Keeps (table finished ++ x.entry ∷ ahead) (open_hunk hunks (finished ++ x ∷ []) ahead)
@@ -114,29 +114,29 @@ after_keeps o word (Whole body) = go (standing body)
     go Ending = open_keeps o.hunks o.finished (hunk o.entry (o.blocks ++ block word body ∷ [])) o.ahead
     go _ = (refl, refl)
 
-step_keeps : (p : Progress) (w : ℕ) → IsBehindHeader (More p) → Keeps (table_of (More p)) (step_file p w)
+step_keeps : (p : Progress) (w : ℕ) → IsAfterHeader (More p) → Keeps (table_of (More p)) (step_file p w)
 step_keeps (AtBlock o) w h = after_keeps o w (begin_body (kind w))
 step_keeps (InBody o word x) w h = after_keeps o word (step_inside x w)
 step_keeps _ w h = absurd cc
 
-pub step_table : (p : Progress) (w : ℕ) → IsBehindHeader (More p) → table_of (step_file p w) ≡ table_of (More p)
+pub step_table : (p : Progress) (w : ℕ) → IsAfterHeader (More p) → table_of (step_file p w) ≡ table_of (More p)
 step_table p w h = (step_keeps p w h).0
 
-pub step_behind : (p : Progress) (w : ℕ) → IsBehindHeader (More p) → IsBehindHeader (step_file p w)
-step_behind p w h = (step_keeps p w h).1
+pub step_after : (p : Progress) (w : ℕ) → IsAfterHeader (More p) → IsAfterHeader (step_file p w)
+step_after p w h = (step_keeps p w h).1
 
 -- A step of the reader is a step of the state.
-pub step_state : (p : Progress) (w : ℕ) → IsBehindHeader (More p) → ProgressFits p → state_of (step_file p w) ≡ step_body (sizes_of (table_of (More p))) (state_of (More p)) w
+pub step_state : (p : Progress) (w : ℕ) → IsAfterHeader (More p) → ProgressFits p → state_of (step_file p w) ≡ step_body (sizes_of (table_of (More p))) (state_of (More p)) w
 step_state (AtBlock o) w b f =
-    after_state o (AtBlock o) refl refl (step_file (AtBlock o) w) (step_behind (AtBlock o) w b) (step_moves (AtBlock o) w)
+    after_state o (AtBlock o) refl refl (step_file (AtBlock o) w) (step_after (AtBlock o) w b) (step_moves (AtBlock o) w)
     ∙ ap (λ (p : Position). move_to (sizes_of (open_table o)) (state_at o.finished p) p) (step_position (AtBlock o) w f)
 step_state (InBody o word x) w b f =
-    after_state o (InBody o word x) refl refl (step_file (InBody o word x) w) (step_behind (InBody o word x) w b) (step_moves (InBody o word x) w)
+    after_state o (InBody o word x) refl refl (step_file (InBody o word x) w) (step_after (InBody o word x) w b) (step_moves (InBody o word x) w)
     ∙ ap (λ (p : Position). move_to (sizes_of (open_table o)) (state_at o.finished p) p) (step_position (InBody o word x) w f)
 step_state _ w b f = absurd cc
 
 -- The state tells the refusal.
-pub refusal_same : (p : Progress) (w : ℕ) → IsBehindHeader (More p) → ProgressFits p → refuse (role_of p) w ≡ refusal (sizes_of (table_of (More p))) (state_of (More p)) w
+pub refusal_same : (p : Progress) (w : ℕ) → IsAfterHeader (More p) → ProgressFits p → refuse (role_of p) w ≡ refusal (sizes_of (table_of (More p))) (state_of (More p)) w
 refusal_same (AtBlock o) w b f = search rules
 refusal_same (InBody o word x) w b f =
     refuse_same (InBody o word x) w f ∙ ap (λ (n : ℕ). refuse (role_at n (position_of (More (InBody o word x)))) w) (sym (declared o))

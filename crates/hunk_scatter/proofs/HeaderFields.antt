@@ -9,7 +9,7 @@ use Rattle.hunk_files.specs.{declared.row.Row.Row, Fault.{IsTruncated, Expects},
 use Rattle.hunk_files.specs.LoadFile.{TableEntry}
 use Rattle.hunk_files.specs.FileSteps.{Progress, AtAttributes, More, Finished, open_hunk, Next}
 use Rattle.hunk_files.specs.{ReaderPosition.table_of, WordsRead.HasRead, Tables.row_entry}
-use Rattle.hunk_grammar.specs.{Roles.{refuse, Role as roles}, Positions.{role_at, step, is_behind_header, least_longs}}
+use Rattle.hunk_grammar.specs.{Roles.{refuse, Role as roles}, Positions.{role_at, step, is_after_header, least_longs}}
 use Rattle.hunk_files.proofs.Reading.{start_read, one_place}
 use Rattle.hunk_grammar.specs.declared.position.Position.TheVariants as positions
 use Rattle.hunk_scatter.specs.declared.header_state.HeaderState.{HeaderState}
@@ -17,7 +17,7 @@ use Rattle.hunk_scatter.specs.HeaderBytes.{IsHeaderTable, IsHeader, header_words
 use Rattle.hunk_scatter.specs.HeaderFaults.{ExceedsBudget}
 use Rattle.hunk_scatter.specs.HeaderLoaderFields.{adds, declares, declared_so_far, OpensFirst, StopsFor, HeaderReading, HeaderLoaderInvariant, DeclaredInvariant, HeaderStop, FeedsHeaderOrStops}
 use Rattle.hunk_scatter.specs.{LoaderValues.{HeaderLoaderValue, FeedsFront, HasNoRefusal}, Rows.{entries_of, row_of}}
-use Rattle.hunk_scatter.proofs.{Behind.{no_size_word, table_behind}, DeclaredBytes.declared_limit}
+use Rattle.hunk_scatter.proofs.{After.{no_size_word, table_after}, DeclaredBytes.declared_limit}
 use Rattle.hunk_scatter.proofs.{HeaderLeast.{header_owes, least_is, opens}, HeaderSteps.rows_total}
 use Rattle.hunk_scatter.proofs.{HeaderReads.word_read, HeaderStops.header_longs}
 use Rattle.hunk_scatter.proofs.HeaderTexts.{entries_most, header_read, header_done, rows_read, rows_few}
@@ -69,17 +69,17 @@ module _ (budget : ℕ) (rows : List Row) (s : HeaderState) (pending fed : List 
   heading_room few = search (rules, total_limit, declared_limit, length-map)
 
   -- where the header is whole
-  whole_next : is_behind_header s.position ≡ true → r.has_read.next ≡ open_hunk (length (entries_of rows)) [] (entries_of rows)
+  whole_next : is_after_header s.position ≡ true → r.has_read.next ≡ open_hunk (length (entries_of rows)) [] (entries_of rows)
   whole_next done = search rules
 
-  pub heading_table : is_behind_header s.position ≡ true → IsHeaderTable (entries_of rows) × (fed ≡ header_bytes (entries_of rows))
+  pub heading_table : is_after_header s.position ≡ true → IsHeaderTable (entries_of rows) × (fed ≡ header_bytes (entries_of rows))
   heading_table done =
       let d = header_done r.ws (entries_of rows) (subst (λ (n : Next). HasRead r.ws n) (whole_next done) r.has_read.read) in (
         d.0,
         r.spelled ∙ ap (λ (bs : List ℕ). bytes_of r.ws ++ bs) (r.whole done) ∙ append-nil (bytes_of r.ws) ∙ ap bytes_of d.1,
       )
 
-  pub heading_total : is_behind_header s.position ≡ true → s.total ≡ declared_bytes (entries_of rows)
+  pub heading_total : is_after_header s.position ≡ true → s.total ≡ declared_bytes (entries_of rows)
   heading_total done = r.has_read.total_is ∙ ap declared_so_far (whole_next done) ∙ rows_total (length (entries_of rows)) (entries_of rows) 0
 
   -- the longwords of a header that begins with what was fed
@@ -90,22 +90,22 @@ module _ (budget : ℕ) (rows : List Row) (s : HeaderState) (pending fed : List 
       ∙ ap longs (append-nil (header_bytes t) ∙ e ∙ ap (λ (bs : List ℕ). bs ++ more) r.spelled ∙ append_assoc (bytes_of r.ws) pending more)
       ∙ longs-bytes_of r.ws (pending ++ more) (read_longs r.ws _ r.has_read.read)
 
-  pub heading_not_whole : is_behind_header s.position ≡ false → IsHeader fed → ⊥
+  pub heading_not_whole : is_after_header s.position ≡ false → IsHeader fed → ⊥
   heading_not_whole more (t, is, e) =
       let same : header_words t ≡ r.ws =
       header_split t [] is (sym e ∙ sym (append-nil fed)) ∙ ap (λ (xs : List ℕ). r.ws ++ xs) (ap longs (append-nil pending) ∙ longs-few pending r.few) ∙ append-nil r.ws in
-      opens r.has_read.next t (ap is_behind_header r.has_read.position_is ∙ more) is
+      opens r.has_read.next t (ap is_after_header r.has_read.position_is ∙ more) is
       (one_place r.ws r.has_read.next (open_hunk (length t) [] t) r.has_read.read (subst (λ (xs : List ℕ). HasRead xs (open_hunk (length t) [] t)) same (header_read t is)))
 
   -- No header that begins with what was fed ends in fewer bytes.
-  pub heading_least : is_behind_header s.position ≡ false → (t : List TableEntry) (more : List ℕ) → IsHeaderTable t → header_bytes t ≡ fed ++ more → 4 * least_longs s.position ≤ length pending + length more
+  pub heading_least : is_after_header s.position ≡ false → (t : List TableEntry) (more : List ℕ) → IsHeaderTable t → header_bytes t ≡ fed ++ more → 4 * least_longs s.position ≤ length pending + length more
   heading_least going t more is e =
       let d = header_split t more is e in
       let owed = header_owes r.has_read.next r.ws r.has_read.read t is (longs (pending ++ more)) d in
       omega (
         arith,
         owed,
-        least_is r.has_read.next (ap is_behind_header r.has_read.position_is ∙ going),
+        least_is r.has_read.next (ap is_after_header r.has_read.position_is ∙ going),
         ap least_longs r.has_read.position_is,
         length-append pending more,
         length-longs (pending ++ more),
@@ -119,10 +119,10 @@ module _ (budget : ℕ) (rows : List Row) (s : HeaderState) (pending : List ℕ)
   pub heading_unrefused : refused ≡ None
   heading_unrefused = ap (λ (v : HeaderLoaderValue). v.refused) view ∙ reading
 
-  pub heading_seen_whole : is_behind_header s.position ≡ true → IsHeader self.fed
+  pub heading_seen_whole : is_after_header s.position ≡ true → IsHeader self.fed
   heading_seen_whole done = search (rules, heading_table, heading_unrefused)
 
-  pub heading_seen_not_whole : is_behind_header s.position ≡ false → IsHeader self.fed → ⊥
+  pub heading_seen_not_whole : is_after_header s.position ≡ false → IsHeader self.fed → ⊥
   heading_seen_not_whole more w = search (rules, heading_not_whole, heading_unrefused)
 
 -- Bytes are taken where the header is not whole.
@@ -147,7 +147,7 @@ piece_within budget rows s pending fed piece after n r le is all at p = go (ltb 
         ((m : List ℕ) × (header_words t ≡ p.before ++ p.word ∷ m)) ⊎ ((m : List ℕ) × (p.before ≡ header_words t ++ m)) → ⊥
     by_front t ok e (inl (m, d)) = within refl m (ap longs e ∙ header_spells t ok ∙ d)
     by_front t ok e (inr (m, d)) =
-        no_size_word (header_words t) m (open_hunk (length t) [] t) (header_read t ok) (table_behind t ok) (subst (λ (xs : List ℕ). Expects xs roles.SizeWord) d p.expects)
+        no_size_word (header_words t) m (open_hunk (length t) [] t) (header_read t ok) (table_after t ok) (subst (λ (xs : List ℕ). Expects xs roles.SizeWord) d p.expects)
 
     in_header : IsHeader after → ⊥
     in_header (t, ok, e) =
@@ -173,7 +173,7 @@ pub heading_new : (budget : ℕ) → HeaderLoaderInvariant budget [] (record { p
 heading_new budget = search (rules, bytes_of-nil, append-nil, start_read)
 
 module _ (budget : ℕ) (rows : List Row) (s : HeaderState) (pending : List ℕ) (count : ℕ) (refused : Option Fault) (fed : List ℕ)
-    (h : HeaderLoaderInvariant budget rows s pending count refused fed) (none : refused ≡ None) (more : is_behind_header s.position ≡ false) where
+    (h : HeaderLoaderInvariant budget rows s pending count refused fed) (none : refused ≡ None) (more : is_after_header s.position ≡ false) where
   now : HeaderReading budget rows s pending fed
   now = h.reading none
 
@@ -243,5 +243,5 @@ module _ (budget : ℕ) (rows : List Row) (s : HeaderState) (pending : List ℕ)
 
 -- A header that is whole is that of the table.
 pub table_declared : (budget : ℕ) (rows : List Row) (s : HeaderState) (pending : List ℕ) (count : ℕ) (refused : Option Fault) (fed : List ℕ) →
-    HeaderLoaderInvariant budget rows s pending count refused fed → refused ≡ None → is_behind_header s.position ≡ true → DeclaredInvariant rows s.total budget count fed
+    HeaderLoaderInvariant budget rows s pending count refused fed → refused ≡ None → is_after_header s.position ≡ true → DeclaredInvariant rows s.total budget count fed
 table_declared budget rows s pending count refused fed h none done = search (rules, heading_table, heading_total)

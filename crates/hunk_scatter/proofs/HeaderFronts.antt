@@ -4,14 +4,14 @@ use Rattle.std.specs.List.{flat_map}
 use Rattle.std.proofs.lemmas.List.{length-map, map-append}
 use Rattle.hunk_words.specs.{Bits.size_longs, Longs.{longs, bytes_of}, declared.reason.Reason.Reason}
 use Rattle.hunk_words.proofs.LongLaws.{bytes_of-append, longs-bytes_of}
-use Rattle.hunk_grammar.specs.{Positions.is_behind_header, Roles.{Role, Role as roles, refuse}}
+use Rattle.hunk_grammar.specs.{Positions.is_after_header, Roles.{Role, Role as roles, refuse}}
 use Rattle.hunk_blocks.proofs.FaultScan.{front_passes}
 use Rattle.hunk_blocks.specs.Faults.{words}
 use Rattle.hunk_files.specs.{Fault.{Expects, HasRefusal, load_files}, Image.declared_bytes}
 use Rattle.hunk_files.specs.LoadFile.{TableEntry, LoadFileValue, IsLoadFile}
 use Rattle.hunk_files.specs.LoadText.{labelled, header_labelled, hunk_labelled, table, text}
 use Rattle.hunk_files.specs.FileSteps.{Progress, AtSizeWord, Next, More, Finished, open_hunk, role_of, step_file, Leads}
-use Rattle.hunk_files.specs.ReaderPosition.{position_of, table_of, IsBehindHeader}
+use Rattle.hunk_files.specs.ReaderPosition.{position_of, table_of, IsAfterHeader}
 use Rattle.hunk_files.specs.WordsRead.{HasRead, Labelled, AreAccepted}
 use Rattle.hunk_files.proofs.{FileProgress.{ProgressFits, NextFits, step_keeps}, FileText.entries_fit}
 use Rattle.hunk_files.proofs.{Reading.{reads, rest_read}, Scan.{expected_place, load_reader, load_reads}}
@@ -19,17 +19,17 @@ use Rattle.hunk_scatter.specs.HeaderBytes.{IsHeaderTable, header_words, header_b
 use Rattle.hunk_scatter.specs.HeaderFaults.{IsWithinBudget, ExceedsBudget}
 use Rattle.hunk_scatter.specs.HeaderLoaderFields.{declares, declared_so_far, OpensFirst}
 use Rattle.hunk_scatter.specs.LoadOutcomes.{GoesPastNoHeader, GoesPastNoFile}
-use Rattle.hunk_scatter.proofs.{Behind.{table_behind, no_size_word}, Faults.longs-more, Feeding.fronts_of}
-use Rattle.hunk_scatter.proofs.Forget.{step_behind, step_table}
+use Rattle.hunk_scatter.proofs.{After.{table_after, no_size_word}, Faults.longs-more, Feeding.fronts_of}
+use Rattle.hunk_scatter.proofs.Forget.{step_after, step_table}
 use Rattle.hunk_scatter.proofs.HeaderSteps.{IsInHeader, step_opens, step_declares, rows_total}
 use Rattle.hunk_scatter.proofs.{HeaderStops.header_longs, HeaderTexts.{header_read, rows_read}, Splits.fronts}
 
 -- ---- one header
 
-behind_table : (n c : Next) → IsBehindHeader n → (ls : Labelled) → Leads n ls c → table_of c ≡ table_of n
-behind_table n c b [] run = ap table_of (sym run)
-behind_table (More q) c b (l ∷ ls) run = behind_table (step_file q l.1) c (step_behind q l.1 b) ls run.1 ∙ step_table q l.1 b
-behind_table (Finished v) c b (l ∷ ls) run = absurd run
+after_table : (n c : Next) → IsAfterHeader n → (ls : Labelled) → Leads n ls c → table_of c ≡ table_of n
+after_table n c b [] run = ap table_of (sym run)
+after_table (More q) c b (l ∷ ls) run = after_table (step_file q l.1) c (step_after q l.1 b) ls run.1 ∙ step_table q l.1 b
+after_table (Finished v) c b (l ∷ ls) run = absurd run
 
 opened : (t : List TableEntry) → IsHeaderTable t → table_of (open_hunk (length t) [] t) ≡ t
 opened [] is = absurd (let some = is.some in omega (arith, some))
@@ -38,7 +38,7 @@ opened (e ∷ t) is = refl
 longer : (t u : List TableEntry) (m : List ℕ) → IsHeaderTable t → IsHeaderTable u → header_words u ≡ header_words t ++ m → u ≡ t
 longer t u m is ok e =
     let r = rest_read (header_words t) (open_hunk (length t) [] t) (header_read t is) (header_words u) (open_hunk (length u) [] u) (header_read u ok) m e in
-    sym (opened u ok) ∙ behind_table (open_hunk (length t) [] t) (open_hunk (length u) [] u) (table_behind t is) r.0 r.1 ∙ opened t is
+    sym (opened u ok) ∙ after_table (open_hunk (length t) [] t) (open_hunk (length u) [] u) (table_after t is) r.0 r.1 ∙ opened t is
 
 -- Bytes begin with one header.
 pub one_table : (t u : List TableEntry) (xs ys : List ℕ) → IsHeaderTable t → IsHeaderTable u → header_bytes t ++ xs ≡ header_bytes u ++ ys → t ≡ u
@@ -92,18 +92,18 @@ module _ (t : List TableEntry) (is : IsHeaderTable t) where
       let less = rest (step_keeps p l.1 f ok.0.0 pass).0 (step_opens p l.1 e f) ok.1 run.1 in
       omega (arith, less, step_declares p l.1 e)
 
-  past_total : (p : Progress) (ls : Labelled) → OpensFirst (More p) → is_behind_header (position_of (More p)) ≡ true → Leads (More p) ls (open_hunk (length t) [] t) → declared_so_far (More p) ≤ declared_bytes t
+  past_total : (p : Progress) (ls : Labelled) → OpensFirst (More p) → is_after_header (position_of (More p)) ≡ true → Leads (More p) ls (open_hunk (length t) [] t) → declared_so_far (More p) ≤ declared_bytes t
   past_total p ls o e run =
       let table : ℕ = length (table_of (More p)) in
-      let same : table_of (More p) ≡ t = sym (behind_table (More p) (open_hunk (length t) [] t) e ls run) ∙ opened t is in
+      let same : table_of (More p) ≡ t = sym (after_table (More p) (open_hunk (length t) [] t) e ls run) ∙ opened t is in
       omega (arith, ap declared_so_far (o e), rows_total table (table_of (More p)) 0, ap declared_bytes same)
 
   run_total : (ls : Labelled) (n : Next) → TotalsTo n ls
   run_total [] n f o ok run = omega (arith, ap declared_so_far run, rows_total (length t) t 0)
   run_total (l ∷ ls) (Finished v) f o ok run = absurd run
-  run_total (l ∷ ls) (More p) f o ok run = go (run_total ls (step_file p l.1)) (is_behind_header (position_of (More p))) refl
+  run_total (l ∷ ls) (More p) f o ok run = go (run_total ls (step_file p l.1)) (is_after_header (position_of (More p))) refl
     where
-      go : TotalsTo (step_file p l.1) ls → (b : Bool) → is_behind_header (position_of (More p)) ≡ b → declared_so_far (More p) ≤ declared_bytes t
+      go : TotalsTo (step_file p l.1) ls → (b : Bool) → is_after_header (position_of (More p)) ≡ b → declared_so_far (More p) ≤ declared_bytes t
       go rest true e = past_total p (l ∷ ls) o e run
       go rest false e = let le = word_total p l ls rest f ok run e in omega (arith, le)
 
@@ -133,7 +133,7 @@ module _ (t : List TableEntry) (is : IsHeaderTable t) where
     where
       go : ((m : List ℕ) × (header_words t ≡ p.before ++ p.word ∷ m)) ⊎ ((m : List ℕ) × (p.before ≡ header_words t ++ m)) → ⊥
       go (inl (m, d)) = let fits = header_within p.before m p.word d p.expects in omega (arith, fits, le, p.passes)
-      go (inr (m, d)) = no_size_word (header_words t) m (open_hunk (length t) [] t) (header_read t is) (table_behind t is) (subst (λ (xs : List ℕ). Expects xs roles.SizeWord) d p.expects)
+      go (inr (m, d)) = no_size_word (header_words t) m (open_hunk (length t) [] t) (header_read t is) (table_after t is) (subst (λ (xs : List ℕ). Expects xs roles.SizeWord) d p.expects)
 
 -- What passes the budget does so as bytes follow.
 pub passes_more : (budget : ℕ) (bytes more : List ℕ) (at : ℕ) → ExceedsBudget budget bytes at → ExceedsBudget budget (bytes ++ more) at
@@ -150,7 +150,7 @@ passes_more budget bytes more at p =
       passes = p.passes;
     }
 
--- It does so in the front, or behind it.
+-- It does so in the front, or after it.
 pub passes_front : (budget : ℕ) (bytes more : List ℕ) (at : ℕ) → (p : ExceedsBudget budget (bytes ++ more) at) → ExceedsBudget budget bytes at ⊎ ((m : List ℕ) × (p.before ≡ longs bytes ++ m))
 passes_front budget bytes more at p = go (fronts p.before p.word p.after (longs bytes) r.0 (sym p.split ∙ r.1))
   where
@@ -161,7 +161,7 @@ passes_front budget bytes more at p = go (fronts p.before p.word p.after (longs 
     go (inl (m, d)) = inl (record { before = p.before; word = p.word; after = m; split = d; place = p.place; expects = p.expects; first = p.first; passes = p.passes })
     go (inr k) = inr k
 
--- No size word is expected behind a longword that is refused.
+-- No size word is expected after a longword that is refused.
 pub refused_front : (bytes : List ℕ) (at : ℕ) (reason : Reason) (m : List ℕ) → HasRefusal bytes at reason → Expects (longs bytes ++ m) roles.SizeWord → ⊥
 refused_front bytes at reason m h e =
     front_passes load_files load_reader load_reads (longs bytes) at reason h

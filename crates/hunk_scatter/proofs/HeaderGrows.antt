@@ -32,7 +32,7 @@ sized_in_table : (hunks : ℕ) (done : List TableEntry) (w owed : ℕ) (b : Bool
 sized_in_table hunks done w owed true = tt
 sized_in_table hunks done w owed false = rows_in_table hunks (done ++ table_entry w 0 ∷ []) owed
 
--- behind a longword that completes a row
+-- after a longword that completes a row
 pub row_in_table : (p : Progress) (w : ℕ) → 0 < length (adds (position_of (More p)) w) → IsInTable (step_file p w)
 row_in_table (AtSizeWord hunks done owed) w some = sized_in_table hunks done w owed (has_both_bits w)
 row_in_table (AtAttributes hunks done word owed) w some = rows_in_table hunks (done ++ table_entry word w ∷ []) owed
@@ -47,7 +47,7 @@ record GoesOn (ws : List ℕ) : Type 0 where
 abbrev GoOn : List ℕ → Next → List ℕ → Type 0
 GoOn xs n ws = IsInTable n → HasRead ws n → OpensFirst n → length xs ≤ header_least n → GoesOn (ws ++ xs)
 
--- behind one longword
+-- after one longword
 further : (x : ℕ) (xs : List ℕ) → IsLong x → (p : Progress) (ws : List ℕ) → GoOn xs (step_file p x) (ws ++ x ∷ []) → IsInHeader p → IsInTable (step_file p x) → refuse (role_of p) x ≡ None →
     HasRead ws (More p) → length (x ∷ xs) ≤ header_least (More p) → GoesOn (ws ++ x ∷ xs)
 further x xs l p ws rest e i pass h le =
@@ -102,7 +102,7 @@ padded zs h =
     empty [] e = refl
     empty (b ∷ bs) e = absurd (omega (arith, e))
 
--- Behind a row a header has whatever bytes follow, as far as headers go on.
+-- After a row a header has whatever bytes follow, as far as headers go on.
 pub table_grows : (n : Next) (ws more : List ℕ) → IsInTable n → HasRead ws n → OpensFirst n → IsBytes more →
     ((t : List TableEntry) (k : List ℕ) → IsHeaderTable t → header_bytes t ≡ bytes_of ws ++ k → length more ≤ length k) → IsHeaderFront (bytes_of ws ++ more)
 table_grows n ws more i h o fit fits =

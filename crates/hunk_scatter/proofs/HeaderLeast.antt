@@ -3,7 +3,7 @@ use Rattle.std.proofs.Common.{◌≡◌, ℕ, zero, suc, ◌+◌, ◌-◌, ◌�
 use Rattle.std.proofs.lemmas.List.{length-map}
 use Rattle.hunk_words.specs.Bits.{has_both_bits}
 use Rattle.hunk_blocks.proofs.Lists.{more_owed}
-use Rattle.hunk_grammar.specs.{Positions.{is_behind_header, least_longs}, Roles.{Role, refuse}}
+use Rattle.hunk_grammar.specs.{Positions.{is_after_header, least_longs}, Roles.{Role, refuse}}
 use Rattle.hunk_files.specs.LoadFile.{TableEntry}
 use Rattle.hunk_files.specs.FileSteps.{table_entry, Progress, AtFirst, AtResident, AtTableSize, AtFirstHunk, AtLastHunk, AtSizeWord, AtAttributes, AtBlock, InBody, Next, More, Finished, role_of, open_hunk, rows, sized_row, step_file, Leads}
 use Rattle.hunk_files.specs.{ReaderPosition.{position_of, table_of}, WordsRead.{HasRead, Labelled, AreAccepted}}
@@ -19,7 +19,7 @@ header_least (Finished v) = 0
 header_least n = least_longs (position_of n)
 
 -- The position tells it.
-pub least_is : (n : Next) → is_behind_header (position_of n) ≡ false → header_least n ≡ least_longs (position_of n)
+pub least_is : (n : Next) → is_after_header (position_of n) ≡ false → header_least n ≡ least_longs (position_of n)
 least_is (More (AtBlock o)) e = absurd cc
 least_is (More (InBody o word x)) e = absurd cc
 least_is (Finished v) e = absurd cc
@@ -66,9 +66,9 @@ header_owes n ws h t is more e =
     omega (arith, run_least n (open_hunk (length t) [] t) r.0 (reads h).0 r.2 r.1 (open_least t), length-map r.0 (λ (x : Role × ℕ). x.1), ap length r.3)
 
 -- the first hunk of a table is not within its header
-pub opens : (n : Next) (t : List TableEntry) → is_behind_header (position_of n) ≡ false → IsHeaderTable t → n ≡ open_hunk (length t) [] t → ⊥
+pub opens : (n : Next) (t : List TableEntry) → is_after_header (position_of n) ≡ false → IsHeaderTable t → n ≡ open_hunk (length t) [] t → ⊥
 opens n [] e is same = let some = is.some in omega (arith, some)
-opens n (x ∷ t) e is same = let clash : true ≡ false = ap (λ (m : Next). is_behind_header (position_of m)) (sym same) ∙ e in cc
+opens n (x ∷ t) e is same = let clash : true ≡ false = ap (λ (m : Next). is_after_header (position_of m)) (sym same) ∙ e in cc
 
 -- ---- and just so soon
 

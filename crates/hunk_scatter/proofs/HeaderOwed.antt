@@ -2,7 +2,7 @@
 use Rattle.std.proofs.Common.{◌≡◌, ℕ, ◌+◌, ◌*◌, ◌%◌, ◌<◌, ◌≤◌, Bool, true, false, List, ◌++◌, length, get_or, refl, sym, ap, subst, ◌∙◌, arith, length-append}
 use Rattle.hunk_words.specs.Longs.{bytes_of, longs}
 use Rattle.hunk_words.proofs.LongLaws.{length-bytes_of}
-use Rattle.hunk_grammar.specs.{Positions.{is_behind_header, least_longs}, declared.position.Position.Position}
+use Rattle.hunk_grammar.specs.{Positions.{is_after_header, least_longs}, declared.position.Position.Position}
 use Rattle.hunk_grammar.specs.declared.position.Position.TheVariants as positions
 use Rattle.hunk_blocks.specs.Faults.{words}
 use Rattle.hunk_files.specs.FileSteps.{AtSizeWord, AtAttributes, AtBlock, InBody, Next, More, Finished}
@@ -15,7 +15,7 @@ use Rattle.hunk_scatter.proofs.{HeaderFields.heading_least, HeaderLeast.{header_
 use Rattle.hunk_scatter.proofs.{HeaderTexts.{header_done, rows_read}, Outcomes.longs_are}
 
 -- the hunks declared are rows that are whole, and longwords that are owed
-hunks_declared : (n : Next) → NextFits n → is_behind_header (position_of n) ≡ false → get_or (words (read n)) 2 0 ≤ length (table_of n) + header_least n
+hunks_declared : (n : Next) → NextFits n → is_after_header (position_of n) ≡ false → get_or (words (read n)) 2 0 ≤ length (table_of n) + header_least n
 hunks_declared (More (AtSizeWord hunks done owed)) f e = omega (arith, f.counts)
 hunks_declared (More (AtAttributes hunks done word owed)) f e = omega (arith, f.0.counts)
 hunks_declared (More (AtBlock p)) f e = absurd cc
@@ -25,9 +25,9 @@ hunks_declared _ f e = omega arith
 
 -- Each row owed is a longword owed.
 rows_least : (n : Next) (ws : List ℕ) → HasRead ws n → OpensFirst n → rows_owed ws ≤ header_least n
-rows_least n ws h o = by_end (is_behind_header (position_of n)) refl
+rows_least n ws h o = by_end (is_after_header (position_of n)) refl
   where
-    by_end : (b : Bool) → is_behind_header (position_of n) ≡ b → rows_owed ws ≤ header_least n
+    by_end : (b : Bool) → is_after_header (position_of n) ≡ b → rows_owed ws ≤ header_least n
     by_end true e =
         let d = header_done ws (table_of n) (subst (λ (m : Next). HasRead ws m) (o e) h) in
         omega (arith, ap (λ (xs : List ℕ). get_or xs 2 0) d.1, ap length (rows_read n ws h o))
@@ -39,15 +39,15 @@ rows_least n ws h o = by_end (is_behind_header (position_of n)) refl
           ap length (rows_read n ws h o),
         )
 
--- Behind the header no longword of it is owed.
-none_owed : (n : Next) → is_behind_header (position_of n) ≡ true → header_least n ≡ 0
+-- After the header no longword of it is owed.
+none_owed : (n : Next) → is_after_header (position_of n) ≡ true → header_least n ≡ 0
 none_owed (More (AtBlock p)) e = refl
 none_owed (More (InBody p word x)) e = refl
 none_owed (Finished v) e = refl
 none_owed _ e = absurd cc
 
 -- A longword of a header that is not whole is owed.
-pub least_some : (p : Position) → is_behind_header p ≡ false → 0 < least_longs p
+pub least_some : (p : Position) → is_after_header p ≡ false → 0 < least_longs p
 least_some (positions.Body o phase) e = absurd cc
 least_some positions.Done e = absurd cc
 least_some _ e = omega arith
@@ -70,7 +70,7 @@ module _ (budget : ℕ) (rows : List Row) (s : HeaderState) (pending fed : List 
       let fits = h.least e.table e.more e.is_table (e.begins ∙ ap (λ (ws : List ℕ). ws ++ e.more) (sym words_are)) in
       omega (arith, fits, e.count)
 
-  module _ (p : ℕ) (more : is_behind_header s.position ≡ false) where
+  module _ (p : ℕ) (more : is_after_header s.position ≡ false) where
     bytes_least : (owed : ℕ) → owed ≤ header_least r.has_read.next → p + length fed % 4 ≡ 4 * owed → p + length pending ≤ 4 * least_longs s.position
     bytes_least owed least count =
         omega (
@@ -78,7 +78,7 @@ module _ (budget : ℕ) (rows : List Row) (s : HeaderState) (pending fed : List 
           least,
           count,
           pending_is,
-          least_is r.has_read.next (ap is_behind_header r.has_read.position_is ∙ more),
+          least_is r.has_read.next (ap is_after_header r.has_read.position_is ∙ more),
           ap least_longs r.has_read.position_is,
         )
 
@@ -89,9 +89,9 @@ module _ (budget : ℕ) (rows : List Row) (s : HeaderState) (pending fed : List 
     pub header_to_come : HasHeaderToCome fed p → p + length pending ≤ 4 * least_longs s.position
     header_to_come h = bytes_least h.owed (owed_least p h) h.count
 
-  module _ (p : ℕ) (done : is_behind_header s.position ≡ true) where
+  module _ (p : ℕ) (done : is_after_header s.position ≡ true) where
     none_least : header_least r.has_read.next ≡ 0
-    none_least = none_owed r.has_read.next (ap is_behind_header r.has_read.position_is ∙ done)
+    none_least = none_owed r.has_read.next (ap is_after_header r.has_read.position_is ∙ done)
 
     -- At the end nothing is.
     pub no_rows_to_come : HasRowsToCome fed p → p ≡ 0
@@ -101,12 +101,12 @@ module _ (budget : ℕ) (rows : List Row) (s : HeaderState) (pending fed : List 
     no_header_to_come h = omega (arith, h.count, owed_least p h, none_least)
 
   -- And no more is owed.
-  module _ (owed : ℕ) (more : is_behind_header s.position ≡ false) (is : owed + length pending ≡ 4 * least_longs s.position) where
+  module _ (owed : ℕ) (more : is_after_header s.position ≡ false) (is : owed + length pending ≡ 4 * least_longs s.position) where
     pub owes_header : HeaderOwes fed owed
     owes_header =
         let e = header_ends r.has_read.next r.ws r.has_read.read r.has_read.opens_first in
         let least : header_least r.has_read.next ≡ least_longs s.position =
-        least_is r.has_read.next (ap is_behind_header r.has_read.position_is ∙ more) ∙ ap least_longs r.has_read.position_is in
+        least_is r.has_read.next (ap is_after_header r.has_read.position_is ∙ more) ∙ ap least_longs r.has_read.position_is in
         record {
           some = omega (arith, is, r.few, least_some s.position more);
           least = λ t rest is_table split. omega (arith, is, heading_least budget rows s pending fed r more t rest is_table split);

@@ -2,7 +2,7 @@
 use Rattle.std.proofs.Common.{◌≡◌, ℕ, ◌+◌, ◌*◌, ◌≤◌, false, List, [], ◌∷◌, ◌++◌, map, refl, sym, ap, ap₂, subst, ◌∙◌, arith, None}
 use Rattle.std.proofs.lemmas.List.{map-append}
 use Rattle.hunk_words.specs.{Bits.size_longs, Longs.IsLong}
-use Rattle.hunk_grammar.specs.{declared.position.Position.Position, Positions.{role_at, is_behind_header}}
+use Rattle.hunk_grammar.specs.{declared.position.Position.Position, Positions.{role_at, is_after_header}}
 use Rattle.hunk_grammar.specs.Roles.{Role as roles, refuse}
 use Rattle.hunk_grammar.specs.Positions as scan
 use Rattle.hunk_files.specs.{declared.row.Row.Row, Fault.Expects, Image.declared_bytes, LoadFile.TableEntry}
@@ -13,9 +13,9 @@ use Rattle.hunk_scatter.specs.{declared.header_state.HeaderState.HeaderState, He
 use Rattle.hunk_scatter.specs.HeaderFaults.{IsWithinBudget}
 use Rattle.hunk_scatter.specs.HeaderLoaderFields.{adds, declares, declared_so_far, HasReadHeader}
 use Rattle.hunk_scatter.specs.Rows.{entries_of, row_of}
-use Rattle.hunk_scatter.proofs.Behind.{role_here}
+use Rattle.hunk_scatter.proofs.After.{role_here}
 use Rattle.hunk_scatter.proofs.HeaderSteps.{IsInHeader, refusal_here, size_word, step_adds, step_declares, step_opens}
-use Rattle.hunk_scatter.proofs.{HeaderTexts.rows_read, Splits.{Cuts, Same, Before, Behind, cuts, not_before}}
+use Rattle.hunk_scatter.proofs.{HeaderTexts.rows_read, Splits.{Cuts, Same, Before, After, cuts, not_before}}
 
 -- ---- rows
 
@@ -32,14 +32,14 @@ unplaced_more rows more e =
 
 -- ---- the size words
 
-module _ (budget : ℕ) (rows : List Row) (s : HeaderState) (ws : List ℕ) (h : HasReadHeader budget rows s ws) (more : is_behind_header s.position ≡ false) where
+module _ (budget : ℕ) (rows : List Row) (s : HeaderState) (ws : List ℕ) (h : HasReadHeader budget rows s ws) (more : is_after_header s.position ≡ false) where
   -- the reader goes on here
-  goes_on : (n : Next) → is_behind_header (position_of n) ≡ false → (p : Progress) × (n ≡ More p)
+  goes_on : (n : Next) → is_after_header (position_of n) ≡ false → (p : Progress) × (n ≡ More p)
   goes_on (More p) e = (p, refl)
   goes_on (Finished v) e = absurd cc
 
   at : (p : Progress) × (h.next ≡ More p)
-  at = goes_on h.next (ap is_behind_header h.position_is ∙ more)
+  at = goes_on h.next (ap is_after_header h.position_is ∙ more)
 
   pub here : Progress
   here = at.0
@@ -53,7 +53,7 @@ module _ (budget : ℕ) (rows : List Row) (s : HeaderState) (ws : List ℕ) (h :
   position_here = ap position_of (sym at.1) ∙ h.position_is
 
   pub in_header : IsInHeader here
-  in_header = ap is_behind_header position_here ∙ more
+  in_header = ap is_after_header position_here ∙ more
 
   table_here : table_of (More here) ≡ entries_of rows
   unfolding here
@@ -86,7 +86,7 @@ module _ (budget : ℕ) (rows : List Row) (s : HeaderState) (ws : List ℕ) (h :
             let front = ap (λ (xs : List ℕ). declared_bytes (entries_so_far xs)) p in
             omega (arith, within, k.0, k.1, size, front)
         go (Before m p) = absurd (not_before ws w before word after m e p)
-        go (Behind m p) = h.none_passes before m word p x
+        go (After m p) = h.none_passes before m word p x
 
     -- A longword that passes.
     pub word_read : IsLong w → refuse (role_at 0 s.position) w ≡ None →

@@ -9,7 +9,7 @@ use Rattle.hunk_words.proofs.LongLaws.{bytes_of-append, in_place, longs-bytes_of
 use Rattle.hunk_files.specs.{Fault.{HasRefusal, IsTruncated, is_word_refusal}, Image.declared_bytes}
 use Rattle.hunk_files.specs.{LoadFile.TableEntry, declared.row.Row.Row}
 use Rattle.hunk_grammar.specs.declared.position.Position.TheVariants as positions
-use Rattle.hunk_grammar.specs.{Positions.{role_at, step, is_behind_header, least_longs}, Roles.refuse}
+use Rattle.hunk_grammar.specs.{Positions.{role_at, step, is_after_header, least_longs}, Roles.refuse}
 use Rattle.hunk_scatter.specs.declared.header_state.HeaderState.{HeaderState}
 use Rattle.hunk_scatter.specs.HeaderBytes.{IsHeaderTable, header_bytes, header_words}
 use Rattle.hunk_scatter.specs.HeaderLoaderFields.{adds, declares, RefusesWord, HeaderReading, HeaderLoaderInvariant, HeaderStop}
@@ -39,18 +39,18 @@ module _ (budget : ℕ) (bytes : List ℕ) (s : HeaderState) (at : ℕ) (h : Hea
   fours = omega (arith, h.read.counted, ap length so_far.spelled, length-append (bytes_of so_far.ws) [], length-bytes_of so_far.ws)
 
   -- The header is whole.
-  pub header_whole : is_behind_header s.position ≡ true → IsHeaderTable (entries_of h.rows) × (bytes ≡ header_bytes (entries_of h.rows) ++ drop at bytes)
+  pub header_whole : is_after_header s.position ≡ true → IsHeaderTable (entries_of h.rows) × (bytes ≡ header_bytes (entries_of h.rows) ++ drop at bytes)
   header_whole done =
       let t = heading_table budget h.rows s [] (take at bytes) so_far done in
       (t.0, sym (take-append-drop at bytes) ∙ ap (λ (xs : List ℕ). xs ++ drop at bytes) t.1)
 
-  pub header_total : is_behind_header s.position ≡ true → s.total ≡ declared_bytes (entries_of h.rows)
+  pub header_total : is_after_header s.position ≡ true → s.total ≡ declared_bytes (entries_of h.rows)
   header_total done = heading_total budget h.rows s [] (take at bytes) so_far done
 
-  pub header_end : is_behind_header s.position ≡ true → at ≡ length (header_bytes (entries_of h.rows))
+  pub header_end : is_after_header s.position ≡ true → at ≡ length (header_bytes (entries_of h.rows))
   header_end done = h.read.counted ∙ ap length (heading_table budget h.rows s [] (take at bytes) so_far done).1
 
-  module _ (more : is_behind_header s.position ≡ false) where
+  module _ (more : is_after_header s.position ≡ false) where
     -- The bytes end inside the next longword.
     pub header_cut : length (drop at bytes) < 4 → IsTruncated bytes at
     header_cut few =
@@ -167,7 +167,7 @@ module _ (budget : ℕ) (bytes : List ℕ) (s : HeaderState) (at : ℕ) (h : Hea
       word_owes reason (inr o) = subst (λ (x : Reason). TellsOwed bytes x 0) (sym o.reason_is) refl
       word_owes reason (inl r) = search rules
 
--- The number of hunks stands behind the first two longwords.
+-- The number of hunks stands after the first two longwords.
 pub hunks_in : (bytes : List ℕ) (t : List TableEntry) (rest : List ℕ) → IsHeaderTable t → bytes ≡ header_bytes t ++ rest → (get_or (longs bytes) 2 0 ≡ length t) × (12 ≤ length bytes)
 hunks_in bytes t rest is e =
     let split : longs bytes ≡ header_words t ++ longs rest = ap longs e ∙ longs-bytes_of (header_words t) rest (header_longs t is) in

@@ -1,11 +1,11 @@
--- A longword of a header: what it adds to the table and to the declared bytes, and that the first hunk opens behind the last.
+-- A longword of a header: what it adds to the table and to the declared bytes, and that the first hunk opens after the last.
 use Rattle.std.proofs.Common.{◌≡◌, ℕ, zero, suc, ◌+◌, ◌*◌, ◌≤◌, ◌<◌, Bool, true, false, cond, List, [], ◌∷◌, ◌++◌, length, refl, sym, ap, ◌∙◌, append-nil, arith}
 use Rattle.hunk_words.specs.Bits.{has_both_bits, size_longs}
 use Rattle.hunk_blocks.proofs.Lists.{more_owed}
-use Rattle.hunk_grammar.specs.{Roles.{Role as roles, refuse}, Positions.{role_at, is_behind_header}}
+use Rattle.hunk_grammar.specs.{Roles.{Role as roles, refuse}, Positions.{role_at, is_after_header}}
 use Rattle.hunk_files.specs.{Image.declared_bytes, LoadFile.TableEntry}
 use Rattle.hunk_files.specs.FileSteps.{table_entry, Progress, AtLastHunk, AtSizeWord, AtAttributes, AtBlock, InBody, More, role_of, rows, sized_row, step_file}
-use Rattle.hunk_files.specs.ReaderPosition.{position_of, open_longs, table_of, IsBehindHeader}
+use Rattle.hunk_files.specs.ReaderPosition.{position_of, open_longs, table_of, IsAfterHeader}
 use Rattle.hunk_files.proofs.{FileProgress.ProgressFits, Positions.refuse_same}
 use Rattle.hunk_scatter.specs.HeaderLoaderFields.{adds, declares, declared_so_far, OpensFirst}
 use Rattle.hunk_scatter.proofs.DeclaredBytes.{declared-append, declared-one}
@@ -13,9 +13,9 @@ use Rattle.hunk_scatter.proofs.DeclaredBytes.{declared-append, declared-one}
 -- ---- what is in the header
 
 abbrev pub IsInHeader : Progress → Type 0
-IsInHeader p = is_behind_header (position_of (More p)) ≡ false
+IsInHeader p = is_after_header (position_of (More p)) ≡ false
 
-pub not_in_body : (p : Progress) → IsInHeader p → IsBehindHeader (More p) → ⊥
+pub not_in_body : (p : Progress) → IsInHeader p → IsAfterHeader (More p) → ⊥
 not_in_body p e b = let clash : false ≡ true = sym e ∙ b in cc
 
 -- no hunk is open
@@ -92,7 +92,7 @@ sized_open : (hunks : ℕ) (done : List TableEntry) (w owed : ℕ) (b : Bool) �
 sized_open hunks done w owed true e b = absurd cc
 sized_open hunks done w owed false e b = rows_open hunks (done ++ table_entry w 0 ∷ []) owed (more_owed done (table_entry w 0) owed ∙ e) b
 
--- Behind the last longword the first hunk opens.
+-- After the last longword the first hunk opens.
 pub step_opens : (p : Progress) (w : ℕ) → IsInHeader p → ProgressFits p → OpensFirst (step_file p w)
 step_opens (AtLastHunk hunks) w e f = rows_open hunks [] hunks (omega arith)
 step_opens (AtSizeWord hunks done owed) w e f = sized_open hunks done w owed (has_both_bits w) f.counts

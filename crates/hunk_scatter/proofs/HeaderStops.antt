@@ -10,7 +10,7 @@ use Rattle.hunk_blocks.proofs.Lists.{All-more}
 use Rattle.hunk_files.specs.{Fault.{Expects, HasRefusal, is_word_refusal}, Image.declared_bytes, LoadFile.TableEntry}
 use Rattle.hunk_files.specs.{LoadText.header_labelled, FileSteps.{Progress, More, open_hunk, role_of, step_file}}
 use Rattle.hunk_files.specs.{ReaderPosition.{position_of, table_of}, WordsRead.HasRead}
-use Rattle.hunk_grammar.specs.{Roles.{Role, Role as roles, refuse}, Positions.{role_at, is_behind_header}}
+use Rattle.hunk_grammar.specs.{Roles.{Role, Role as roles, refuse}, Positions.{role_at, is_after_header}}
 use Rattle.hunk_grammar.specs.declared.position.Position.{Position}
 use Rattle.hunk_grammar.specs.declared.file_kind.Sniff.TheVariants as sniffs
 use Rattle.hunk_files.specs.FileParts.{IsPartAt}
@@ -20,12 +20,12 @@ use Rattle.hunk_files.proofs.{Refusals.refusal_of_word, Scan.expects_of}
 use Rattle.hunk_scatter.specs.HeaderBytes.{IsHeaderTable, header_words, header_bytes, IsHeaderFront, MayGoOnInHeader, entries_so_far}
 use Rattle.hunk_scatter.specs.HeaderFaults.{ExceedsBudget, IsOverBudget, IsBudgetOrMemory, IsHeaderFaultBy, IsHeaderFault}
 use Rattle.hunk_scatter.specs.HeaderLoaderFields.{adds, declares, StopsFor, HeaderStop, StopsInPiece}
-use Rattle.hunk_scatter.proofs.Behind.{stays_behind, table_behind, expected_passes, header_passes, role_here}
+use Rattle.hunk_scatter.proofs.After.{stays_after, table_after, expected_passes, header_passes, role_here}
 use Rattle.hunk_scatter.proofs.HeaderGrows.{row_in_table, table_grows}
 use Rattle.hunk_scatter.proofs.HeaderReads.{here, read_here, position_here, refusal_is, sum_here}
 use Rattle.hunk_scatter.proofs.HeaderSteps.{IsInHeader, not_in_body, declares_some, step_adds, step_opens}
-use Rattle.hunk_scatter.proofs.PartLaws.{part_behind, part_in_header}
-use Rattle.hunk_scatter.proofs.Splits.{Cuts, Same, Before, Behind, cuts, fronts}
+use Rattle.hunk_scatter.proofs.PartLaws.{part_after, part_in_header}
+use Rattle.hunk_scatter.proofs.Splits.{Cuts, Same, Before, After, cuts, fronts}
 use Rattle.hunk_scatter.proofs.{HeaderTexts.{header_read, rows_read}, ReadWords.{read_longs, accepted_longs}}
 
 -- the fault of a reason that is neither Budget nor OutOfMemory
@@ -57,7 +57,7 @@ module _ (budget : ℕ) (bytes rest : List ℕ) (f : Fault) (s : HeaderStop budg
   position_at = position_here budget s.rows s.state s.ws s.has_read s.goes_on
 
   header_at : IsInHeader at
-  header_at = ap is_behind_header position_at ∙ s.goes_on
+  header_at = ap is_after_header position_at ∙ s.goes_on
 
   refusal_at : (w : ℕ) → refuse (role_of at) w ≡ refuse (role_at 0 s.state.position) w
   unfolding at
@@ -120,7 +120,7 @@ module _ (budget : ℕ) (bytes rest : List ℕ) (f : Fault) (s : HeaderStop budg
   -- It is in the header.
   pub stop_in_header : IsPartAt sniffs.Load (bytes ++ rest) f.place parts.Header
   stop_in_header =
-      part_behind s.ws (s.word ∷ longs rest) (bytes ++ rest) at f.place parts.Header read_at spells (omega (arith, s.place))
+      part_after s.ws (s.word ∷ longs rest) (bytes ++ rest) at f.place parts.Header read_at spells (omega (arith, s.place))
       (part_in_header at header_at)
 
   -- It ends the bytes.
@@ -154,7 +154,7 @@ module _ (budget : ℕ) (bytes rest : List ℕ) (f : Fault) (s : HeaderStop budg
           absurd (omega (arith, le, o.passes, k.0, k.1))
       by_cut (Before m e) (inr l) =
           inr (l.reason_is, omega (arith, s.place, p.place, ap length e, length-append s.ws (s.word ∷ m)))
-      by_cut (Behind m e) why =
+      by_cut (After m e) why =
           let le = s.has_read.none_passes p.before m p.word e p.expects in
           absurd (omega (arith, le, p.passes))
 
@@ -174,19 +174,19 @@ module _ (budget : ℕ) (bytes rest : List ℕ) (f : Fault) (s : HeaderStop budg
           ∙ longs-bytes_of (s.ws ++ s.word ∷ []) (rest ++ m.more) before_longs
           ∙ append_assoc s.ws (s.word ∷ []) (longs (rest ++ m.more))
 
-      behind_text : bytes ++ rest ≡ header_bytes m.table ++ m.more → s.ws ++ s.word ∷ longs rest ≡ header_words m.table ++ longs m.more
-      behind_text e = sym spells ∙ ap longs e ∙ longs-bytes_of (header_words m.table) m.more (header_longs m.table m.is_table)
+      after_text : bytes ++ rest ≡ header_bytes m.table ++ m.more → s.ws ++ s.word ∷ longs rest ≡ header_words m.table ++ longs m.more
+      after_text e = sym spells ∙ ap longs e ∙ longs-bytes_of (header_words m.table) m.more (header_longs m.table m.is_table)
 
       by_front : refuse (role_at 0 s.state.position) s.word ≡ Some f.reason
           → ((k : List ℕ) × (header_words m.table ≡ s.ws ++ s.word ∷ k)) ⊎ ((k : List ℕ) × (s.ws ≡ header_words m.table ++ k)) → IsBudgetOrMemory f.reason
       by_front r (inl (k, e)) = clash (header_passes m.table m.is_table s.ws at s.word k read_at e) r
       by_front r (inr (k, e)) =
           absurd (not_in_body at header_at
-          (stays_behind (header_words m.table) k (open_hunk (length m.table) [] m.table) at (header_read m.table m.is_table) (table_behind m.table m.is_table) (subst (λ (xs : List ℕ). HasRead xs (More at)) e read_at)))
+          (stays_after (header_words m.table) k (open_hunk (length m.table) [] m.table) at (header_read m.table m.is_table) (table_after m.table m.is_table) (subst (λ (xs : List ℕ). HasRead xs (More at)) e read_at)))
 
       refused : refuse (role_at 0 s.state.position) s.word ≡ Some f.reason → (header_bytes m.table ≡ (bytes ++ rest) ++ m.more) ⊎ (bytes ++ rest ≡ header_bytes m.table ++ m.more) → IsBudgetOrMemory f.reason
       refused r (inl e) = clash (header_passes m.table m.is_table s.ws at s.word (longs (rest ++ m.more)) read_at (in_text e)) r
-      refused r (inr e) = by_front r (fronts s.ws s.word (longs rest) (header_words m.table) (longs m.more) (behind_text e))
+      refused r (inr e) = by_front r (fronts s.ws s.word (longs rest) (header_words m.table) (longs m.more) (after_text e))
 
       go : StopsFor budget s.state s.word f.reason → IsBudgetOrMemory f.reason
       go (inl (inl r)) = refused r m.fits

@@ -4,7 +4,7 @@ use Rattle.std.specs.List.{AllByRecursion, flat_map}
 use Rattle.std.proofs.lemmas.List.{map-append}
 use Rattle.hunk_words.specs.{Limits.most_hunks, Bits.has_both_bits}
 use Rattle.hunk_blocks.proofs.Lists.{passes_then}
-use Rattle.hunk_grammar.specs.{Positions.is_behind_header, Roles.{Role, Role as roles}}
+use Rattle.hunk_grammar.specs.{Positions.is_after_header, Roles.{Role, Role as roles}}
 use Rattle.hunk_blocks.specs.Faults.{words}
 use Rattle.hunk_files.specs.{LoadFile.{TableEntry, IsTableEntry}, LoadText.{entry_labelled, header_labelled}}
 use Rattle.hunk_files.specs.FileSteps.{table_entry, AtSizeWord, AtAttributes, AtBlock, InBody, Next, More, Finished, open_hunk}
@@ -60,9 +60,9 @@ entries_all t h = ap (λ (xs : Labelled). entries_in (words xs)) (sym (append-ni
 
 -- The rows are those that were read.
 pub rows_read : (n : Next) (ws : List ℕ) → HasRead ws n → OpensFirst n → entries_so_far ws ≡ table_of n
-rows_read n ws h o = by_end (is_behind_header (position_of n)) refl
+rows_read n ws h o = by_end (is_after_header (position_of n)) refl
   where
-    so_far : (m : Next) → NextFits m → is_behind_header (position_of m) ≡ false → entries_so_far (words (read m)) ≡ table_of m
+    so_far : (m : Next) → NextFits m → is_after_header (position_of m) ≡ false → entries_so_far (words (read m)) ≡ table_of m
     so_far (More (AtSizeWord hunks done owed)) f e = entries_all done f.rows_fit
     so_far (More (AtAttributes hunks done word owed)) f e =
         entries-table done f.0.rows_fit ((roles.SizeWord, word) ∷ [])
@@ -73,7 +73,7 @@ rows_read n ws h o = by_end (is_behind_header (position_of n)) refl
     so_far (Finished v) f e = absurd cc
     so_far _ f e = refl
 
-    by_end : (b : Bool) → is_behind_header (position_of n) ≡ b → entries_so_far ws ≡ table_of n
+    by_end : (b : Bool) → is_after_header (position_of n) ≡ b → entries_so_far ws ≡ table_of n
     by_end true e =
         let d = header_done ws (table_of n) (subst (λ (m : Next). HasRead ws m) (o e) h) in
         ap entries_so_far d.1 ∙ entries_all (table_of n) d.0.each
@@ -81,9 +81,9 @@ rows_read n ws h o = by_end (is_behind_header (position_of n)) refl
 
 -- They are no more than a file has hunks.
 pub rows_few : (n : Next) (ws : List ℕ) → HasRead ws n → OpensFirst n → length (table_of n) ≤ most_hunks
-rows_few n ws h o = by_end (is_behind_header (position_of n)) refl
+rows_few n ws h o = by_end (is_after_header (position_of n)) refl
   where
-    few : (m : Next) → NextFits m → is_behind_header (position_of m) ≡ false → length (table_of m) ≤ most_hunks
+    few : (m : Next) → NextFits m → is_after_header (position_of m) ≡ false → length (table_of m) ≤ most_hunks
     few (More (AtSizeWord hunks done owed)) f e = omega (arith, f.counts, f.hunks_fit.1)
     few (More (AtAttributes hunks done word owed)) f e = omega (arith, f.0.counts, f.0.hunks_fit.1)
     few (More (AtBlock p)) f e = absurd cc
@@ -91,6 +91,6 @@ rows_few n ws h o = by_end (is_behind_header (position_of n)) refl
     few (Finished v) f e = absurd cc
     few _ f e = omega arith
 
-    by_end : (b : Bool) → is_behind_header (position_of n) ≡ b → length (table_of n) ≤ most_hunks
+    by_end : (b : Bool) → is_after_header (position_of n) ≡ b → length (table_of n) ≤ most_hunks
     by_end true e = (header_done ws (table_of n) (subst (λ (m : Next). HasRead ws m) (o e) h)).0.most
     by_end false e = few n (reads h).0 e

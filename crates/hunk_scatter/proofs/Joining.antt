@@ -1,4 +1,4 @@
--- The segments of a store, one right behind the other.
+-- The segments of a store, one right after the other.
 use Rattle.std.proofs.Common.{◌≡◌, ℕ, ◌*◌, List, [], ◌∷◌, ◌++◌, length, take, drop, refl, sym, ap, ◌∙◌, arith, length-drop}
 use Rattle.std.proofs.lemmas.List.{take-append-drop}
 use Rattle.hunk_words.specs.Bits.{size_longs}

@@ -1,4 +1,4 @@
-pub mod Behind
+pub mod After
 pub mod BodyFields
 pub mod Completing
 pub mod DeclaredBytes
@@ -32,7 +32,7 @@ pub mod Refusing
 pub mod Runs
 pub mod Scatter
 pub mod SoFarLaws
-pub mod Splice
+pub mod StoredBytes
 pub mod Splits
 pub mod Starting
 pub mod Staying

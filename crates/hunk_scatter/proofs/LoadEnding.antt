@@ -27,7 +27,7 @@ nothing_left : (left : Option (List ℕ)) (rest : List ℕ) → left ≡ Some re
 nothing_left None rest e a = absurd cc
 nothing_left (Some xs) rest e a = let same : xs ≡ rest = cc in sym same ∙ a
 
--- ---- the body behind its header
+-- ---- the body after its header
 
 pub has_bases : (base : Placing) (t : List TableEntry) (bases : List ℕ) → AreBases base t bases → HasBases base t
 has_bases base t bases h i less = subst IsSome (sym (h.each i less)) refl
@@ -113,27 +113,27 @@ module _ (base : Placing) (limits : Limits) (old now : Supply) (given : List ℕ
     cut : IsSplit old now input given
     cut = split_of old now input given is gives.consumed
 
-    behind : List ℕ
-    behind = take (limits.file_bytes - length given) cut.rest
+    after : List ℕ
+    after = take (limits.file_bytes - length given) cut.rest
 
     -- the bytes that may be read, around those that were given
-    around : take limits.file_bytes input ≡ given ++ behind
-    unfolding behind
+    around : take limits.file_bytes input ≡ given ++ after
+    unfolding after
     around =
         let n : limits.file_bytes ≡ length given + (limits.file_bytes - length given) = omega (arith, gives.within) in
         ap (take limits.file_bytes) cut.split ∙ ap (λ (k : ℕ). take k (given ++ cut.rest)) n ∙ take-append-add given cut.rest (limits.file_bytes - length given)
 
-    here : ExceedsBudget limits.budget (given ++ behind) at
+    here : ExceedsBudget limits.budget (given ++ after) at
     here = subst (λ (bs : List ℕ). ExceedsBudget limits.budget bs at) around p
 
     not_in : (t : List TableEntry) (more : List ℕ) → IsHeaderTable t → declared_bytes t ≤ limits.budget → given ≡ header_bytes t ++ more → ⊥
-    not_in t more ok le e = table_within t ok limits.budget (given ++ behind) (more ++ behind) le (ap (λ (xs : List ℕ). xs ++ behind) e ∙ append_assoc (header_bytes t) more behind) at here
+    not_in t more ok le e = table_within t ok limits.budget (given ++ after) (more ++ after) le (ap (λ (xs : List ℕ). xs ++ after) e ∙ append_assoc (header_bytes t) more after) at here
 
-    not_all : behind ≡ [] → ((k : ℕ) → ExceedsBudget limits.budget given k → ⊥) → ⊥
+    not_all : after ≡ [] → ((k : ℕ) → ExceedsBudget limits.budget given k → ⊥) → ⊥
     not_all e n = n at (subst (λ (bs : List ℕ). ExceedsBudget limits.budget bs at) (ap (λ (xs : List ℕ). given ++ xs) e ∙ append-nil given) here)
 
-    read_all : (f : Fault) → StopsShort limits.file_bytes now given f → behind ≡ []
-    unfolding behind
+    read_all : (f : Fault) → StopsShort limits.file_bytes now given f → after ≡ []
+    unfolding after
     read_all f s = go s.why
       where
         none_taken : min (limits.file_bytes - length given) (length cut.rest) ≡ 0 → take (limits.file_bytes - length given) cut.rest ≡ []
@@ -171,7 +171,7 @@ module _ (base : Placing) (limits : Limits) (old now : Supply) (given : List ℕ
     in_header f s (inr (m, d)) = outside f f.reason refl s.own_reasons s.fault m d
 
     over : (f : Fault) → LoadStop base limits now given f → IsOverBudget at f
-    over f (InHeader (inl s)) = in_header f s (passes_front limits.budget given behind at here)
+    over f (InHeader (inl s)) = in_header f s (passes_front limits.budget given after at here)
     over f (InHeader (inr (s, n))) = absurd (not_all (read_all f s) n)
     over f (Between t h u q) = absurd (not_in t [] h.is_table h.within (h.header ∙ sym (append-nil (header_bytes t))))
     over f (InBody t header more h e s) = absurd (not_in t more h.is_table h.within (e ∙ ap (λ (xs : List ℕ). xs ++ more) h.header))

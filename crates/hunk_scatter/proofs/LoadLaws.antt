@@ -30,18 +30,18 @@ pub record IsSplit (old new : Supply) (input given : List ℕ) : Type 0 where
 pub split_of : (old new : Supply) (input given : List ℕ) → old.left ≡ Some input → Consumes old.left new.left given → IsSplit old new input given
 split_of old new input given e c = search rules
 
-keeps_behind : (old new : Supply) (given whole rest : List ℕ) → Consumes old.left new.left given → ((m : List ℕ) → given ≡ whole ++ m → m ≡ []) → old.left ≡ Some (whole ++ rest) → KeepsRest new rest
-keeps_behind old new given whole rest c none e =
+keeps_after : (old new : Supply) (given whole rest : List ℕ) → Consumes old.left new.left given → ((m : List ℕ) → given ≡ whole ++ m → m ≡ []) → old.left ≡ Some (whole ++ rest) → KeepsRest new rest
+keeps_after old new given whole rest c none e =
     let s = split_of old new (whole ++ rest) given e c in
     let k = keeps_rest given s.rest whole rest none s.split in
     (k.0, s.left_is ∙ ap (λ (xs : List ℕ). Some xs) k.1)
 
 pub keeps_file : (old new : Supply) (limit : ℕ) (given : List ℕ) → Gives old new limit given → GoesPastNoFile given → (v : LoadFileValue) (rest : List ℕ) → IsLoadFile v → old.left ≡ Some (bytes_of (text v) ++ rest) → KeepsRest new rest
-keeps_file old new limit given g w v rest is e = keeps_behind old new given (bytes_of (text v)) rest g.consumed (λ m d. w v m is d) e
+keeps_file old new limit given g w v rest is e = keeps_after old new given (bytes_of (text v)) rest g.consumed (λ m d. w v m is d) e
 
 pub keeps_header : (base : Placing) (budget : ℕ) (old new : Supply) (limit : ℕ) (given : List ℕ) → Gives old new limit given → KeepsToHeader base budget given →
     (t : List TableEntry) (rest : List ℕ) → IsHeaderTable t → old.left ≡ Some (header_bytes t ++ rest) → IsNotPlaced base budget t → KeepsRest new rest
-keeps_header base budget old new limit given g k t rest is e n = keeps_behind old new given (header_bytes t) rest g.consumed (λ m d. go m (k t m is d) n) e
+keeps_header base budget old new limit given g k t rest is e n = keeps_after old new given (header_bytes t) rest g.consumed (λ m d. go m (k t m is d) n) e
   where
     go : (m : List ℕ) → (m ≡ []) ⊎ ((declared_bytes t ≤ budget) × HasBases base t) → IsNotPlaced base budget t → m ≡ []
     go m (inl d) x = d

@@ -6,7 +6,7 @@ use Rattle.hunk_words.specs.{declared.reason.Reason.Reason, Bits.size_longs, Lon
 use Rattle.hunk_files.specs.{Fault.HasRefusal, Image.{declared_bytes, images}, LoadFile.{TableEntry, LoadFileValue}}
 use Rattle.hunk_files.specs.LoadText.{table}
 use Rattle.hunk_files.specs.FileSteps.{HunkSoFar, Progress, AtBlock, InBody, Next, More, Finished, place_of, role_of, step_file}
-use Rattle.hunk_files.specs.ReaderPosition.{open_of, block_phase, open_table, table_of, IsBehindHeader}
+use Rattle.hunk_files.specs.ReaderPosition.{open_of, block_phase, open_table, table_of, IsAfterHeader}
 use Rattle.hunk_files.specs.{WordsRead.HasRead, declared.row.Row.Row}
 use Rattle.hunk_grammar.specs.{Roles.refuse, Positions.is_done}
 use Rattle.hunk_blocks.specs.BlockSteps.{ForName, ForCode, SizedCode, SizedData, Inside, AtCount, AtSize, InPayload, InOffsets, InExtName}
@@ -19,10 +19,10 @@ use Rattle.hunk_grammar.specs.declared.position.Position.TheVariants as position
 use Rattle.hunk_scatter.specs.declared.store.BodyState.{BodyState}
 use Rattle.hunk_scatter.specs.StoreContent.{StoreHolds, HasSizedImage, stored_long}
 use Rattle.hunk_scatter.specs.BodySteps.{refusal, step_body, RoomFor, IsInStore}
-use Rattle.hunk_scatter.specs.{BodyLoaderFields.{EndsWhole, StandsBehind}, LoaderValues.IsFileWithRows}
+use Rattle.hunk_scatter.specs.{BodyLoaderFields.{EndsWhole, StandsAfter}, LoaderValues.IsFileWithRows}
 use Rattle.hunk_scatter.specs.{Rows.{entries_of, words_of, bases_of}, BodyReader.{sizes_of, state_at, state_of}}
 use Rattle.hunk_scatter.proofs.ReadWords.{read_longs}
-use Rattle.hunk_scatter.proofs.Forget.{before_is, step_state, step_table, step_behind, refusal_same, sizes-at, sizes-length}
+use Rattle.hunk_scatter.proofs.Forget.{before_is, step_state, step_table, step_after, refusal_same, sizes-at, sizes-length}
 use Rattle.hunk_scatter.proofs.Scatter.{step_holds}
 
 -- ---- room
@@ -58,7 +58,7 @@ inside_room o word (InOffsets groups target done owed) f w = omega (arith, sizes
 inside_room o word (InExtName es v done owed) f w = absurd w
 inside_room o word _ f w = tt
 
-in_store : (p : Progress) → IsBehindHeader (More p) → ProgressFits p → IsInStore (sizes_of (table_of (More p))) (declared_bytes (table_of (More p))) (state_of (More p))
+in_store : (p : Progress) → IsAfterHeader (More p) → ProgressFits p → IsInStore (sizes_of (table_of (More p))) (declared_bytes (table_of (More p))) (state_of (More p))
 in_store (AtBlock o) b f = open_in_store o (block_phase o.blocks) f (block_room _ _ o.blocks)
 in_store (InBody o word x) b f = open_in_store o (phase_of x) f.0 (inside_room o word x f.0 f.2.1)
 in_store _ b f = absurd cc
@@ -71,7 +71,7 @@ sizes_are (r ∷ rows) = ap (λ (xs : List ℕ). r.word ∷ xs) (sizes_are rows)
 
 -- by other names
 pub stands_as : (rows : List Row) (store store2 : List ℕ) (state state2 : BodyState) (pending pending2 fed : List ℕ) → store2 ≡ store → state2 ≡ state → pending2 ≡ pending →
-    StandsBehind rows store state pending fed → StandsBehind rows store2 state2 pending2 fed
+    StandsAfter rows store state pending fed → StandsAfter rows store2 state2 pending2 fed
 stands_as rows store store2 state state2 pending pending2 fed e f g r = search rules
 
 -- ---- a reading that goes on
@@ -83,12 +83,12 @@ pub record Going (rows : List Row) (store : List ℕ) (state : BodyState) (pendi
   pub spelled : fed ≡ bytes_of ws ++ pending
   pub few : length pending < 4
   pub read : HasRead ws (More at)
-  pub in_body : IsBehindHeader (More at)
+  pub in_body : IsAfterHeader (More at)
   pub table_is : table_of (More at) ≡ entries_of rows
   pub state_is : state_of (More at) ≡ state
   pub holds : StoreHolds (bases_of rows) (More at) store
 
-pub going : (rows : List Row) (store : List ℕ) (state : BodyState) (pending fed : List ℕ) → StandsBehind rows store state pending fed → is_done state.position ≡ false → Going rows store state pending fed
+pub going : (rows : List Row) (store : List ℕ) (state : BodyState) (pending fed : List ℕ) → StandsAfter rows store state pending fed → is_done state.position ≡ false → Going rows store state pending fed
 going rows store state pending fed r more = search rules
 
 module _ (rows : List Row) (store : List ℕ) (state : BodyState) (pending fed : List ℕ) (g : Going rows store state pending fed) where
@@ -107,14 +107,14 @@ module _ (rows : List Row) (store : List ℕ) (state : BodyState) (pending fed :
   refusal_is w = refusal_same g.at w g.in_body (reads g.read).0 ∙ ap₂ (λ (ss : List ℕ) (s : BodyState). refusal ss s w) sizes_now g.state_is
 
   -- Bytes that complete no longword.
-  pub more_pending : (bytes : List ℕ) → length (pending ++ bytes) < 4 → StandsBehind rows store state (pending ++ bytes) (fed ++ bytes)
+  pub more_pending : (bytes : List ℕ) → length (pending ++ bytes) < 4 → StandsAfter rows store state (pending ++ bytes) (fed ++ bytes)
   more_pending bytes few = record {
     few = few;
     ws = g.ws;
     next = More g.at;
     spelled = ap (λ (xs : List ℕ). xs ++ bytes) g.spelled ∙ append_assoc (bytes_of g.ws) pending bytes;
     read = g.read;
-    behind = g.in_body;
+    after = g.in_body;
     table_is = g.table_is;
     state_is = g.state_is;
     holds = g.holds;
@@ -130,7 +130,7 @@ module _ (rows : List Row) (store : List ℕ) (state : BodyState) (pending fed :
         ∙ sym (bytes_of-append g.ws (w ∷ []))
 
     -- Those that complete a longword that passes.
-    pub more_read : refusal (words_of rows) state w ≡ None → StandsBehind rows (stored_long (bases_of rows) state w store) (step_body (words_of rows) state w) [] (fed ++ bytes)
+    pub more_read : refusal (words_of rows) state w ≡ None → StandsAfter rows (stored_long (bases_of rows) state w store) (step_body (words_of rows) state w) [] (fed ++ bytes)
     more_read ok =
         let pass : refuse (role_of g.at) w ≡ None = refusal_is w ∙ ok in
         record {
@@ -139,7 +139,7 @@ module _ (rows : List Row) (store : List ℕ) (state : BodyState) (pending fed :
           next = step_file g.at w;
           spelled = spells ∙ sym (append-nil (bytes_of (g.ws ++ w ∷ [])));
           read = step_read g.ws g.at w g.read is pass;
-          behind = step_behind g.at w g.in_body;
+          after = step_after g.at w g.in_body;
           table_is = step_table g.at w g.in_body ∙ g.table_is;
           state_is = step_state g.at w g.in_body (reads g.read).0 ∙ ap₂ (λ (ss : List ℕ) (s : BodyState). step_body ss s w) sizes_now g.state_is;
           holds =
@@ -167,11 +167,11 @@ module _ (rows : List Row) (store : List ℕ) (state : BodyState) (pending fed :
 -- ---- the end
 
 -- A reading that is whole has a load file.
-pub file_read : (rows : List Row) (store : List ℕ) (state : BodyState) (pending fed : List ℕ) → StandsBehind rows store state pending fed → is_done state.position ≡ true →
+pub file_read : (rows : List Row) (store : List ℕ) (state : BodyState) (pending fed : List ℕ) → StandsAfter rows store state pending fed → is_done state.position ≡ true →
     (v : LoadFileValue) × IsFileWithRows rows fed v × AllByRecursion (HasSizedImage (bases_of rows)) v × (store ≡ images (bases_of rows) v)
-file_read rows store state pending fed r done = go r.next r.read r.behind r.table_is r.state_is r.holds r.whole
+file_read rows store state pending fed r done = go r.next r.read r.after r.table_is r.state_is r.holds r.whole
   where
-    go : (n : Next) → HasRead r.ws n → IsBehindHeader n → table_of n ≡ entries_of rows → state_of n ≡ state → StoreHolds (bases_of rows) n store → EndsWhole n pending →
+    go : (n : Next) → HasRead r.ws n → IsAfterHeader n → table_of n ≡ entries_of rows → state_of n ≡ state → StoreHolds (bases_of rows) n store → EndsWhole n pending →
         (v : LoadFileValue) × IsFileWithRows rows fed v × AllByRecursion (HasSizedImage (bases_of rows)) v × (store ≡ images (bases_of rows) v)
     go (More p) read b t s h w = search rules
     go (Finished v) read b t s h w =

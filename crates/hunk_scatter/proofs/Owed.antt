@@ -8,7 +8,7 @@ use Rattle.hunk_blocks.specs.{ExtKinds.ext_shape, ReaderPhase.front_phase}
 use Rattle.hunk_files.specs.{LoadFile.{LoadFileValue, IsLoadFile}, LoadText.labelled}
 use Rattle.hunk_files.specs.FileSteps.{HunkSoFar, Progress, AtFirst, InBody, Next, More, Finished, role_of, after, step_file, Leads}
 use Rattle.hunk_files.specs.{WordsRead.{HasRead, Labelled}, ReaderPosition.{position_of, open_of}}
-use Rattle.hunk_files.proofs.{FileText.file_leads, Shapes.by_shape, Runs.{Leads-split, Leads-same}}
+use Rattle.hunk_files.proofs.{FileText.file_leads, EntrySteps.by_shape, Runs.{Leads-split, Leads-same}}
 use Rattle.hunk_grammar.specs.{Positions.least_longs, declared.phase.OpenHunk.OpenHunk}
 use Rattle.hunk_grammar.specs.declared.position.Position.TheVariants as positions
 use Rattle.hunk_words.specs.Bits.{entry_type}

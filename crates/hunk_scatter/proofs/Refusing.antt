@@ -7,7 +7,7 @@ use Rattle.hunk_words.specs.declared.block_word.Kind.TheVariants as kinds
 use Rattle.hunk_words.specs.declared.reason.Reason.TheVariants as reasons
 use Rattle.hunk_blocks.specs.Parts.{Part, Part as parts}
 use Rattle.hunk_grammar.specs.{Roles.{Place, refuse, refuse_kind, refuse_part}, declared.position.Position.Position}
-use Rattle.hunk_grammar.specs.Positions.{role_at, place, part_at, is_behind_header}
+use Rattle.hunk_grammar.specs.Positions.{role_at, place, part_at, is_after_header}
 use Rattle.hunk_grammar.specs.declared.position.Position.TheVariants as positions
 use Rattle.hunk_scatter.specs.{declared.store.BodyState.BodyState, BodySteps.{longs_at, refusal, IsInStore}}
 use Rattle.hunk_scatter.specs.LoaderReasons.{is_of_body}
@@ -38,7 +38,7 @@ part_of_body p parts.Target w = chosen is_of_body (nat_lt w p.hunks) None (Some 
 part_of_body p parts.Offset w = chosen is_of_body (nat_lt _ _) (Some reasons.BadOffset) None refl tt
 part_of_body p _ w = tt
 
-role_of_body : (longs : ℕ) (p : Position) (w : ℕ) → is_behind_header p ≡ true → AreOf is_of_body (refuse (role_at longs p) w)
+role_of_body : (longs : ℕ) (p : Position) (w : ℕ) → is_after_header p ≡ true → AreOf is_of_body (refuse (role_at longs p) w)
 role_of_body longs (positions.Body o phase) w b = part_of_body (place longs o) (part_at phase) w
 role_of_body longs positions.Done w b = tt
 role_of_body longs _ w b = absurd cc

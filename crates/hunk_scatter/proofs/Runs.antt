@@ -13,11 +13,11 @@ use Rattle.hunk_grammar.specs.Positions.{onward, is_done, run, pass, owe_content
 use Rattle.hunk_blocks.specs.declared.phase.Phase.TheVariants as phases
 use Rattle.hunk_grammar.specs.declared.position.Position.TheVariants as positions
 use Rattle.hunk_blocks.specs.PhaseSteps as inside
-use Rattle.hunk_scatter.specs.{declared.store.BodyState.BodyState, BodyLoaderFields.StandsBehind}
+use Rattle.hunk_scatter.specs.{declared.store.BodyState.BodyState, BodyLoaderFields.StandsAfter}
 use Rattle.hunk_scatter.specs.BodySteps.{longs_at, pass_body, IsInStore, refusal, step_body}
 use Rattle.hunk_scatter.specs.Rows.{words_of, bases_of}
 use Rattle.hunk_scatter.specs.StoreContent.{put_at, put_slice, stored_run_in, stored_run, added_at_each, TakesOffsets, stored_in}
-use Rattle.hunk_scatter.proofs.{OneByte.{going, more_read}, Splice.length-put}
+use Rattle.hunk_scatter.proofs.{OneByte.{going, more_read}, StoredBytes.length-put}
 
 -- ---- the store
 
@@ -27,16 +27,16 @@ put_none bytes at = grind (arith, common_steps)
 put_more : (bytes : List ℕ) (at : ℕ) (four xs : List ℕ) → length four ≡ 4 → at + 4 ≤ length bytes → put_slice (put_at bytes at four) (at + 4) xs ≡ put_slice bytes at (four ++ xs)
 put_more bytes at four xs l fits = search (rules, length-append, length-take, drop-append-add, drop-drop, take_at, append_assoc)
 
--- a content goes on behind its next longword
+-- a content goes on after its next longword
 put_long : (store : List ℕ) (at next w : ℕ) (ws : List ℕ) → next ≡ at + 4 → at + 4 ≤ length store →
     put_slice (put_at store at (to_be_bytes w32 w)) next (bytes_of ws) ≡ put_slice store at (bytes_of (w ∷ ws))
 put_long store at next w ws e fits = search (rules, put_more, bytes_of-one, bytes_of-cons)
 
 -- ---- the state
 
--- the reading behind this many bytes more
+-- the reading after this many bytes more
 abbrev Read : List Row → List ℕ → BodyState → List ℕ → List ℕ → Type 0
-Read rows store s fed ws = StandsBehind rows store s [] (fed ++ bytes_of ws)
+Read rows store s fed ws = StandsAfter rows store s [] (fed ++ bytes_of ws)
 
 module _ (rows : List Row) (hunk start : ℕ) where
   abbrev at : Position → BodyState
@@ -45,8 +45,8 @@ module _ (rows : List Row) (hunk start : ℕ) where
   abbrev stored_at : Position → ℕ → List ℕ → List ℕ
   stored_at p w store = stored_in (bases_of rows) start p w store
 
-  read_none : (store : List ℕ) (s : BodyState) (fed : List ℕ) → StandsBehind rows store s [] fed → Read rows store s fed []
-  read_none store s fed r = subst (λ (bs : List ℕ). StandsBehind rows store s [] bs) (sym (append-nil fed) ∙ ap (λ (xs : List ℕ). fed ++ xs) (sym bytes_of-nil)) r
+  read_none : (store : List ℕ) (s : BodyState) (fed : List ℕ) → StandsAfter rows store s [] fed → Read rows store s fed []
+  read_none store s fed r = subst (λ (bs : List ℕ). StandsAfter rows store s [] bs) (sym (append-nil fed) ∙ ap (λ (xs : List ℕ). fed ++ xs) (sym bytes_of-nil)) r
 
   read_more : (store : List ℕ) (s : BodyState) (fed : List ℕ) (w : ℕ) (ws : List ℕ) → Read rows store s (fed ++ bytes_of (w ∷ [])) ws → Read rows store s fed (w ∷ ws)
   read_more store s fed w ws r = search (rules, append_assoc, bytes_of-cons)
@@ -62,7 +62,7 @@ module _ (rows : List Row) (hunk start : ℕ) where
       more : (n w : ℕ) (ws store : List ℕ) → Room (suc n) store → made n ws (stored_at (pos (suc n)) w store) ≡ made (suc n) (w ∷ ws) store
 
     list_read : Owing → (store fed : List ℕ) (n left : ℕ) (ws : List ℕ) → AreLongs ws → AllByRecursion Good ws → Room n store →
-        StandsBehind rows store (at (pos n)) [] fed → length ws + left ≡ n → Read rows (made n ws store) (at (pos left)) fed ws
+        StandsAfter rows store (at (pos n)) [] fed → length ws + left ≡ n → Read rows (made n ws store) (at (pos left)) fed ws
     list_read o store fed n left [] l g room r e =
         let same : n ≡ left = omega (arith, e) in
         subst (λ (k : ℕ). Read rows (made n [] store) (at (pos k)) fed []) same
@@ -75,7 +75,7 @@ module _ (rows : List Row) (hunk start : ℕ) where
         subst (λ (xs : List ℕ). Read rows xs (at (pos left)) fed (w ∷ ws)) (o.more n w ws store room)
         (read_more (made n ws now) (at (pos left)) fed w ws
         (list_read o now (fed ++ bytes_of (w ∷ [])) n left ws l.1 g.1 (o.room n w store room)
-        (subst (λ (s : BodyState). StandsBehind rows now s [] (fed ++ bytes_of (w ∷ []))) (o.moves n w) next) (omega (arith, e))))
+        (subst (λ (s : BodyState). StandsAfter rows now s [] (fed ++ bytes_of (w ∷ []))) (o.moves n w) next) (omega (arith, e))))
 
   content_owing : (o : OpenHunk) (all : ℕ) →
       Owing IsLong (λ n store. (n ≤ all) × (start + 4 * all ≤ length store)) (owe_content o all)
@@ -100,14 +100,14 @@ module _ (rows : List Row) (hunk start : ℕ) where
       (λ n ws store. added_at_each start (get_or (bases_of rows) target 0) ws store)
   offsets_owing o target = search rules
 
-run_read : (rows : List Row) (hunk start : ℕ) (p : Position) (store fed ws : List ℕ) → AreLongs ws → StandsBehind rows store (record { hunk = hunk; start = start; position = p }) [] fed →
+run_read : (rows : List Row) (hunk start : ℕ) (p : Position) (store fed ws : List ℕ) → AreLongs ws → StandsAfter rows store (record { hunk = hunk; start = start; position = p }) [] fed →
     IsInStore (words_of rows) (length store) (record { hunk = hunk; start = start; position = p }) → 0 < length ws → length ws ≤ run p →
     Read rows (stored_run_in start p (bytes_of ws) store) (record { hunk = hunk; start = start; position = pass p (length ws) }) fed ws
 run_read rows hunk start p store fed [] l r i some fits = absurd (omega (arith, some))
 run_read rows hunk start (positions.Body o (phases.Content all owed)) store fed (w ∷ ws) l r i some fits =
     let here : all - suc owed ≡ all - owed - 1 = omega arith in
-    let behind : BodyState = record { hunk = hunk; start = start; position = owe_content o all (owed - length ws) } in
-    subst (λ (k : ℕ). Read rows (put_slice store (start + 4 * k) (bytes_of (w ∷ ws))) behind fed (w ∷ ws)) here
+    let after : BodyState = record { hunk = hunk; start = start; position = owe_content o all (owed - length ws) } in
+    subst (λ (k : ℕ). Read rows (put_slice store (start + 4 * k) (bytes_of (w ∷ ws))) after fed (w ∷ ws)) here
     (list_read rows hunk start _ _ _ _ (content_owing rows hunk start o all) store fed (suc owed) (owed - length ws) (w ∷ ws) l l
     (omega (arith, i.room.0), omega (arith, i.segment, i.room.1)) r (omega (arith, fits)))
 run_read rows hunk start (positions.Body o (phases.Payload owed)) store fed (w ∷ ws) l r i some fits =
@@ -133,14 +133,14 @@ fours_are bytes are fours =
     let none : length s.over ≡ 0 = omega (arith, fours, s.few, ap length s.split, length-append (bytes_of (longs bytes)) s.over, length-bytes_of (longs bytes)) in
     s.split ∙ ap (λ (xs : List ℕ). bytes_of (longs bytes) ++ xs) (none_over s.over none) ∙ append-nil (bytes_of (longs bytes))
 
--- What was read goes on behind the bytes of a run.
-pub read_run : (rows : List Row) (store : List ℕ) (state : BodyState) (fed bytes : List ℕ) (n : ℕ) → StandsBehind rows store state [] fed → IsInStore (words_of rows) (length store) state →
-    length bytes ≡ n → IsBytes bytes → n % 4 ≡ 0 → 0 < n → n ≤ 4 * run state.position → StandsBehind rows (stored_run state bytes store) (pass_body state (n / 4)) [] (fed ++ bytes)
+-- What was read goes on after the bytes of a run.
+pub read_run : (rows : List Row) (store : List ℕ) (state : BodyState) (fed bytes : List ℕ) (n : ℕ) → StandsAfter rows store state [] fed → IsInStore (words_of rows) (length store) state →
+    length bytes ≡ n → IsBytes bytes → n % 4 ≡ 0 → 0 < n → n ≤ 4 * run state.position → StandsAfter rows (stored_run state bytes store) (pass_body state (n / 4)) [] (fed ++ bytes)
 read_run rows store state fed bytes n r i long are fours some fits =
     let same : bytes ≡ bytes_of (longs bytes) = fours_are bytes are (omega (arith, long, fours)) in
     let count : length (longs bytes) ≡ n / 4 = omega (arith, length-longs bytes, long) in
-    subst (λ (bs : List ℕ). StandsBehind rows (stored_run state bs store) (pass_body state (n / 4)) [] (fed ++ bs)) (sym same)
-    (subst (λ (k : ℕ). StandsBehind rows (stored_run state (bytes_of (longs bytes)) store) (pass_body state k) [] (fed ++ bytes_of (longs bytes))) count
+    subst (λ (bs : List ℕ). StandsAfter rows (stored_run state bs store) (pass_body state (n / 4)) [] (fed ++ bs)) (sym same)
+    (subst (λ (k : ℕ). StandsAfter rows (stored_run state (bytes_of (longs bytes)) store) (pass_body state k) [] (fed ++ bytes_of (longs bytes))) count
     (run_read rows state.hunk state.start state.position store fed (longs bytes) (longs_fit bytes are) r i (omega (arith, count, some, fours)) (omega (arith, count, fits, fours))))
 
 front_bytes : (xs ys : List ℕ) → IsBytes (xs ++ ys) → IsBytes xs
@@ -151,19 +151,19 @@ front_bytes (x ∷ xs) ys h (suc i) = front_bytes xs ys (λ k. h (suc k)) i
 pub take_bytes : (bytes : List ℕ) (n : ℕ) → IsBytes bytes → IsBytes (take n bytes)
 take_bytes bytes n are = front_bytes (take n bytes) (drop n bytes) (subst IsBytes (sym (take-append-drop n bytes)) are)
 
--- What was read goes on behind this many offsets of a list.
-pub read_offsets : (rows : List Row) (store store2 : List ℕ) (state state2 : BodyState) (fed piece : List ℕ) (n : ℕ) → StandsBehind rows store state [] fed → IsBytes piece → 4 * n ≤ length piece →
-    TakesOffsets (words_of rows) (bases_of rows) state (take n (longs piece)) store state2 store2 → StandsBehind rows store2 state2 [] (fed ++ take (4 * n) piece)
+-- What was read goes on after this many offsets of a list.
+pub read_offsets : (rows : List Row) (store store2 : List ℕ) (state state2 : BodyState) (fed piece : List ℕ) (n : ℕ) → StandsAfter rows store state [] fed → IsBytes piece → 4 * n ≤ length piece →
+    TakesOffsets (words_of rows) (bases_of rows) state (take n (longs piece)) store state2 store2 → StandsAfter rows store2 state2 [] (fed ++ take (4 * n) piece)
 read_offsets rows store store2 state state2 fed piece n r are fits t =
     let bytes : List ℕ = take (4 * n) piece in
     let ws : List ℕ = take n (longs piece) in
     let long : length bytes ≡ 4 * n = omega (arith, length-take (4 * n) piece, fits) in
     let spells : longs bytes ≡ ws = longs-take piece n (4 * n) refl in
     let same : bytes ≡ bytes_of ws = fours_are bytes (take_bytes piece (4 * n) are) (omega (arith, long)) ∙ ap bytes_of spells in
-    subst (λ (bs : List ℕ). StandsBehind rows store2 state2 [] (fed ++ bs)) (sym same)
+    subst (λ (bs : List ℕ). StandsAfter rows store2 state2 [] (fed ++ bs)) (sym same)
     (go state.position r (subst AreLongs spells (longs_fit bytes (take_bytes piece (4 * n) are))) t)
   where
-    go : (p : Position) → StandsBehind rows store (record { hunk = state.hunk; start = state.start; position = p }) [] fed → AreLongs (take n (longs piece)) →
+    go : (p : Position) → StandsAfter rows store (record { hunk = state.hunk; start = state.start; position = p }) [] fed → AreLongs (take n (longs piece)) →
         TakesOffsets (words_of rows) (bases_of rows) (record { hunk = state.hunk; start = state.start; position = p }) (take n (longs piece)) store state2 store2 →
         Read rows store2 state2 fed (take n (longs piece))
     go (positions.Body o (phases.Offset target owed)) q l k =
@@ -173,7 +173,7 @@ read_offsets rows store store2 state state2 fed piece n r are fits t =
         l k.1 tt q (omega (arith, k.0))))
     go _ q l k = absurd k
 
--- The state behind this many offsets.
+-- The state after this many offsets.
 pub offsets_taken : (sizes bases : List ℕ) (hunk start : ℕ) (p : Position) (o : OpenHunk) (target owed limit base left : ℕ) (ws store store2 : List ℕ) → positions.Body o (phases.Offset target owed) ≡ p →
     length ws ≤ owed → AllByRecursion (EndsWithin limit) ws → limit ≡ 4 * longs_at sizes hunk → base ≡ get_or bases target 0 → left ≡ owed - length ws → store2 ≡ added_at_each start base ws store →
     TakesOffsets sizes bases (record { hunk = hunk; start = start; position = p }) ws store (record { hunk = hunk; start = start; position = positions.Body o (phases.Offset target left) }) store2

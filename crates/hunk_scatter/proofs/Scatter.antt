@@ -20,7 +20,7 @@ use Rattle.hunk_files.proofs.HunkProgress as blocks
 use Rattle.hunk_blocks.proofs.Lists.{passed_false}
 use Rattle.hunk_scatter.specs.StoreContent.{zeros, HasSizedImage, Holds, StoreHolds, put_at, stored_in, stored_long}
 use Rattle.hunk_scatter.specs.BodyReader.{state_of, before}
-use Rattle.hunk_scatter.proofs.Splice.{put-join, add-join, length-put, long_fills}
+use Rattle.hunk_scatter.proofs.StoredBytes.{put-join, add-join, length-put, long_fills}
 use Rattle.hunk_words.proofs.LongLaws.{length-bytes_of, bytes_of-one}
 
 abbrev contents_of : HunkSoFar → List ℕ
@@ -153,6 +153,6 @@ step_holds bases (InBody o word x) w store f l ok h =
     (inside_holds bases o word x w store f.1 f.2 ok h)
 step_holds bases _ w store f l ok h = absurd h
 
--- The store of zero bytes holds what is there behind the header.
+-- The store of zero bytes holds what is there after the header.
 pub start_holds : (bases : List ℕ) (table : List TableEntry) → StoreHolds bases (open_hunk (length table) [] table) (zeros table)
 start_holds bases table = zero_holds bases (length table) [] table (zeros table) tt refl

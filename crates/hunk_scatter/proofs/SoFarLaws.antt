@@ -12,7 +12,7 @@ use Rattle.hunk_files.specs.FileSteps.{block, hunk, AtBlock, InBody, Finished, M
 use Rattle.hunk_files.specs.LoadFile.{LoadFileValue, IsLoadFile, TableEntry}
 use Rattle.hunk_files.specs.LoadText.{text}
 use Rattle.hunk_files.specs.OpenSegment.{bytes_in, open_bytes, open_pairs, pairs_in, segment_so_far}
-use Rattle.hunk_files.specs.{Machines.load_at, ReadFiles.IsOf, ReaderPosition.{IsBehindHeader, position_of}}
+use Rattle.hunk_files.specs.{Machines.load_at, ReadFiles.IsOf, ReaderPosition.{IsAfterHeader, position_of}}
 use Rattle.hunk_files.specs.WordsRead.{HasRead}
 use Rattle.hunk_files.specs.declared.part.Part.TheVariants as parts
 use Rattle.hunk_files.specs.declared.row.Row.{Row}
@@ -31,7 +31,7 @@ relocated_by bs = flat_map (λ b. block_relocations b.body) bs
 split_at : {A : Type 0} (xs ys zs body more : List A) → ys ≡ body ++ more → xs ++ (ys ++ zs) ≡ (xs ++ body) ++ (more ++ zs)
 split_at xs ys zs body more e = ap (λ us. xs ++ (us ++ zs)) e ∙ ap (λ us. xs ++ us) (append_assoc body more zs) ∙ sym (append_assoc xs body (more ++ zs))
 
-so_far : (rows : List Row) (store : List ℕ) (state : BodyState) (v : LoadFileValue) (p : Progress) → IsBehindHeader (More p) → state_of (More p) ≡ state → StoreHolds (bases_of rows) (More p) store → IsOf v p → HoldsSoFar rows store state.hunk v
+so_far : (rows : List Row) (store : List ℕ) (state : BodyState) (v : LoadFileValue) (p : Progress) → IsAfterHeader (More p) → state_of (More p) ≡ state → StoreHolds (bases_of rows) (More p) store → IsOf v p → HoldsSoFar rows store state.hunk v
 so_far rows store state v (AtBlock o) b e h k = record {
   whole = o.finished;
   hunk_open = hunk o.entry (o.blocks ++ k.blocks);

@@ -5,12 +5,12 @@ use Rattle.std.proofs.Common.{◌≡◌, ℕ, List, [], ◌∷◌, ◌++◌, len
 pub data Cuts (xs : List ℕ) (x : ℕ) (ys : List ℕ) (y : ℕ) : Type 0 where
   Same : xs ≡ ys → x ≡ y → Cuts xs x ys y
   Before : (m : List ℕ) → ys ≡ xs ++ x ∷ m → Cuts xs x ys y
-  Behind : (m : List ℕ) → xs ≡ ys ++ y ∷ m → Cuts xs x ys y
+  After : (m : List ℕ) → xs ≡ ys ++ y ∷ m → Cuts xs x ys y
 
 pub cuts : (xs : List ℕ) (x : ℕ) (cs ys : List ℕ) (y : ℕ) (bs : List ℕ) → xs ++ x ∷ cs ≡ ys ++ y ∷ bs → Cuts xs x ys y
 cuts [] x cs [] y bs e = Same refl cc
 cuts [] x cs (z ∷ ys) y bs e = let d : x ≡ z = cc in Before ys (ap (λ (k : ℕ). k ∷ ys) (sym d))
-cuts (z ∷ xs) x cs [] y bs e = let d : z ≡ y = cc in Behind xs (ap (λ (k : ℕ). k ∷ xs) d)
+cuts (z ∷ xs) x cs [] y bs e = let d : z ≡ y = cc in After xs (ap (λ (k : ℕ). k ∷ xs) d)
 cuts (z ∷ xs) x cs (v ∷ ys) y bs e =
     let head : z ≡ v = cc in
     let tail : xs ++ x ∷ cs ≡ ys ++ y ∷ bs = cc in
@@ -19,9 +19,9 @@ cuts (z ∷ xs) x cs (v ∷ ys) y bs e =
     go : z ≡ v → Cuts xs x ys y → Cuts (z ∷ xs) x (v ∷ ys) y
     go h (Same p q) = Same (ap₂ (λ (k : ℕ) (l : List ℕ). k ∷ l) h p) q
     go h (Before m p) = Before m (ap₂ (λ (k : ℕ) (l : List ℕ). k ∷ l) (sym h) p)
-    go h (Behind m p) = Behind m (ap₂ (λ (k : ℕ) (l : List ℕ). k ∷ l) h p)
+    go h (After m p) = After m (ap₂ (λ (k : ℕ) (l : List ℕ). k ∷ l) h p)
 
--- A front ends behind an element, or before it.
+-- A front ends after an element, or before it.
 pub fronts : (xs : List ℕ) (x : ℕ) (cs ys bs : List ℕ) → xs ++ x ∷ cs ≡ ys ++ bs → ((m : List ℕ) × (ys ≡ xs ++ x ∷ m)) ⊎ ((m : List ℕ) × (xs ≡ ys ++ m))
 fronts xs x cs [] bs e = inr (xs, refl)
 fronts [] x cs (y ∷ ys) bs e = let d : x ≡ y = cc in inl (ys, ap (λ (k : ℕ). k ∷ ys) (sym d))

@@ -1,11 +1,11 @@
--- Behind the header the body's loader stands at its first hunk, with a store of zero bytes.
+-- After the header the body's loader stands at its first hunk, with a store of zero bytes.
 use Rattle.std.proofs.Common.{◌≡◌, ◌≢◌, ℕ, zero, suc, ◌+◌, ◌*◌, List, [], ◌∷◌, ◌++◌, length, replicate, refl, sym, ap, ◌∙◌, append-nil, arith, subst}
 use Rattle.std.proofs.lemmas.{List.Sums.sum_by-cons, List.{length-map, length-replicate}}
 use Rattle.hunk_words.specs.{Carriers.saturated, Longs.bytes_of, Bits.size_longs, PendingBytes.pending_of}
 use Rattle.hunk_files.specs.{Image.declared_bytes, LoadFile.TableEntry, FileSteps.open_hunk, WordsRead.HasRead}
 use Rattle.hunk_files.specs.{declared.row.Row.Row, Tables.row_entry}
 use Rattle.hunk_grammar.specs.Positions.{open_next}
-use Rattle.hunk_scatter.specs.{BodyReader.state_at, StoreContent.zeros, BodyLoaderFields.{IsFed, StandsBehind}}
+use Rattle.hunk_scatter.specs.{BodyReader.state_at, StoreContent.zeros, BodyLoaderFields.{IsFed, StandsAfter}}
 use Rattle.hunk_scatter.specs.{declared.stream.Standing.Standing, Rows.{entries_of, bases_of}}
 use Rattle.hunk_scatter.specs.HeaderBytes.{IsHeaderTable, header_words, header_bytes}
 use Rattle.hunk_scatter.specs.HeaderLoaderFields.{DeclaredInvariant}
@@ -23,7 +23,7 @@ zeros_are (e ∷ table) =
     ∙ ap (λ (xs : List ℕ). replicate (4 * size_longs e.word) 0 ++ xs) (zeros_are table)
 
 pub start_reading : (rows : List Row) (ws fed : List ℕ) → rows ≢ [] → fed ≡ bytes_of ws → HasRead ws (open_hunk (length (entries_of rows)) [] (entries_of rows)) →
-    StandsBehind rows (zeros (entries_of rows)) (state_at [] (open_next (length (entries_of rows)) (length (entries_of rows)))) [] fed
+    StandsAfter rows (zeros (entries_of rows)) (state_at [] (open_next (length (entries_of rows)) (length (entries_of rows)))) [] fed
 start_reading [] ws fed some e read = absurd (some refl)
 start_reading (r ∷ rows) ws fed some e read = record {
   ws = ws;
@@ -31,14 +31,14 @@ start_reading (r ∷ rows) ws fed some e read = record {
   spelled = e ∙ sym (append-nil (bytes_of ws));
   few = omega arith;
   read = read;
-  behind = refl;
+  after = refl;
   table_is = refl;
   state_is = refl;
   holds = start_holds (bases_of (r ∷ rows)) (entries_of (r ∷ rows));
   whole = tt;
 }
 
--- A table that was read, with its hunks placed and a store of zero bytes: numbers behind its header.
+-- A table that was read, with its hunks placed and a store of zero bytes: numbers after its header.
 pub placed_loading : (old rows : List Row) (total budget count : ℕ) (fed store : List ℕ) (s : Standing) → DeclaredInvariant old total budget count fed → entries_of rows ≡ entries_of old → store ≡ replicate total 0 →
     s.state ≡ state_at [] (open_next (length (entries_of rows)) (length (entries_of rows))) → s.fed ≡ saturated (length fed) → pending_of s.pending ≡ [] → IsFed rows store s fed
 placed_loading old rows total budget count fed store s h same zero_bytes state_is fed_is none =

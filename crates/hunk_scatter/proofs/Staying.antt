@@ -27,7 +27,7 @@ module _ (sizes : List ℕ) (total hunk start : ℕ) where
   offsets_in (positions.Body o (phases.Offset target owed)) ws store store2 bases s2 i t = search rules
   offsets_in _ ws store store2 bases s2 i t = absurd t
 
--- where a hunk is behind, the next has to open
+-- where a hunk is after, the next has to open
 moved : (sizes : List ℕ) (total : ℕ) (s : BodyState) (p : Position) → StaysInStore sizes total (at sizes total s.hunk s.start p) → StaysInStore sizes total (move_to sizes s p)
 moved sizes total s p k = search rules
 

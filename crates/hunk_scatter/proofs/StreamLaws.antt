@@ -7,13 +7,13 @@ use Rattle.hunk_grammar.specs.{declared.position.Position.Position}
 use Rattle.hunk_grammar.specs.Positions.{is_done, is_between_hunks, least_longs}
 use Rattle.hunk_grammar.specs.declared.position.Position.TheVariants as positions
 use Rattle.hunk_scatter.specs.{BodyReader.state_of, BodySteps.{IsInStore, targets_at}, Owing.FileOwes, Rows.{entries_of, words_of}, declared.store.BodyState.BodyState}
-use Rattle.hunk_scatter.specs.{declared.stream.Standing.Standing, BodyLoaderFields.StandsBehind}
-use Rattle.hunk_scatter.specs.Streaming.{FitsStore, IsFed, IsWithin, EndsLoading, StandsAfter, TakesPart}
+use Rattle.hunk_scatter.specs.{declared.stream.Standing.Standing, BodyLoaderFields.StandsAfter}
+use Rattle.hunk_scatter.specs.Streaming.{FitsStore, IsFed, IsWithin, EndsLoading, IsFedAfter, TakesPart}
 use Rattle.hunk_scatter.proofs.{BodyFields.{gone, in_room, image_of, fed_clean, fed_truncated, owes_file}, Forget.before_is}
 use Rattle.hunk_files.proofs.{FileProgress.{OpenFits, ProgressFits}, Reading.reads}
 use Rattle.hunk_files.specs.{Image.declared_bytes, LoadFile.HunkValue, LoadText.table, Tables.row_entry}
 use Rattle.hunk_files.specs.FileSteps.{HunkSoFar, Progress, AtBlock, InBody, Next, More, Finished}
-use Rattle.hunk_files.specs.ReaderPosition.{IsBehindHeader, open_table, table_of}
+use Rattle.hunk_files.specs.ReaderPosition.{IsAfterHeader, open_table, table_of}
 use Rattle.hunk_words.proofs.PendingLaws.{pending_few}
 
 pub going_on : (p : Position) → is_between_hunks p ≡ false → is_done p ≡ false
@@ -34,16 +34,16 @@ table_hunks rows o f t =
     omega (arith, f.front_fits.counts, ap length t, length-append (table o.finished) (o.entry ∷ o.ahead), length-map o.finished (λ (x : HunkValue). x.entry), length-map rows row_entry)
 
 -- Its rows are the hunks of the file.
-open_hunks : (rows : List Row) (p : Progress) (state : BodyState) → IsBehindHeader (More p) → ProgressFits p → table_of (More p) ≡ entries_of rows → state_of (More p) ≡ state → targets_at state.position ≡ length rows
+open_hunks : (rows : List Row) (p : Progress) (state : BodyState) → IsAfterHeader (More p) → ProgressFits p → table_of (More p) ≡ entries_of rows → state_of (More p) ≡ state → targets_at state.position ≡ length rows
 open_hunks rows (AtBlock o) state b f t e = ap (λ (s : BodyState). targets_at s.position) (sym e) ∙ table_hunks rows o f t
 open_hunks rows (InBody o word x) state b f t e = ap (λ (s : BodyState). targets_at s.position) (sym e) ∙ table_hunks rows o f.0 t
 open_hunks rows _ state b f t e = absurd cc
 
 -- Whole, they are all of the store.
 whole_hunks : (rows : List Row) (store : List ℕ) (s : Standing) (fed : List ℕ) → IsFed rows store s fed → is_done s.state.position ≡ true → (s.state.hunk ≡ length rows) × (s.state.start ≡ length store)
-whole_hunks rows store s fed h done = let r = h.stands in go r.next r.behind r.table_is r.state_is
+whole_hunks rows store s fed h done = let r = h.stands in go r.next r.after r.table_is r.state_is
   where
-    go : (n : Next) → IsBehindHeader n → table_of n ≡ entries_of rows → state_of n ≡ s.state → (s.state.hunk ≡ length rows) × (s.state.start ≡ length store)
+    go : (n : Next) → IsAfterHeader n → table_of n ≡ entries_of rows → state_of n ≡ s.state → (s.state.hunk ≡ length rows) × (s.state.start ≡ length store)
     go (More (AtBlock o)) b t e = absurd (cc (done, ap (λ (x : BodyState). is_done x.position) e))
     go (More (InBody o word x)) b t e = absurd (cc (done, ap (λ (x : BodyState). is_done x.position) e))
     go (Finished v) b t e = (
@@ -63,12 +63,12 @@ fits_store rows store s fed h = record {
 -- ---- steps
 
 -- Of numbers it does not matter how many bytes they count, as long as a loader counts them.
-pub any_count : (rows : List Row) (store : List ℕ) (s : Standing) (fed : List ℕ) → IsFed rows store s fed → StandsAfter rows store s fed
+pub any_count : (rows : List Row) (store : List ℕ) (s : Standing) (fed : List ℕ) → IsFed rows store s fed → IsFedAfter rows store s fed
 any_count rows store s fed h = record { counted = refl; hunks = h.hunks; size = h.size; stands = h.stands }
 
--- Behind more bytes that were read.
-pub stands_more : (rows : List Row) (store store2 : List ℕ) (at : Standing) (state : BodyState) (pending : Pending) (fed bytes : List ℕ) → StandsAfter rows store at fed → length store2 ≡ length store →
-    StandsBehind rows store2 state (pending_of pending) (fed ++ bytes) → StandsAfter rows store2 (record { state = state; fed = at.fed; pending = pending }) (fed ++ bytes)
+-- After more bytes that were read.
+pub stands_more : (rows : List Row) (store store2 : List ℕ) (at : Standing) (state : BodyState) (pending : Pending) (fed bytes : List ℕ) → IsFedAfter rows store at fed → length store2 ≡ length store →
+    StandsAfter rows store2 state (pending_of pending) (fed ++ bytes) → IsFedAfter rows store2 (record { state = state; fed = at.fed; pending = pending }) (fed ++ bytes)
 stands_more rows store store2 at state pending fed bytes h same r = search rules
 
 -- Numbers that lead out of the rows or the store are no loader's.

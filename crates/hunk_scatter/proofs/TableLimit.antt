@@ -8,7 +8,7 @@ use Rattle.hunk_files.specs.{Fault.Expects, FileSteps.open_hunk, Image.declared_
 use Rattle.hunk_files.specs.LoadFile.{TableEntry, LoadFileValue}
 use Rattle.hunk_files.specs.LoadText.{labelled, header_labelled, hunk_labelled, table}
 use Rattle.hunk_scatter.specs.{HeaderBytes.{IsHeaderTable, header_words, entries_so_far}, HeaderFaults.ExceedsBudget}
-use Rattle.hunk_scatter.proofs.{Behind.{table_behind, no_size_word}, DeclaredBytes.declared_limit}
+use Rattle.hunk_scatter.proofs.{After.{table_after, no_size_word}, DeclaredBytes.declared_limit}
 use Rattle.hunk_scatter.proofs.{HeaderFronts.{text_header, header_within}, HeaderTexts.header_read, Splits.fronts}
 
 abbrev hunk_words_of : LoadFileValue → List ℕ
@@ -31,7 +31,7 @@ total_limit before e =
   where
     go : (t : List TableEntry) → IsHeaderTable t → ((m : List ℕ) × (header_words t ≡ before ++ e.word ∷ m)) ⊎ ((m : List ℕ) × (before ≡ header_words t ++ m)) → declared_bytes (entries_so_far before) ≤ 2 ^ 48
     go t is (inl (m, d)) = omega (arith, header_within t is before m e.word d e, declared_limit t, is.most)
-    go t is (inr (m, d)) = absurd (no_size_word (header_words t) m (open_hunk (length t) [] t) (header_read t is) (table_behind t is) (subst (λ (xs : List ℕ). Expects xs roles.SizeWord) d e))
+    go t is (inr (m, d)) = absurd (no_size_word (header_words t) m (open_hunk (length t) [] t) (header_read t is) (table_after t is) (subst (λ (xs : List ℕ). Expects xs roles.SizeWord) d e))
 
 -- No table passes the greatest budget.
 pub never_passes : (bytes : List ℕ) (at : ℕ) → ExceedsBudget (2 ^ 64 - 1) bytes at → ⊥

@@ -6,14 +6,14 @@ use Rattle.hunk_words.specs.{declared.reason.Reason.Reason, Longs.{bytes_of, lon
 use Rattle.hunk_files.specs.{Fault.HasRefusal, declared.row.Row.Row}
 use Rattle.hunk_grammar.specs.{Positions.{is_done, run}, declared.position.Position.Position}
 use Rattle.hunk_scatter.specs.declared.store.BodyState.{BodyState}
-use Rattle.hunk_scatter.specs.BodyLoaderFields.{ReadsOn, ReadyAt, RefusesFirstLong, StandsBehind, TakesOrRefuses}
+use Rattle.hunk_scatter.specs.BodyLoaderFields.{ReadsOn, ReadyAt, RefusesFirstLong, StandsAfter, TakesOrRefuses}
 use Rattle.hunk_scatter.specs.StoreContent.{stored_long, stored_run}
 use Rattle.hunk_scatter.specs.{BodySteps.{refusal, step_body, pass_body, IsInStore}, Rows.{words_of, bases_of}}
 use Rattle.hunk_scatter.proofs.{Faults.refusal_front, OneByte.{Going, going, more_read, refused_here, stands_as}}
 use Rattle.hunk_scatter.proofs.{Refusing.refused_in_body, Runs.{read_run, take_bytes}, Staying.{stays_as, word_stays}}
 use Rattle.hunk_words.proofs.LongLaws.{in_place, length-bytes_of}
 
-module _ (rows : List Row) (store : List ℕ) (state : BodyState) (fed : List ℕ) (r : StandsBehind rows store state [] fed) (more : is_done state.position ≡ false) where
+module _ (rows : List Row) (store : List ℕ) (state : BodyState) (fed : List ℕ) (r : StandsAfter rows store state [] fed) (more : is_done state.position ≡ false) where
   gone : Going rows store state [] fed
   gone = going rows store state [] fed r more
 
@@ -22,7 +22,7 @@ module _ (rows : List Row) (store : List ℕ) (state : BodyState) (fed : List �
     spelled : take 4 piece ≡ bytes_of (w ∷ [])
     spelled = in_place piece are four ∙ ap (λ (v : ℕ). bytes_of (v ∷ [])) (sym first)
 
-    pub word_taken : refusal (words_of rows) state w ≡ None → StandsBehind rows (stored_long (bases_of rows) state w store) (step_body (words_of rows) state w) [] (fed ++ take 4 piece)
+    pub word_taken : refusal (words_of rows) state w ≡ None → StandsAfter rows (stored_long (bases_of rows) state w store) (step_body (words_of rows) state w) [] (fed ++ take 4 piece)
     word_taken ok = more_read rows store state [] fed gone (take 4 piece) w is spelled ok
 
     pub word_refused : (reason : Reason) → refusal (words_of rows) state w ≡ Some reason → HasRefusal (fed ++ piece) (length fed) reason
@@ -31,18 +31,18 @@ module _ (rows : List Row) (store : List ℕ) (state : BodyState) (fed : List �
         (refused_here rows store state [] fed gone (take 4 piece) w is spelled reason (length fed) (omega (arith, length-take 4 piece, four)) no-pass)
 
 -- those of a run
-pub run_taken : (rows : List Row) (store : List ℕ) (state : BodyState) (fed : List ℕ) → StandsBehind rows store state [] fed → IsInStore (words_of rows) (length store) state →
+pub run_taken : (rows : List Row) (store : List ℕ) (state : BodyState) (fed : List ℕ) → StandsAfter rows store state [] fed → IsInStore (words_of rows) (length store) state →
     (piece : List ℕ) (n : ℕ) → IsBytes piece → n ≤ length piece → n % 4 ≡ 0 → 0 < n → n ≤ 4 * run state.position →
-    StandsBehind rows (stored_run state (take n piece) store) (pass_body state (length (take n piece) / 4)) [] (fed ++ take n piece)
+    StandsAfter rows (stored_run state (take n piece) store) (pass_body state (length (take n piece) / 4)) [] (fed ++ take n piece)
 run_taken rows store state fed r i piece n are inside fours some fits =
     let long : length (take n piece) ≡ n = omega (arith, length-take n piece, inside) in
-    subst (λ (k : ℕ). StandsBehind rows (stored_run state (take n piece) store) (pass_body state (k / 4)) [] (fed ++ take n piece)) (sym long)
+    subst (λ (k : ℕ). StandsAfter rows (stored_run state (take n piece) store) (pass_body state (k / 4)) [] (fed ++ take n piece)) (sym long)
     (read_run rows store state fed (take n piece) n r i long (take_bytes piece n are) fours some fits)
 
 -- the position by another name
-pub read_at : (rows : List Row) (store : List ℕ) (state : BodyState) (position : Position) (fed : List ℕ) → position ≡ state.position → StandsBehind rows store state [] fed →
-    StandsBehind rows store (record { hunk = state.hunk; start = state.start; position = position }) [] fed
-read_at rows store state position fed same r = subst (λ (p : Position). StandsBehind rows store (record { hunk = state.hunk; start = state.start; position = p }) [] fed) (sym same) r
+pub read_at : (rows : List Row) (store : List ℕ) (state : BodyState) (position : Position) (fed : List ℕ) → position ≡ state.position → StandsAfter rows store state [] fed →
+    StandsAfter rows store (record { hunk = state.hunk; start = state.start; position = position }) [] fed
+read_at rows store state position fed same r = subst (λ (p : Position). StandsAfter rows store (record { hunk = state.hunk; start = state.start; position = p }) [] fed) (sym same) r
 
 pub room_at : (sizes : List ℕ) (total : ℕ) (state : BodyState) (position : Position) → position ≡ state.position → IsInStore sizes total state →
     IsInStore sizes total (record { hunk = state.hunk; start = state.start; position = position })
@@ -57,9 +57,9 @@ module _ (rows : List Row) (store : List ℕ) (state : BodyState) (position : Po
   here_in : IsInStore (words_of rows) (length store) here
   here_in = room_at (words_of rows) (length store) state position ready.position_is ready.in_store
 
-  pub first_taken : refusal (words_of rows) here w ≡ None → (after : List ℕ) (behind : BodyState) → after ≡ stored_long (bases_of rows) here w store → length after ≡ length store → behind ≡ step_body (words_of rows) here w →
-      TakesOrRefuses rows store state piece after behind (Ok 4)
-  first_taken ok after behind stores same steps = record {
+  pub first_taken : refusal (words_of rows) here w ≡ None → (after : List ℕ) (next : BodyState) → after ≡ stored_long (bases_of rows) here w store → length after ≡ length store → next ≡ step_body (words_of rows) here w →
+      TakesOrRefuses rows store state piece after next (Ok 4)
+  first_taken ok after next stores same steps = record {
     takes = record {
       some = omega arith;
       inside = ready.whole_long;
@@ -83,19 +83,19 @@ module _ (rows : List Row) (store : List ℕ) (state : BodyState) (position : Po
 
 -- ---- a longword that these bytes complete
 
--- What it does whole, it does behind the bytes that were pending.
-module _ (rows : List Row) (store : List ℕ) (state : BodyState) (pending fed bytes four : List ℕ) (r : StandsBehind rows store state pending fed) (gathers : pending ++ bytes ≡ four) where
+-- What it does whole, it does after the bytes that were pending.
+module _ (rows : List Row) (store : List ℕ) (state : BodyState) (pending fed bytes four : List ℕ) (r : StandsAfter rows store state pending fed) (gathers : pending ++ bytes ≡ four) where
   abbrev front : List ℕ
   front = bytes_of r.ws
 
-  front_stands : StandsBehind rows store state [] front
+  front_stands : StandsAfter rows store state [] front
   front_stands = search rules
 
   spells : front ++ four ≡ fed ++ bytes
   spells = sym (ap (λ (xs : List ℕ). xs ++ bytes) r.spelled ∙ append_assoc (bytes_of r.ws) pending bytes ∙ ap (λ (xs : List ℕ). bytes_of r.ws ++ xs) gathers)
 
-  pub gathered_reads : (store2 : List ℕ) (state2 : BodyState) → ReadsOn rows store state four store2 state2 → StandsBehind rows store2 state2 [] (fed ++ bytes)
-  gathered_reads store2 state2 reads = subst (λ (bs : List ℕ). StandsBehind rows store2 state2 [] bs) spells (reads (bytes_of r.ws) front_stands)
+  pub gathered_reads : (store2 : List ℕ) (state2 : BodyState) → ReadsOn rows store state four store2 state2 → StandsAfter rows store2 state2 [] (fed ++ bytes)
+  gathered_reads store2 state2 reads = subst (λ (bs : List ℕ). StandsAfter rows store2 state2 [] bs) spells (reads (bytes_of r.ws) front_stands)
 
   pub gathered_refused : (reason : Reason) → RefusesFirstLong rows store state four reason → HasRefusal (fed ++ bytes) (4 * (length fed / 4)) reason
   gathered_refused reason refuses =
@@ -120,8 +120,8 @@ module _ (piece rest : List ℕ) (leaves : Leaves piece rest) where
       let left_at : left ≡ drop m rest = left_is ∙ take_rest rest m in
       let long : length left ≡ length rest - m = ap length left_at ∙ length-drop m rest in
       let on : taken + m ≡ length piece - length left = omega (arith, leaves.0, inside, long) in
-      let behind : left ≡ drop (taken + m) piece = left_at ∙ ap (λ (xs : List ℕ). drop m xs) leaves.1 ∙ drop-drop m taken piece in (
-        (omega (arith, leaves.0, inside, long), behind ∙ ap (λ (k : ℕ). drop k piece) on),
+      let next : left ≡ drop (taken + m) piece = left_at ∙ ap (λ (xs : List ℕ). drop m xs) leaves.1 ∙ drop-drop m taken piece in (
+        (omega (arith, leaves.0, inside, long), next ∙ ap (λ (k : ℕ). drop k piece) on),
         ap (λ (xs : List ℕ). take taken piece ++ take m xs) leaves.1 ∙ sym (take-add taken m piece) ∙ ap (λ (k : ℕ). take k piece) on,
         omega (arith, leaves.0, some, inside, long),
       )

@@ -21,7 +21,7 @@ use Rattle.hunk_scatter.specs.LoadOutcomes.{GoesPastNoFile}
 use Rattle.hunk_scatter.specs.LoaderValues.{BodyLoaderValue, FeedsFront, IsWholeFile, IsHunkRefusal}
 use Rattle.hunk_words.specs.PendingBytes.{pending_of}
 use Rattle.hunk_scatter.specs.declared.stream.Standing.{Standing}
-use Rattle.hunk_files.specs.ReaderPosition.{IsBehindHeader, table_of}
+use Rattle.hunk_files.specs.ReaderPosition.{IsAfterHeader, table_of}
 
 -- where the file is whole no byte is pending
 abbrev pub EndsWhole : Next → List ℕ → Type 0
@@ -30,13 +30,13 @@ EndsWhole (Finished v) pending = pending ≡ []
 
 -- A loader stands after these bytes: longwords were read and bytes are pending; the numbers and the store are those of
 -- what was read.
-pub record StandsBehind (rows : List Row) (store : List ℕ) (state : BodyState) (pending fed : List ℕ) : Type 0 where
+pub record StandsAfter (rows : List Row) (store : List ℕ) (state : BodyState) (pending fed : List ℕ) : Type 0 where
   pub ws : List ℕ
   pub next : Next
   pub spelled : fed ≡ bytes_of ws ++ pending
   pub few : length pending < 4
   pub read : HasRead ws next
-  pub behind : IsBehindHeader next
+  pub after : IsAfterHeader next
   pub table_is : table_of next ≡ entries_of rows
   pub state_is : state_of next ≡ state
   pub holds : StoreHolds (bases_of rows) next store
@@ -47,7 +47,7 @@ pub record IsFed (rows : List Row) (store : List ℕ) (s : Standing) (fed : List
   pub counted : s.fed ≡ saturated (length fed)
   pub hunks : length rows ≤ most_hunks
   pub size : length store ≡ declared_bytes (entries_of rows)
-  pub stands : StandsBehind rows store s.state (pending_of s.pending) fed
+  pub stands : StandsAfter rows store s.state (pending_of s.pending) fed
 
 pub record BodyLoaderInvariant (rows : List Row) (store : List ℕ) (s : Standing) (refused : Option Fault) (fed : List ℕ) : Type 0 where
   pub counted : s.fed ≡ saturated (length fed)
@@ -60,13 +60,13 @@ pub record BodyLoaderInvariant (rows : List Row) (store : List ℕ) (s : Standin
 
 -- Where a loader stands after bytes, with its store, it stands then after these bytes as well.
 abbrev pub ReadsOn : List Row → List ℕ → BodyState → List ℕ → List ℕ → BodyState → Type 0
-ReadsOn rows store state bytes after behind =
-    (fed : List ℕ) → StandsBehind rows store state [] fed → StandsBehind rows after behind [] (fed ++ bytes)
+ReadsOn rows store state bytes after next =
+    (fed : List ℕ) → StandsAfter rows store state [] fed → StandsAfter rows after next [] (fed ++ bytes)
 
 -- Where a loader stands after bytes, the longword is refused that the piece begins with.
 abbrev pub RefusesFirstLong : List Row → List ℕ → BodyState → List ℕ → Reason → Type 0
 RefusesFirstLong rows store state piece reason =
-    (fed : List ℕ) → StandsBehind rows store state [] fed → HasRefusal (fed ++ piece) (length fed) reason
+    (fed : List ℕ) → StandsAfter rows store state [] fed → HasRefusal (fed ++ piece) (length fed) reason
 
 -- The state is at this position, its segment lies in the store, and a longword lies whole in the piece.
 pub record ReadyAt (rows : List Row) (store : List ℕ) (state : BodyState) (position : Position) (piece : List ℕ) : Type 0 where
@@ -75,22 +75,22 @@ pub record ReadyAt (rows : List Row) (store : List ℕ) (state : BodyState) (pos
   pub whole_long : 4 ≤ length piece
 
 -- This many bytes of the piece were taken, one at least, and are read.
-pub record TakesFront (rows : List Row) (store : List ℕ) (state : BodyState) (piece after : List ℕ) (behind : BodyState) (n : ℕ) : Type 0 where
+pub record TakesFront (rows : List Row) (store : List ℕ) (state : BodyState) (piece after : List ℕ) (next : BodyState) (n : ℕ) : Type 0 where
   pub some : 0 < n
   pub inside : n ≤ length piece
-  pub reads : ReadsOn rows store state (take n piece) after behind
-  pub stays : StaysInStore (words_of rows) (length after) behind
+  pub reads : ReadsOn rows store state (take n piece) after next
+  pub stays : StaysInStore (words_of rows) (length after) next
 
 -- The piece is refused at its first longword, and the state stays.
-pub record RefusesFront (rows : List Row) (store : List ℕ) (state : BodyState) (piece : List ℕ) (behind : BodyState) (reason : Reason) : Type 0 where
+pub record RefusesFront (rows : List Row) (store : List ℕ) (state : BodyState) (piece : List ℕ) (next : BodyState) (reason : Reason) : Type 0 where
   pub refuses : RefusesFirstLong rows store state piece reason
   pub own_reasons : IsTrue (is_of_body reason)
-  pub same : behind ≡ state
+  pub same : next ≡ state
 
 -- A front of the piece is taken, or the piece is refused at its first longword.
-pub record TakesOrRefuses (rows : List Row) (store : List ℕ) (state : BodyState) (piece after : List ℕ) (behind : BodyState) (result : Result ℕ Reason) : Type 0 where
-  pub takes : IfOk result (TakesFront rows store state piece after behind)
-  pub refuses : IfErr result (RefusesFront rows store state piece behind)
+pub record TakesOrRefuses (rows : List Row) (store : List ℕ) (state : BodyState) (piece after : List ℕ) (next : BodyState) (result : Result ℕ Reason) : Type 0 where
+  pub takes : IfOk result (TakesFront rows store state piece after next)
+  pub refuses : IfErr result (RefusesFront rows store state piece next)
 
 -- ---- a piece
 

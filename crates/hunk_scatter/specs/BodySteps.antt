@@ -7,7 +7,7 @@ use Rattle.hunk_blocks.specs.declared.phase.Phase.{Phase}
 use Rattle.hunk_blocks.specs.declared.phase.Phase.TheVariants as phases
 use Rattle.hunk_grammar.specs.declared.position.Position.{Position}
 use Rattle.hunk_grammar.specs.declared.position.Position.TheVariants as positions
-use Rattle.hunk_grammar.specs.Positions.{role_at, step, pass, is_between_hunks, is_behind_header}
+use Rattle.hunk_grammar.specs.Positions.{role_at, step, pass, is_between_hunks, is_after_header}
 use Rattle.hunk_grammar.specs.Roles.{refuse}
 use Rattle.hunk_scatter.specs.declared.store.BodyState.{BodyState}
 
@@ -24,11 +24,11 @@ move_to sizes s p =
     if is_between_hunks p then record { hunk = s.hunk + 1; start = s.start + 4 * longs_at sizes s.hunk; position = p }
     else record { hunk = s.hunk; start = s.start; position = p }
 
--- Behind a longword that is not refused.
+-- After a longword that is not refused.
 abbrev pub step_body : List ℕ → BodyState → ℕ → BodyState
 step_body sizes s w = move_to sizes s (step s.position w)
 
--- Behind this many longwords of a run; the hunk stays.
+-- After this many longwords of a run; the hunk stays.
 abbrev pub pass_body : BodyState → ℕ → BodyState
 pass_body s n = record { hunk = s.hunk; start = s.start; position = pass s.position n }
 
@@ -52,7 +52,7 @@ pub record IsInStore (sizes : List ℕ) (total : ℕ) (s : BodyState) : Type 0 w
   pub hunks : length sizes ≤ most_hunks
   pub hunk : s.hunk < length sizes
   pub segment : s.start + 4 * longs_at sizes s.hunk ≤ total
-  pub in_body : is_behind_header s.position ≡ true
+  pub in_body : is_after_header s.position ≡ true
   pub targets : targets_at s.position ≤ length sizes
   pub room : RoomIn sizes (longs_at sizes s.hunk) s.position
 

@@ -8,7 +8,7 @@ use Rattle.hunk_words.specs.declared.reason.Reason.{Reason}
 use Rattle.hunk_words.specs.declared.reason.Reason.TheVariants as reasons
 use Rattle.hunk_grammar.specs.declared.position.Position.{Position}
 use Rattle.hunk_grammar.specs.declared.position.Position.TheVariants as positions
-use Rattle.hunk_grammar.specs.Positions.{role_at, step, is_behind_header}
+use Rattle.hunk_grammar.specs.Positions.{role_at, step, is_after_header}
 use Rattle.hunk_grammar.specs.Roles.{refuse}
 use Rattle.hunk_files.specs.declared.row.Row.{Row}
 use Rattle.hunk_files.specs.Image.{declared_bytes}
@@ -43,7 +43,7 @@ declared_so_far n = declared_bytes (table_of n)
 
 -- Where the header is whole, its first hunk opens next.
 abbrev pub OpensFirst : Next → Type 0
-OpensFirst n = is_behind_header (position_of n) ≡ true → n ≡ open_hunk (length (table_of n)) [] (table_of n)
+OpensFirst n = is_after_header (position_of n) ≡ true → n ≡ open_hunk (length (table_of n)) [] (table_of n)
 
 -- The longword is accepted by its own test and keeps to the budget, and after it the state is the next.
 pub record PassesWord (budget : ℕ) (s : HeaderState) (w : ℕ) (next : HeaderState) : Type 0 where
@@ -91,7 +91,7 @@ pub record HeaderReading (budget : ℕ) (rows : List Row) (s : HeaderState) (pen
   pub ws : List ℕ
   pub spelled : fed ≡ bytes_of ws ++ pending
   pub few : length pending < 4
-  pub whole : is_behind_header s.position ≡ true → pending ≡ []
+  pub whole : is_after_header s.position ≡ true → pending ≡ []
   pub has_read : HasReadHeader budget rows s ws
 
 pub record HeaderLoaderInvariant (budget : ℕ) (rows : List Row) (s : HeaderState) (pending : List ℕ) (count : ℕ) (refused : Option Fault) (fed : List ℕ) : Type 0 where
@@ -119,7 +119,7 @@ pub record HeaderStop (budget : ℕ) (bytes : List ℕ) (f : Fault) : Type 0 whe
   pub spelled : bytes ≡ bytes_of (ws ++ word ∷ [])
   pub long : IsLong word
   pub has_read : HasReadHeader budget rows state ws
-  pub goes_on : is_behind_header state.position ≡ false
+  pub goes_on : is_after_header state.position ≡ false
   pub place : f.place ≡ 4 * length ws
   pub stops : StopsFor budget state word f.reason
 

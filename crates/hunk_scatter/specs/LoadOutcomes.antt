@@ -38,13 +38,13 @@ IsNotPlaced base budget table =
     (budget < declared_bytes table) ⊎ ((hunk : ℕ) × (hunk < length table) × (base_at base table hunk ≡ None))
 
 -- Where a load file was in front, all that was after it is still to be read.
-abbrev pub StopsBehindFile : Supply → Supply → Type 0
-StopsBehindFile old new =
+abbrev pub StopsAfterFile : Supply → Supply → Type 0
+StopsAfterFile old new =
     (v : LoadFileValue) (rest : List ℕ) → IsLoadFile v → old.left ≡ Some (bytes_of (text v) ++ rest) → KeepsRest new rest
 
 -- Where the header of a table was in front that can't be placed, all that was after it is.
-abbrev pub StopsBehindHeader : Placing → ℕ → Supply → Supply → Type 0
-StopsBehindHeader base budget old new =
+abbrev pub StopsAfterHeader : Placing → ℕ → Supply → Supply → Type 0
+StopsAfterHeader base budget old new =
     (t : List TableEntry) (rest : List ℕ) → IsHeaderTable t → old.left ≡ Some (header_bytes t ++ rest)
     → IsNotPlaced base budget t → KeepsRest new rest
 

@@ -73,15 +73,15 @@ pub record MayTake (rows : List Row) (total : ℕ) (at : Standing) (piece : List
   pub nonempty : 0 < length piece
 
 -- A loader stands so after the bytes, however many of them the numbers count.
-abbrev pub StandsAfter : List Row → List ℕ → Standing → List ℕ → Type 0
-StandsAfter rows store s fed = IsFed rows store (record { state = s.state; fed = saturated (length fed); pending = s.pending }) fed
+abbrev pub IsFedAfter : List Row → List ℕ → Standing → List ℕ → Type 0
+IsFedAfter rows store s fed = IsFed rows store (record { state = s.state; fed = saturated (length fed); pending = s.pending }) fed
 
 -- This many bytes of the piece were taken, one at least.
 pub record TakesBytes (rows : List Row) (store : List ℕ) (at : Standing) (piece after : List ℕ) (to : Standing) (n : ℕ) : Type 0 where
   pub some : 0 < n
   pub inside : n ≤ length piece
   pub within : IsWithin rows (length after) to
-  pub takes : (fed : List ℕ) → StandsAfter rows store at fed → StandsAfter rows after to (fed ++ take n piece)
+  pub takes : (fed : List ℕ) → IsFedAfter rows store at fed → IsFedAfter rows after to (fed ++ take n piece)
 
 -- The longword is refused that the first byte of the piece is of, for this reason; where none is told, no loader stood so.
 abbrev pub RefusesLong : List ℕ → List ℕ → Option Reason → Type 0
@@ -90,7 +90,7 @@ RefusesLong fed piece None = ⊥
 
 -- No byte of the piece is taken, and the state stays.
 pub record RefusesPart (rows : List Row) (store : List ℕ) (at : Standing) (piece : List ℕ) (to : Standing) (why : Option Reason) : Type 0 where
-  pub refuses : (fed : List ℕ) → StandsAfter rows store at fed → RefusesLong fed piece why
+  pub refuses : (fed : List ℕ) → IsFedAfter rows store at fed → RefusesLong fed piece why
   pub own_reasons : IfSome why (λ reason. IsTrue (is_of_body reason))
   pub same : to.state ≡ at.state
 

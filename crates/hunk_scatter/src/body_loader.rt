@@ -22,7 +22,7 @@ ghost use Rattle.hunk_scatter.specs.Rows.{entries_of};
 
 use crate::header_loader::bytes_wanted;
 use crate::image::{Image, starts_of};
-use crate::stream::{Standing, Stop, take_all};
+use crate::stream::{Standing, Stop, feed_all};
 use hunk_files::Row;
 use hunk_grammar::Position;
 use hunk_words::{History, LoadFault};
@@ -69,7 +69,7 @@ impl BodyLoader {
         ensures { FeedsOrRefuses self.old piece.now self.new result }
     {
         let (store, rows) = (self.store.as_mut_slice(), self.rows.as_slice());
-        match take_all(store, rows, &mut self.standing, piece) {
+        match feed_all(store, rows, &mut self.standing, piece) {
             Ok(taken) => {
                 self.history = self.history.and(&piece[..taken]);
                 taken
@@ -111,7 +111,7 @@ impl BodyLoader {
         if self.refused.is_some() {
             return 0;
         }
-        // Behind a header a hunk is open, or the file is whole.
+        // After a header a hunk is open, or the file is whole.
         let Position::Body(hunk, phase) = self.standing.state.position else {
             return 0;
         };
@@ -168,7 +168,7 @@ impl BodyLoader {
 
     /// The number of the hunk that the next longword is of, or a longword was refused in, counted
     /// from 0. Where the file is whole, it is the number of hunks.
-    #[tactic(auto, using(crate::proofs::BodyFields::done_if_whole, crate::proofs::PartLaws::hunks_behind))]
+    #[tactic(auto, using(crate::proofs::BodyFields::done_if_whole, crate::proofs::PartLaws::hunks_after))]
     pub fn hunk(&self) -> u32
         ensures value { result ≡ self.now.hunk }
         ensures whole { self.now.refused ≡ None → IsWholeFile self.now.rows self.now.fed

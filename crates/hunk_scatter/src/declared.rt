@@ -178,7 +178,7 @@ impl Declared {
             count,
             history,
         } = table;
-        let standing = Standing::behind_header(rows.len() as u32, count);
+        let standing = Standing::after_header(rows.len() as u32, count);
         Ok(BodyLoader {
             rows,
             store,

@@ -97,7 +97,7 @@ impl HeaderLoader {
         ensures feeds_or_stops { FeedsHeaderOrStops self.old self.new piece.now result }
         ensures ends { result ≡ Ok 0 → IsHeader self.new.fed }
     {
-        if self.state.position.is_behind_header() {
+        if self.state.position.is_after_header() {
             return Ok(0);
         }
         let (pending, taken, next) = self.pending.take_front(piece);
@@ -155,7 +155,7 @@ impl HeaderLoader {
         if self.refused.is_some() {
             return 0;
         }
-        if self.state.position.is_behind_header() {
+        if self.state.position.is_after_header() {
             return 0;
         }
         bytes_wanted(self.state.position.least_longs(), self.pending)
@@ -265,7 +265,7 @@ impl HeaderLoader {
         if self.refused.is_some() {
             return Err(self);
         }
-        if !self.state.position.is_behind_header() {
+        if !self.state.position.is_after_header() {
             return Err(self);
         }
         let HeaderLoader {

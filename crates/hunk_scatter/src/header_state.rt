@@ -3,7 +3,7 @@
 ghost use Rattle.std.specs.Prelude.{◌≡◌, ◌+◌, ◌<◌, ◌≤◌, ◌^◌, ◌++◌, IfOk, IfErr, OnOk, IfSome};
 ghost use Rattle.std.specs.Prelude.{IfNone, [], ◌∷◌, map, false};
 ghost use Rattle.hunk_words.specs.declared.reason.Reason.TheVariants as reasons;
-ghost use Rattle.hunk_grammar.specs.Positions.{is_behind_header};
+ghost use Rattle.hunk_grammar.specs.Positions.{is_after_header};
 ghost use Rattle.hunk_scatter.specs.HeaderLoaderFields as heading;
 ghost use Rattle.hunk_scatter.specs.HeaderSizes.{HasHeaderInFront, HasHeaderSize, RefusesHeader};
 ghost use Rattle.hunk_scatter.specs.HeaderSizes.{TellsOwed};
@@ -49,7 +49,7 @@ fn row(position: Position, word: u32) -> Option<Row>
 /// is compiled of what it does at others.
 #[inline(always)]
 fn pass_at(state: HeaderState, budget: u64, word: u32) -> Result<HeaderState, Reason>
-    requires goes_on { is_behind_header state.position ≡ false }
+    requires goes_on { is_after_header state.position ≡ false }
     requires room { state.total + 2 ^ 32 < 2 ^ 64 }
     ensures passes { IfOk result (heading.PassesWord budget state word) }
     ensures refusal { IfErr result (heading.RefusesWord budget state word) }
@@ -89,7 +89,7 @@ macro_rules! by_size_word {
 /// Passes a longword, or answers why it is refused: by its own test, or by the budget.
 #[inline(always)]
 fn pass_header_word(state: HeaderState, budget: u64, word: u32) -> Result<HeaderState, Reason>
-    requires goes_on { is_behind_header state.position ≡ false }
+    requires goes_on { is_after_header state.position ≡ false }
     requires room { state.total + 2 ^ 32 < 2 ^ 64 }
     ensures passes { IfOk result (heading.PassesWord budget state word) }
     ensures refusal { IfErr result (heading.RefusesWord budget state word) }
@@ -110,7 +110,7 @@ pub(crate) fn take_header_word(
     budget: u64,
     word: u32,
 ) -> Result<HeaderState, Reason>
-    requires goes_on { is_behind_header state.position ≡ false }
+    requires goes_on { is_after_header state.position ≡ false }
     requires room { state.total + 2 ^ 32 < 2 ^ 64 }
     requires within { state.total ≤ budget }
     ensures rows { OnOk result (rows.new.items ≡ rows.old.items
@@ -179,7 +179,7 @@ pub fn header_size(bytes: &[u8], budget: u64) -> Result<HeaderSize, NoHeader>
         total: 0,
     };
     let mut at = 0;
-    'words: while !state.position.is_behind_header() {
+    'words: while !state.position.is_after_header() {
         let rest = &bytes[at..];
         let place = at as u64;
         if rest.len() < 4 {

@@ -70,9 +70,9 @@ pub(crate) fn starts_of(rows: &[Row]) -> [u64; STARTS]
     let mut k = 0;
     'starts: while k < STARTS {
         starts[k] = bytes;
-        let (front, behind) = rest.split_at(HUNKS_A_START.min(rest.len()));
+        let (front, after) = rest.split_at(HUNKS_A_START.min(rest.len()));
         bytes += start_of(front);
-        rest = behind;
+        rest = after;
         k += 1;
     }
     starts

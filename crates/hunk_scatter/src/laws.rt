@@ -9,7 +9,7 @@ ghost use Rattle.hunk_files.specs.Machines.{load_at};
 ghost use Rattle.hunk_files.specs.WordsRead.{HasRead};
 ghost use Rattle.hunk_files.specs.declared.part.Part.TheVariants.{Hunk};
 ghost use Rattle.hunk_files.specs.declared.row.Row.{Row};
-ghost use Rattle.hunk_grammar.specs.Positions.{is_behind_header, is_done, least_longs};
+ghost use Rattle.hunk_grammar.specs.Positions.{is_after_header, is_done, least_longs};
 ghost use Rattle.hunk_grammar.specs.declared.file_kind.Sniff.TheVariants.{Load};
 ghost use Rattle.hunk_scatter.specs.BodyLoaderFields.{IsFed};
 ghost use Rattle.hunk_scatter.specs.HeaderBytes.{IsHeaderTable, header_words};
@@ -25,14 +25,14 @@ pub fn least_longs()
     ensures file { (v : LoadFileValue) (ws more : List ℕ) → IsLoadFile v → text v ≡ ws ++ more →
         least_longs (load_at ws) ≤ length more }
     ensures some_file { (v : LoadFileValue) (ws more : List ℕ) → IsLoadFile v →
-        text v ≡ ws ++ more → is_behind_header (load_at ws) ≡ true →
+        text v ≡ ws ++ more → is_after_header (load_at ws) ≡ true →
         (u : LoadFileValue) × (rest : List ℕ) × IsLoadFile u × (text u ≡ ws ++ rest)
         × (length rest ≡ least_longs (load_at ws)) }
     ensures header { (t : List TableEntry) (ws more : List ℕ) → IsHeaderTable t →
-        header_words t ≡ ws ++ more → is_behind_header (load_at ws) ≡ false →
+        header_words t ≡ ws ++ more → is_after_header (load_at ws) ≡ false →
         least_longs (load_at ws) ≤ length more }
     ensures some_header { (t : List TableEntry) (ws more : List ℕ) → IsHeaderTable t →
-        header_words t ≡ ws ++ more → is_behind_header (load_at ws) ≡ false →
+        header_words t ≡ ws ++ more → is_after_header (load_at ws) ≡ false →
         (u : List TableEntry) × (rest : List ℕ) × IsHeaderTable u × (header_words u ≡ ws ++ rest)
         × (length rest ≡ least_longs (load_at ws)) }
 {}

@@ -12,7 +12,7 @@ ghost use Rattle.hunk_scatter.specs.LoaderValues.{IsImageOf};
 ghost use Rattle.hunk_scatter.specs.LoadOutcomes.{Gives, GoesPastNoFile, GoesPastNoHeader};
 ghost use Rattle.hunk_scatter.specs.LoadOutcomes.{HasFileWithin, IsBodyStop, IsHeaderStop};
 ghost use Rattle.hunk_scatter.specs.LoadOutcomes.{IsReadFault, Loads, PassesBudget};
-ghost use Rattle.hunk_scatter.specs.LoadOutcomes.{StopsBehindFile, StopsBehindHeader, TellsFailure};
+ghost use Rattle.hunk_scatter.specs.LoadOutcomes.{StopsAfterFile, StopsAfterHeader, TellsFailure};
 ghost use Rattle.hunk_scatter.specs.LoadRefusals.{IsFaultIn, LoadsOrNames, NamesPart, without_part};
 ghost use Rattle.hunk_scatter.specs.Owing.{most_want};
 
@@ -192,8 +192,8 @@ pub fn load<R: Source, P: Placer>(
     ensures loads { Loads (P.base p.now) limits (R.supply r.old) (R.supply r.new) result }
 
     // What is read at most.
-    ensures one_file { StopsBehindFile (R.supply r.old) (R.supply r.new) }
-    ensures header_first { StopsBehindHeader (P.base p.now) limits.budget
+    ensures one_file { StopsAfterFile (R.supply r.old) (R.supply r.new) }
+    ensures header_first { StopsAfterHeader (P.base p.now) limits.budget
         (R.supply r.old) (R.supply r.new) }
 
     // Success, and where there is none.
@@ -229,8 +229,8 @@ pub fn load_naming_part<R: Source, P: Placer>(
     ensures loads { LoadsOrNames (P.base p.now) limits (R.supply r.old) (R.supply r.new) result }
 
     // What is read at most.
-    ensures one_file { StopsBehindFile (R.supply r.old) (R.supply r.new) }
-    ensures header_first { StopsBehindHeader (P.base p.now) limits.budget
+    ensures one_file { StopsAfterFile (R.supply r.old) (R.supply r.new) }
+    ensures header_first { StopsAfterHeader (P.base p.now) limits.budget
         (R.supply r.old) (R.supply r.new) }
 
     // Success, and where there is none.

@@ -292,7 +292,7 @@ pub(crate) fn take_front(
     requires goes_on { is_done state.old.position ≡ false }
     ensures { TakesOrRefuses rows.now store.old state.old piece.now store.new state.new result }
 {
-    // Behind a header a hunk is open, or the file is whole.
+    // After a header a hunk is open, or the file is whole.
     let Position::Body(hunk, phase) = &state.position else {
         unreachable!()
     };

@@ -58,8 +58,8 @@ impl fmt::Display for Stop {
 impl Error for Stop {}
 
 impl Standing {
-    /// Behind a header of `fed` bytes, whose table has `hunks` hunks.
-    pub(crate) fn behind_header(hunks: u32, fed: u64) -> Standing
+    /// After a header of `fed` bytes, whose table has `hunks` hunks.
+    pub(crate) fn after_header(hunks: u32, fed: u64) -> Standing
         ensures state { result.state
             ≡ record { hunk = 0; start = 0; position = open_next hunks hunks } }
         ensures fed { result.fed ≡ fed }
@@ -130,7 +130,7 @@ type Taken = Result<usize, Option<Reason>>;
 
 /// Takes the byte at the front of the piece.
 #[inline(always)]
-fn take_byte(store: &mut [u8], rows: &[Row], at: &mut Standing, piece: &[u8]) -> Taken
+fn feed_byte(store: &mut [u8], rows: &[Row], at: &mut Standing, piece: &[u8]) -> Taken
     requires { MayTake rows.now (length store.old) at.old piece.now }
     ensures { TakesPart rows.now store.old at.old piece.now store.new at.new result }
 {
@@ -156,12 +156,12 @@ fn take_byte(store: &mut [u8], rows: &[Row], at: &mut Standing, piece: &[u8]) ->
 /// The numbers are looked at where a hunk opens: within it no longword leads out of the rows or
 /// the store.
 #[inline(always)]
-fn take_part(store: &mut [u8], rows: &[Row], at: &mut Standing, piece: &[u8]) -> Taken
+fn feed_part(store: &mut [u8], rows: &[Row], at: &mut Standing, piece: &[u8]) -> Taken
     requires { MayTake rows.now (length store.old) at.old piece.now }
     ensures { TakesPart rows.now store.old at.old piece.now store.new at.new result }
 {
     if at.pending.count > 0 || piece.len() < 4 {
-        return take_byte(store, rows, at, piece);
+        return feed_byte(store, rows, at, piece);
     }
     if at.state.position.is_between_hunks() && !at.state.is_in_store(rows, store.len()) {
         return Err(None);
@@ -176,7 +176,7 @@ fn take_part(store: &mut [u8], rows: &[Row], at: &mut Standing, piece: &[u8]) ->
 /// of bytes taken. The numbers are known to lead nowhere else; what they are after an `Err` is not
 /// said, but that they count no more bytes.
 #[inline(always)]
-pub(crate) fn take_all(
+pub(crate) fn feed_all(
     store: &mut [u8],
     rows: &[Row],
     at: &mut Standing,
@@ -198,7 +198,7 @@ pub(crate) fn take_all(
         let Position::Body(_, _) = at.state.position else {
             break 'parts;
         };
-        match take_part(store, rows, at, rest) {
+        match feed_part(store, rows, at, rest) {
             Ok(count) => rest = &rest[count..],
             Err(None) => return Err(Stop::Strange),
             Err(Some(reason)) => {
@@ -227,7 +227,7 @@ pub(crate) fn take_all(
 ///   after longwords of it. The numbers of a loader are never answered so.
 ///
 /// What the store has after an `Err` is not said.
-pub fn take_piece(
+pub fn feed_piece(
     store: &mut [u8],
     rows: &[Row],
     at: Standing,
@@ -252,7 +252,7 @@ pub fn take_piece(
         return Err(Stop::Strange);
     }
     let mut to = at;
-    let taken = match take_all(store, rows, &mut to, piece) {
+    let taken = match feed_all(store, rows, &mut to, piece) {
         Ok(taken) => taken,
         Err(stop) => return Err(stop),
     };
@@ -282,5 +282,5 @@ pub fn begin(store: &mut [u8], rows: &[Row], header: u64) -> Standing
     ensures zero { store.new ≡ replicate (length store.old) 0 }
 {
     store.fill(0);
-    Standing::behind_header(hunks_of(rows), header)
+    Standing::after_header(hunks_of(rows), header)
 }

@@ -108,10 +108,10 @@ four-at (a ∷ b ∷ []) i within = absurd (omega (arith, within))
 four-at (a ∷ b ∷ c ∷ []) i within = absurd (omega (arith, within))
 four-at (a ∷ b ∷ c ∷ d ∷ rest) zero within = refl
 four-at (a ∷ b ∷ c ∷ d ∷ rest) (suc i) within =
-    ap (λ (n : ℕ). from_be_bytes w32 (take 4 (drop n (a ∷ b ∷ c ∷ d ∷ rest)))) (behind i) ∙ four-at rest i (omega (arith, within))
+    ap (λ (n : ℕ). from_be_bytes w32 (take 4 (drop n (a ∷ b ∷ c ∷ d ∷ rest)))) (after i) ∙ four-at rest i (omega (arith, within))
   where
-    behind : (i : ℕ) → 4 * suc i ≡ suc (suc (suc (suc (4 * i))))
-    behind i = omega arith
+    after : (i : ℕ) → 4 * suc i ≡ suc (suc (suc (suc (4 * i))))
+    after i = omega arith
 
 pub word_is : (bytes : List ℕ) (i : ℕ) → 4 * i + 4 ≤ length bytes → from_be_bytes w32 (slice_range bytes (4 * i) (4 * i + 4)) ≡ get_or (longs bytes) i 0
 word_is bytes i within = ap (λ (n : ℕ). from_be_bytes w32 (take n (drop (4 * i) bytes))) (long-size (4 * i)) ∙ four-at bytes i within

@@ -12,8 +12,8 @@ puts_all a b m n front rose gone =
     record { count = length front; fits = omega arith; rose = rose; gone = subst (Appends a b) (sym (take_all (length front) front (omega arith))) gone }
 
 -- what is put after a front goes on
-puts_behind : (a b c : Option (List ℕ)) (m n o : ℕ) (bytes rest : List ℕ) → PutsBefore a b m n bytes rest → Puts b c n o rest → Puts a c m o bytes
-puts_behind a b c m n o bytes rest (front, split, rose, gone) more =
+puts_after : (a b c : Option (List ℕ)) (m n o : ℕ) (bytes rest : List ℕ) → PutsBefore a b m n bytes rest → Puts b c n o rest → Puts a c m o bytes
+puts_after a b c m n o bytes rest (front, split, rose, gone) more =
     subst (Puts a c m o) (sym split) (puts_more_after a b c m n o front rest (puts_all a b m n front rose gone) rose more)
 
 module _ {W : Type 0} (outlet : W → Outlet) (first : Writing W) where
@@ -48,12 +48,12 @@ module _ {W : Type 0} (outlet : W → Outlet) (first : Writing W) where
     unfolding Sent
     put_open (Ok x) is (before, same) =
         let all : new.written ≡ old.written + length held = subst (λ (s : Result T WriteFault). OnOk s (new.written ≡ old.written + length held)) is puts.all in
-        let sent = puts_behind _ _ _ _ _ _ text held before puts.puts in
+        let sent = puts_after _ _ _ _ _ _ text held before puts.puts in
         let rose : new.written ≡ first.written + length text = omega (arith, all, before.2, ap length before.1, length-append before.0 held) in (
           (text, sym (append-nil text), rose, subst (Appends (outlet first.sink).taken (outlet new.sink).taken) (take_all sent.count text (omega (arith, rose, sent.rose))) sent.gone),
           subst (λ (s : Result T WriteFault). OnOk s ((outlet new.sink).failed ≡ (outlet old.sink).failed)) is puts.no_failure ∙ same,
         )
-    put_open (Err e) is (before, same) = (omega arith, puts_behind _ _ _ _ _ _ text held before puts.puts)
+    put_open (Err e) is (before, same) = (omega arith, puts_after _ _ _ _ _ _ text held before puts.puts)
 
     -- one that had stopped at first is as it was
     stayed : first.stopped ≡ true → IsErr r × (new ≡ first)

@@ -3,7 +3,7 @@ use Rattle.std.specs.Prelude.{ℕ, List, Option, Some, None, codes}
 use Rattle.hunk_words.specs.declared.block_word.Kind.{Kind}
 use Rattle.hunk_words.specs.declared.block_word.Kind.TheVariants as kinds
 
--- the name of a kind of block, as `dos/doshunks.h` has it behind HUNK_
+-- the name of a kind of block, as `dos/doshunks.h` has it after HUNK_
 abbrev pub name_of_kind : Kind → Option (List ℕ)
 name_of_kind kinds.Unit = Some (codes "UNIT")
 name_of_kind kinds.Name = Some (codes "NAME")

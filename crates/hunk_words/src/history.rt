@@ -22,7 +22,7 @@ impl History {
         History {}
     }
 
-    /// This history with the piece behind it. The piece is for the contract alone.
+    /// This history with the piece after it. The piece is for the contract alone.
     pub fn and(&self, _piece: &[u8]) -> History
         ensures { result.bytes ≡ self.now.bytes ++ _piece.now }
     {

@@ -33,7 +33,7 @@ pub trait Source {
 
     /// Fills a first part of the buffer and gives the number of its bytes.
     ///
-    /// It is 0 only where none is left or the buffer is empty. What the buffer has behind that
+    /// It is 0 only where none is left or the buffer is empty. What the buffer has after that
     /// part, and after an `Err`, is not said.
     ///
     /// # Errors

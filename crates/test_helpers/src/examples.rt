@@ -24,7 +24,7 @@ pub const TWO_BASES: &str = "3F3 0 2 0 1 1 1 / 3E9 1 10 / 3EC 1 0 0 1 1 0 0 / 3F
 pub const OVERLAPPING: &str = "3F3 0 1 0 0 2 / 3E9 2 0000FFFF FFFF0000 / 3EC 2 0 0 2 0 / 3F2";
 
 /// Example 6 with its offsets the other way round.
-pub const OVERLAPPING_FROM_BEHIND: &str =
+pub const OVERLAPPING_FROM_AFTER: &str =
     "3F3 0 1 0 0 2 / 3E9 2 0000FFFF FFFF0000 / 3EC 2 0 2 0 0 / 3F2";
 
 /// Example 7: two hunks that have fewer bytes than they declare.
@@ -56,7 +56,7 @@ pub const OBJECT_WITH_DREL32: &str = "3E7 1 61000000 / 3E9 1 0 / 3F7 1 0 0 0 / 3
 pub const OBJECT: &str = "3E7 1 61000000 / 3E9 2 4EB90000 00004E75 / \
     3EF 81000001 5F660000 1 2 1000001 5F6D0000 0 0 / 3F2";
 
-/// Example 14 with an offset behind the hunk.
+/// Example 14 with an offset after the hunk.
 pub const OBJECT_WITH_AN_OFFSET_OUTSIDE: &str = "3E7 1 61000000 / 3E9 2 4EB90000 00004E75 / \
     3EF 81000001 5F660000 1 5 1000001 5F6D0000 0 0 / 3F2";
 
@@ -105,15 +105,15 @@ pub const EMPTY_UNIT_AND_ANOTHER: &str = "3E7 0 / 3E7 1 62000000 / 3EB 4 / 3F2";
 /// Example 35: an object file with a common symbol.
 pub const COMMON: &str = "3E7 0 / 3EB 2 / 3EF 82000001 63000000 8 1 4 0 / 3F2";
 
-/// Example 35 with an offset behind the hunk.
+/// Example 35 with an offset after the hunk.
 pub const COMMON_WITH_AN_OFFSET_OUTSIDE: &str =
     "3E7 0 / 3EB 2 / 3EF 82000001 63000000 8 1 5 0 / 3F2";
 
 /// Example 36: two relocated longs that overlap, which are no neighbours in the list.
 pub const OVERLAPPING_APART: &str = "3F3 0 1 0 0 4 / 3EB 4 / 3EC 3 0 0 8 2 0 / 3F2";
 
-/// Example 37: a relocation behind a SYMBOL block.
-pub const RELOCATED_BEHIND_SYMBOLS: &str = "3F3 0 1 0 0 1 / 3E9 1 10 / 3F0 0 / 3EC 1 0 0 0 / 3F2";
+/// Example 37: a relocation after a SYMBOL block.
+pub const RELOCATED_AFTER_SYMBOLS: &str = "3F3 0 1 0 0 1 / 3E9 1 10 / 3F0 0 / 3EC 1 0 0 0 / 3F2";
 
 /// What strip leaves of example 37.
 pub const RELOCATED_ALONE: &str = "3F3 0 1 0 0 1 / 3E9 1 10 / 3EC 1 0 0 0 / 3F2";
@@ -181,7 +181,7 @@ pub const TWO_UNITS: &str = "3E7 1 61000000 / \
 
 /// An object file of five units, at 0, 120, 140, 152 and 324. The first two are those of `TWO_UNITS`, with hunks at
 /// 12, 88 and 128; the third and the fifth have no hunk; the fourth has five, at 160, 172, 184, 196 and 212, the last
-/// of six blocks, at 212, 224, 232, 304, 312 and 320, with five groups of relocations behind 232.
+/// of six blocks, at 212, 224, 232, 304, 312 and 320, with five groups of relocations after 232.
 pub const FIVE_UNITS: &str = "3E7 1 61000000 / \
     3E9 2 4EB90000 4E75 / 3EC 1 0 2 0 / 3EF 81000001 5F660000 1 2 1000001 5F6D0000 0 0 / 3F2 / \
     3EB 1 / 3F0 1 5F6D0000 0 0 / 3F2 / \

@@ -16,7 +16,7 @@ const EACH: usize = 8;
 /// How many growths are granted at most.
 const MOST: usize = 30;
 
-/// The pieces of a size, each with one of the allocator's smallest size behind it, so that no two are neighbours, and
+/// The pieces of a size, each with one of the allocator's smallest size after it, so that no two are neighbours, and
 /// how many of them are granted.
 #[derive(Drop)]
 struct Room {
@@ -127,7 +127,7 @@ fn grant<E: PartialEq + Drop, F: Fn() -> Option<E>>(
 /// as it succeeds: its answers have to differ from growth to growth. The size of each growth is looked for, and a
 /// piece of it is there for this growth alone.
 ///
-/// Unlike `answers_growth_by_growth` it sees those behind a list that doubles, too. Only a growth of the size of
+/// Unlike `answers_growth_by_growth` it sees those after a list that doubles, too. Only a growth of the size of
 /// a piece that the call gave back before takes that one, and is not seen.
 ///
 /// # Errors

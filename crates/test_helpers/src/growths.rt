@@ -224,7 +224,7 @@ const STEPS: usize = 2_500;
 /// The bytes before a room, so many that the allocator does not keep them for requests of their size.
 const FRONT: usize = 4_096;
 
-/// Rooms of ever more steps, from none on, each behind a front.
+/// Rooms of ever more steps, from none on, each after a front.
 fn rooms_by_steps(alloc: Global) -> Result<Vec<Vec<u8>>, AllocError> {
     let mut rooms = Vec::with_capacity(alloc, STEPS)?;
     for steps in 0..STEPS {
@@ -254,7 +254,7 @@ fn answer_in<E: Drop, F: Fn() -> Option<E>>(
 /// one that comes again is left out, and then `None`, as it succeeds.
 ///
 /// From call to call there is a step more of memory. A growth takes one step or more, so that each is
-/// once the first that is refused, up to the first that is asked for behind a list that doubles: the
+/// once the first that is refused, up to the first that is asked for after a list that doubles: the
 /// allocator keeps what a list leaves of the room, when it grows in its place, for requests of that
 /// size alone.
 ///

@@ -41,19 +41,19 @@ const HEADER: &[Run] = &[
 ];
 
 /// The end of the first hunk of a load file, and its other hunks, of 4 bytes each.
-const HUNKS_BEHIND: &[Run] = &[(1, &[0x3F2]), (HUNKS - 1, &[0x3EB, 1, 0x3F2])];
+const HUNKS_AFTER: &[Run] = &[(1, &[0x3F2]), (HUNKS - 1, &[0x3EB, 1, 0x3F2])];
 
 /// A load file of many hunks, the first of which has many of all else.
-pub const LOAD_FILE: &[&[Run]] = &[HEADER, BLOCKS, GROUPS, OFFSETS, SYMBOLS, HUNKS_BEHIND];
+pub const LOAD_FILE: &[&[Run]] = &[HEADER, BLOCKS, GROUPS, OFFSETS, SYMBOLS, HUNKS_AFTER];
 
 /// What stripping leaves of it.
-pub const STRIPPED_LOAD_FILE: &[&[Run]] = &[HEADER, GROUPS, OFFSETS, HUNKS_BEHIND];
+pub const STRIPPED_LOAD_FILE: &[&[Run]] = &[HEADER, GROUPS, OFFSETS, HUNKS_AFTER];
 
 /// The first unit of the object file, and its first content: 8 bytes.
 const UNIT: &[Run] = &[(1, &[0x3E7, 0, 0x3EB, 2])];
 
 /// The end of its first hunk, the other hunks, and the other units, which have none.
-const UNITS_BEHIND: &[Run] = &[
+const UNITS_AFTER: &[Run] = &[
     (1, &[0x3F2]),
     (MANY - 1, &[0x3EB, 1, 0x3F2]),
     (MANY - 1, &[0x3E7, 0]),
@@ -61,18 +61,10 @@ const UNITS_BEHIND: &[Run] = &[
 
 /// An object file of many units, the first of which has many hunks, the first of which has many of all else.
 /// Its findings are the references.
-pub const OBJECT_FILE: &[&[Run]] = &[
-    UNIT,
-    BLOCKS,
-    GROUPS,
-    OFFSETS,
-    ENTRIES,
-    SYMBOLS,
-    UNITS_BEHIND,
-];
+pub const OBJECT_FILE: &[&[Run]] = &[UNIT, BLOCKS, GROUPS, OFFSETS, ENTRIES, SYMBOLS, UNITS_AFTER];
 
 /// What stripping leaves of it.
-pub const STRIPPED_OBJECT_FILE: &[&[Run]] = &[UNIT, GROUPS, OFFSETS, ENTRIES, UNITS_BEHIND];
+pub const STRIPPED_OBJECT_FILE: &[&[Run]] = &[UNIT, GROUPS, OFFSETS, ENTRIES, UNITS_AFTER];
 
 /// The bytes of the runs.
 ///

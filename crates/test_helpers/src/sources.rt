@@ -10,13 +10,13 @@ fn give(rest: &mut &[u8], buf: &mut [u8], most: usize) -> usize
     ensures { result ≤ length buf.new }
 {
     let count = buf.len().min(rest.len()).min(most);
-    let (front, behind) = rest.split_at(count);
+    let (front, after) = rest.split_at(count);
     buf[..count].copy_from_slice(front);
-    *rest = behind;
+    *rest = after;
     count
 }
 
-/// Gives these bytes, one a read; behind this many of them one read fails, and those after it go on.
+/// Gives these bytes, one a read; after this many of them one read fails, and those after it go on.
 #[derive(Debug, Drop)]
 pub struct FailsOnce<'a> {
     rest: &'a [u8],
@@ -60,7 +60,7 @@ impl Source for FailsOnce<'_> {
     }
 }
 
-/// Reads these bytes, one a read; behind this many of them one read is interrupted, and those after it go on.
+/// Reads these bytes, one a read; after this many of them one read is interrupted, and those after it go on.
 #[derive(Debug, Drop)]
 pub struct Interrupted<'a> {
     rest: &'a [u8],
@@ -90,7 +90,7 @@ impl Read for Interrupted<'_> {
     }
 }
 
-/// What comes behind the bytes of a `Fed`.
+/// What comes after the bytes of a `Fed`.
 #[derive(Clone, Copy, Debug, PartialEq)]
 pub enum Then {
     Ends,
@@ -99,7 +99,7 @@ pub enum Then {
     Repeats,
 }
 
-/// Gives these bytes in pieces, and then what comes behind them.
+/// Gives these bytes in pieces, and then what comes after them.
 #[derive(Debug, Drop)]
 pub struct Fed<'a> {
     rest: &'a [u8],
@@ -139,7 +139,7 @@ impl<'a> Fed<'a> {
         self.rest
     }
 
-    /// How many bytes it has given, with those that come behind its own.
+    /// How many bytes it has given, with those that come after its own.
     pub fn given(&self) -> usize {
         self.given.wrapping_add(self.repeated)
     }
@@ -150,7 +150,7 @@ impl<'a> Fed<'a> {
     }
 }
 
-/// Goes on with `3F1 0` behind this many bytes of it, and tells how many bytes there are then.
+/// Goes on with `3F1 0` after this many bytes of it, and tells how many bytes there are then.
 fn repeat(from: usize, buf: &mut [u8]) -> usize {
     let mut at = from;
     for byte in buf {

@@ -31,7 +31,7 @@ impl Narrow {
         }
     }
 
-    /// With room for this many bytes, and behind them each write fails.
+    /// With room for this many bytes, and after them each write fails.
     pub fn failing(room: usize) -> Narrow {
         Narrow::new(room, WIDTH, false)
     }

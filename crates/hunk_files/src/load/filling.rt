@@ -47,7 +47,7 @@ fn fill_hunk<B: Bases>(memory: &mut [u8], blocks: &mut BlockViews<'_>, bases: &m
     ensures memory { memory.new
         ≡ memory_of (B.bases bases.old) (length memory.old) blocks.old.value }
     ensures stays { B.bases bases.new ≡ B.bases bases.old }
-    ensures behind { blocks.new.place
+    ensures after { blocks.new.place
         ≡ blocks.old.place + 4 * length (block_texts blocks.old.value) }
 {
     'filling: while let Some(block) = blocks.next() {
@@ -70,7 +70,7 @@ fn fill_block<B: Bases>(memory: &mut [u8], body: BodyView<'_>, bases: &mut B)
     }
 }
 
-/// Writes the content to the front of the memory, and zero bytes behind it.
+/// Writes the content to the front of the memory, and zero bytes after it.
 fn put_content(memory: &mut [u8], payload: &Payload<'_>)
     requires { length (longs payload.now) ≤ length memory.old / 4 }
     ensures { memory.new ≡ filled (length memory.old) (bytes_of (longs payload.now)) }

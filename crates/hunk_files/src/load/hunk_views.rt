@@ -10,7 +10,7 @@ ghost use Rattle.hunk_files.specs.Tables.{hunk_of};
 use crate::blocks::{BlockViews, keep_blocks};
 use crate::load::hunk::{LoadHunk, row_of};
 use crate::load::table::TableIter;
-use crate::place::out_of_memory;
+use crate::out_of_memory::out_of_memory;
 use hunk_words::{FileFault, SizeWord};
 use std::alloc::Global;
 use std::marker::Model;
@@ -53,7 +53,7 @@ impl<'a> Model for LoadHunkViews<'a> {
 }
 
 impl<'a> LoadHunkViews<'a> {
-    /// The byte of the input at which the blocks of the next hunk begin, or behind the last hunk the
+    /// The byte of the input at which the blocks of the next hunk begin, or after the last hunk the
     /// byte at which the file ends.
     #[inline(always)]
     pub fn place(&self) -> u64

@@ -7,7 +7,7 @@ use crate::part::Part;
 use hunk_grammar::Position;
 use hunk_words::word_at;
 
-/// The part that the longword behind the first `count` is of, where a load file begins with these,
+/// The part that the longword after the first `count` is of, where a load file begins with these,
 /// and goes on.
 pub(crate) fn part_before(bytes: &[u8], count: usize) -> Part
     requires { 4 * count ≤ length bytes.now }

@@ -7,7 +7,7 @@ ghost use Rattle.hunk_files.specs.Passing.{IsContent, IsCounted, IsGroup, IsPass
 use hunk_grammar::{OpenHunk, Phase, Position, by_kind, is_outside};
 use hunk_words::{BlockWord, CONTENT_LIMIT, NAME_LIMIT, SizeWord, word_at};
 
-/// The longword behind what is passed over at once from `at` on, in a hunk of `declared` longs, and
+/// The longword after what is passed over at once from `at` on, in a hunk of `declared` longs, and
 /// the position there: rows of the table up to its last, or blocks, all of them whole. Nothing of it
 /// is refused.
 #[inline(always)]
@@ -21,12 +21,12 @@ pub(super) fn pass_over(
 {
     match position {
         Position::SizeWord { hunks, owed } => {
-            let (end, count) = behind_rows(bytes, at, owed);
+            let (end, count) = after_rows(bytes, at, owed);
             let owed = owed - count;
             (end, Position::SizeWord { hunks, owed })
         }
         Position::Body(hunk, Phase::FirstBlock | Phase::BlockWord) => {
-            let (end, has_content) = behind_blocks(
+            let (end, has_content) = after_blocks(
                 bytes,
                 at,
                 hunk.hunks,
@@ -46,12 +46,12 @@ pub(super) fn pass_over(
     }
 }
 
-/// The longword behind the blocks that stand from `from` on and end in the bytes, up to the first
+/// The longword after the blocks that stand from `from` on and end in the bytes, up to the first
 /// that may be refused in a hunk of `declared` longs of a file of `hunks` hunks; and whether the
 /// content block of the hunk came up to there, as `has_content` says of `from`.
 #[inline(never)]
 #[tactic(auto, using(crate::proofs::Passed::block_on))]
-fn behind_blocks(
+fn after_blocks(
     bytes: &[u8],
     from: usize,
     hunks: u32,
@@ -62,17 +62,17 @@ fn behind_blocks(
 {
     let mut at = from;
     let mut has = has_content;
-    'passing: while let Some(next) = behind_block(bytes, at, hunks, declared, has) {
+    'passing: while let Some(next) = after_block(bytes, at, hunks, declared, has) {
         at = next.0;
         has = next.1;
     }
     (at, has)
 }
 
-/// The longword behind one such block, where one stands at `at`, and whether the content block came
+/// The longword after one such block, where one stands at `at`, and whether the content block came
 /// up to there.
 #[inline(always)]
-fn behind_block(
+fn after_block(
     bytes: &[u8],
     at: usize,
     hunks: u32,
@@ -88,13 +88,13 @@ fn behind_block(
     let word = word_at(bytes, at);
     by_kind!(
         BlockWord::of(word).kind(),
-        behind_word(bytes, at, hunks, declared, has_content, word)
+        after_word(bytes, at, hunks, declared, has_content, word)
     )
 }
 
 /// The same, by the block's word.
 #[inline(always)]
-fn behind_word(
+fn after_word(
     bytes: &[u8],
     at: usize,
     hunks: u32,
@@ -119,29 +119,29 @@ fn behind_word(
     let phase = Phase::begin(BlockWord::of(word).kind())?;
     match phase {
         Phase::ContentSize => {
-            let behind = behind_content(bytes, at + 1, declared)?;
-            Some((behind, true))
+            let after = after_content(bytes, at + 1, declared)?;
+            Some((after, true))
         }
         Phase::LongCount => {
-            let behind = behind_counted(bytes, at + 1)?;
-            Some((behind, has_content))
+            let after = after_counted(bytes, at + 1)?;
+            Some((after, has_content))
         }
         Phase::GroupCount => {
-            let behind = behind_groups(bytes, at + 1, hunks, declared)?;
-            Some((behind, has_content))
+            let after = after_groups(bytes, at + 1, hunks, declared)?;
+            Some((after, has_content))
         }
         Phase::EntryWord => {
-            let behind = behind_symbols(bytes, at + 1)?;
-            Some((behind, has_content))
+            let after = after_symbols(bytes, at + 1)?;
+            Some((after, has_content))
         }
         _ => None,
     }
 }
 
-/// The longword behind the content whose size word stands at `at`, where it ends in the bytes and
+/// The longword after the content whose size word stands at `at`, where it ends in the bytes and
 /// has at most `declared` longs.
 #[inline(always)]
-fn behind_content(bytes: &[u8], at: usize, declared: u32) -> Option<usize>
+fn after_content(bytes: &[u8], at: usize, declared: u32) -> Option<usize>
     ensures { IfSome result (IsContent (longs bytes.now) declared at) }
 {
     let whole = bytes.len() / 4;
@@ -155,9 +155,9 @@ fn behind_content(bytes: &[u8], at: usize, declared: u32) -> Option<usize>
     Some(at + 1 + size as usize)
 }
 
-/// The longword behind the payload whose count stands at `at`, where it ends in the bytes.
+/// The longword after the payload whose count stands at `at`, where it ends in the bytes.
 #[inline(always)]
-fn behind_counted(bytes: &[u8], at: usize) -> Option<usize>
+fn after_counted(bytes: &[u8], at: usize) -> Option<usize>
     ensures { IfSome result (IsCounted (longs bytes.now) at) }
 {
     let whole = bytes.len() / 4;
@@ -171,10 +171,10 @@ fn behind_counted(bytes: &[u8], at: usize) -> Option<usize>
     Some(at + 1 + count)
 }
 
-/// The longword behind the rows of a table that stand from `from` on and end in the bytes, and how
+/// The longword after the rows of a table that stand from `from` on and end in the bytes, and how
 /// many these are, at most `most`.
 #[inline(never)]
-fn behind_rows(bytes: &[u8], from: usize, most: u32) -> (usize, u32)
+fn after_rows(bytes: &[u8], from: usize, most: u32) -> (usize, u32)
     ensures rows { AreRows (longs bytes.now) from result.1 result.0 }
     ensures few { result.1 ≤ most }
 {
@@ -189,10 +189,10 @@ fn behind_rows(bytes: &[u8], from: usize, most: u32) -> (usize, u32)
     (at, count)
 }
 
-/// The longword behind the groups that stand from `from` on and the 0 that ends them, where they end
+/// The longword after the groups that stand from `from` on and the 0 that ends them, where they end
 /// in the bytes and are not refused in a hunk of `declared` longs of a file of `hunks` hunks.
 #[inline(always)]
-fn behind_groups(bytes: &[u8], from: usize, hunks: u32, declared: u32) -> Option<usize>
+fn after_groups(bytes: &[u8], from: usize, hunks: u32, declared: u32) -> Option<usize>
     ensures { IfSome result
         (IsList (longs bytes.now) (AreGroups (longs bytes.now) hunks declared from)) }
 {
@@ -203,25 +203,25 @@ fn behind_groups(bytes: &[u8], from: usize, hunks: u32, declared: u32) -> Option
         if count == 0 {
             return Some(at + 1);
         }
-        at = behind_group(bytes, at, count, hunks, declared)?;
+        at = after_group(bytes, at, count, hunks, declared)?;
     }
     None
 }
 
-/// The longword behind the group at `at`, which has `count` offsets, where it is such a group.
+/// The longword after the group at `at`, which has `count` offsets, where it is such a group.
 #[inline(always)]
-fn behind_group(bytes: &[u8], at: usize, count: u32, hunks: u32, declared: u32) -> Option<usize>
+fn after_group(bytes: &[u8], at: usize, count: u32, hunks: u32, declared: u32) -> Option<usize>
     requires inside { 4 * at + 4 ≤ length bytes.now }
     requires count { count ≡ slice_index (longs bytes.now) at }
     requires some { 0 < count }
     ensures { IfSome result (IsGroup (longs bytes.now) hunks declared at) }
 {
-    let behind = at + 2 + count as usize;
-    if behind > bytes.len() / 4 || word_at(bytes, at + 1) >= hunks {
+    let after = at + 2 + count as usize;
+    if after > bytes.len() / 4 || word_at(bytes, at + 1) >= hunks {
         return None;
     }
     let mut largest = 0;
-    'offsets: for i in at + 2..behind {
+    'offsets: for i in at + 2..after {
         // Where a longword is put together from its bytes, and not read by `word_at`, the compiler
         // makes the loop four longwords wide.
         let start = 4 * i;
@@ -236,13 +236,13 @@ fn behind_group(bytes: &[u8], at: usize, count: u32, hunks: u32, declared: u32) 
     if is_outside(largest, declared) {
         return None;
     }
-    Some(behind)
+    Some(after)
 }
 
-/// The longword behind the symbols that stand from `from` on and the 0 that ends them, where they
+/// The longword after the symbols that stand from `from` on and the 0 that ends them, where they
 /// end in the bytes.
 #[inline(never)]
-fn behind_symbols(bytes: &[u8], from: usize) -> Option<usize>
+fn after_symbols(bytes: &[u8], from: usize) -> Option<usize>
     ensures { IfSome result (IsList (longs bytes.now) (AreSymbols (longs bytes.now) from)) }
 {
     let whole = bytes.len() / 4;

@@ -5,9 +5,9 @@ ghost use Rattle.hunk_files.specs.LoadText.{text};
 ghost use Rattle.hunk_files.specs.Strip.{strip_hunk, strip_file};
 ghost use Rattle.hunk_files.specs.Tables.{hunk_of};
 
+use crate::kept::is_kept;
 use crate::load::file::LoadFile;
 use crate::load::hunk::LoadHunk;
-use crate::order::is_kept;
 
 impl<'a> LoadFile<'a> {
     /// The file without the blocks that `HunkFile::strip` drops. It has the same table, and the same

@@ -102,7 +102,7 @@ impl<'a> LoadView<'a> {
         Items::at(self.bytes, self.body())
     }
 
-    /// The byte behind the table, at which the blocks of the first hunk begin.
+    /// The byte after the table, at which the blocks of the first hunk begin.
     #[tactic(auto, using(crate::proofs::TableReading::header_size))]
     pub(super) fn body(&self) -> usize
         ensures { result ≡ 4 * length (header_text self.now) }

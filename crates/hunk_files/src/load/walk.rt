@@ -10,7 +10,7 @@ use hunk_words::{BlockWord, CONTENT_LIMIT, FileFault, Reason, SizeWord, word_at}
 
 /// What the table declares of the open hunk, 0 longwords before the first.
 #[derive(Clone, Copy)]
-pub(crate) struct Entry {
+pub(crate) struct DeclaredHunk {
     /// The longwords of memory that it declares.
     pub longs: u32,
     /// The longword, counted from 0, at which the next entry stands.
@@ -32,15 +32,15 @@ pub(crate) fn walk(bytes: &[u8]) -> Result<usize, FileFault>
 {
     let count = bytes.len() / 4;
     let mut position = Position::FirstLong;
-    let mut entry = Entry {
+    let mut entry = DeclaredHunk {
         longs: 0,
         next: TABLE_AT,
     };
     let mut at = 0;
     'walking: while at < count {
         let word = word_at(bytes, at);
-        let behind = match step_from(position, entry.longs, word) {
-            Ok(behind) => behind,
+        let after = match step_from(position, entry.longs, word) {
+            Ok(after) => after,
             Err(reason) => {
                 return Err(FileFault {
                     place: 4 * at as u64,
@@ -48,19 +48,19 @@ pub(crate) fn walk(bytes: &[u8]) -> Result<usize, FileFault>
                 });
             }
         };
-        if let Position::Done = behind {
+        if let Position::Done = after {
             return Ok(4 * (at + 1));
         }
-        if behind.is_between_hunks() {
+        if after.is_between_hunks() {
             // The next entry of the table declares the hunk that opens here.
             let size = word_at(bytes, entry.next);
-            entry = Entry {
+            entry = DeclaredHunk {
                 longs: size % CONTENT_LIMIT,
                 next: entry.next + SizeWord::entry_longs(size),
             };
         }
-        let run = behind.run();
-        (at, position) = pass_over(bytes, at + 1 + run as usize, behind.pass(run), entry.longs);
+        let run = after.run();
+        (at, position) = pass_over(bytes, at + 1 + run as usize, after.pass(run), entry.longs);
     }
     Err(FileFault {
         place: 4 * count as u64,
@@ -68,10 +68,10 @@ pub(crate) fn walk(bytes: &[u8]) -> Result<usize, FileFault>
     })
 }
 
-/// The position behind the longword, or why the longword is refused.
+/// The position after the longword, or why the longword is refused.
 #[inline(always)]
 fn step_at(position: Position, longs: u32, word: u32) -> Result<Position, Reason>
-    ensures steps { IfOk result (λ behind. behind ≡ step position word) }
+    ensures steps { IfOk result (λ after. after ≡ step position word) }
     ensures passes { OnOk result (refuse (role_at longs position) word ≡ None) }
     ensures refusal { IfErr result (λ reason. refuse (role_at longs position) word ≡ Some reason) }
 {
@@ -85,7 +85,7 @@ fn step_at(position: Position, longs: u32, word: u32) -> Result<Position, Reason
 /// for all that is asked of them.
 #[inline(always)]
 fn step_from(position: Position, longs: u32, word: u32) -> Result<Position, Reason>
-    ensures steps { IfOk result (λ behind. behind ≡ step position word) }
+    ensures steps { IfOk result (λ after. after ≡ step position word) }
     ensures passes { OnOk result (refuse (role_at longs position) word ≡ None) }
     ensures refusal { IfErr result (λ reason. refuse (role_at longs position) word ≡ Some reason) }
 {

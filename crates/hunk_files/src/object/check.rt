@@ -206,9 +206,9 @@ fn check_groups<T: Takes<PlacedFinding>>(
 {
     let mut place = groups.place();
     'checking: while let Some(group) = groups.next() {
-        let behind = groups.place();
+        let after = groups.place();
         check_group(taker, spot, width, place, &group);
-        place = behind;
+        place = after;
     }
 }
 
@@ -258,7 +258,7 @@ fn check_block<T: Takes<PlacedFinding>>(taker: &mut T, spot: HunkContext, block:
     }
 }
 
-/// Answers the byte behind the blocks.
+/// Answers the byte after the blocks.
 fn check_blocks<T: Takes<PlacedFinding>>(
     taker: &mut T,
     spot: HunkContext,
@@ -275,7 +275,7 @@ fn check_blocks<T: Takes<PlacedFinding>>(
     blocks.place()
 }
 
-/// Answers the byte behind the hunks.
+/// Answers the byte after the hunks.
 fn check_hunks<T: Takes<PlacedFinding>>(
     taker: &mut T,
     number: u64,
@@ -303,7 +303,7 @@ fn check_hunks<T: Takes<PlacedFinding>>(
     hunks.place()
 }
 
-/// Answers the byte behind the unit.
+/// Answers the byte after the unit.
 fn check_unit<T: Takes<PlacedFinding>>(taker: &mut T, number: u64, unit: &UnitView<'_>) -> u64
     ensures taken { T.takes taker.old
         (unit_findings_at number unit.now.place unit.now.value) taker.new }

@@ -9,9 +9,9 @@ ghost use Rattle.hunk_files.specs.ObjectFault.{HasObjectFault};
 ghost use Rattle.hunk_files.specs.Lacks.{LacksObjectPart};
 ghost use Rattle.hunk_files.specs.Findings.{findings};
 
+use crate::object::check::Finding;
 use crate::object::unit::{Unit, print_unit};
 use crate::object::view::ObjectView;
-use crate::object::check::Finding;
 use crate::takes::Takes;
 use hunk_words::{FileFault, LongWriter, Printer, Sink, WriteFault};
 use std::alloc::Global;

@@ -12,9 +12,9 @@ ghost use Rattle.hunk_files.specs.ObjectViews.{HunksAt, hunks_at};
 
 use crate::blocks::{BlockViews, keep_blocks};
 use crate::object::check::hunk_bytes;
-use crate::object::ends::ends_unit;
 use crate::object::unit::Hunk;
-use crate::place::out_of_memory;
+use crate::object::unit_end::ends_unit;
+use crate::out_of_memory::out_of_memory;
 use hunk_blocks::append;
 use hunk_words::FileFault;
 use std::alloc::Global;
@@ -113,7 +113,7 @@ impl<'a> HunkViews<'a> {
         HunkViews { bytes, at: start }
     }
 
-    /// The byte of the input at which the next hunk begins, or behind the last the byte at which the
+    /// The byte of the input at which the next hunk begins, or after the last the byte at which the
     /// unit ends.
     #[inline(always)]
     pub fn place(&self) -> u64
@@ -136,7 +136,7 @@ impl<'a> HunkViews<'a> {
         })
     }
 
-    /// Goes on behind the next hunk, which ends at this byte, as the blocks of a hunk tell once they
+    /// Goes on after the next hunk, which ends at this byte, as the blocks of a hunk tell once they
     /// were gone through.
     #[inline(always)]
     pub fn pass(&mut self, end: u64)
@@ -146,7 +146,7 @@ impl<'a> HunkViews<'a> {
         self.at = end as usize;
     }
 
-    /// The byte behind these hunks, which are passed over.
+    /// The byte after these hunks, which are passed over.
     pub(super) fn end(mut self) -> usize
         ensures { result
             ≡ self.entry.place + 4 * length (flat_map block_texts self.entry.value) }
@@ -155,7 +155,7 @@ impl<'a> HunkViews<'a> {
         self.at
     }
 
-    /// The hunks in a list, and the byte behind them.
+    /// The hunks in a list, and the byte after them.
     ///
     /// # Errors
     ///

@@ -10,7 +10,7 @@ use crate::object::position::{ObjectPosition, WordPlace};
 use crate::part::Part;
 use hunk_words::word_at;
 
-/// The part that the longword behind the first `count` is of, where an object file begins with
+/// The part that the longword after the first `count` is of, where an object file begins with
 /// these.
 pub(crate) fn unit_before(bytes: &[u8], count: usize) -> Part
     requires { 4 * count ≤ length bytes.now }

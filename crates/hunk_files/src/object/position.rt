@@ -14,7 +14,7 @@ use hunk_words::{BlockWord, Kind, NAME_LIMIT, Reason, UNIT_WORD};
 pub(crate) enum WordPlace {
     /// At the start of the file, where the first unit begins.
     BeforeUnits,
-    /// Behind a unit's name or a hunk, where a hunk opens, the next unit begins, or the file ends.
+    /// After a unit's name or a hunk, where a hunk opens, the next unit begins, or the file ends.
     BetweenHunks,
     /// In an open hunk.
     InHunk { has_content: bool },
@@ -29,17 +29,17 @@ pub(crate) enum ObjectPosition {
     UnitCount,
     /// Of a unit's name. `owed` more follow the next.
     UnitName { owed: u32 },
-    /// Of a block, behind its word. The next block word stands at `behind`.
-    Block { behind: WordPlace, phase: Phase },
+    /// Of a block, after its word. The next block word stands at `after`.
+    Block { after: WordPlace, phase: Phase },
 }
 
 /// What a longword that is not refused leads to.
 #[derive(Clone, Copy)]
 pub(crate) struct ObjectStride {
-    /// How many longwords come behind it that no test looks at.
+    /// How many longwords come after it that no test looks at.
     pub run: u64,
-    /// The position behind these.
-    pub behind: ObjectPosition,
+    /// The position after these.
+    pub after: ObjectPosition,
 }
 
 impl WordPlace {
@@ -92,9 +92,9 @@ impl WordPlace {
         }
     }
 
-    /// Behind a block of this kind.
+    /// After a block of this kind.
     #[inline(always)]
-    fn behind(self, kind: Kind) -> WordPlace
+    fn after(self, kind: Kind) -> WordPlace
         ensures { result ≡ place_next self (standing_of_kind kind) }
     {
         match kind {
@@ -114,14 +114,14 @@ fn is_content(kind: Kind) -> bool
     matches!(kind, Kind::Code | Kind::Data | Kind::Bss)
 }
 
-/// In a block at this phase, or behind it.
+/// In a block at this phase, or after it.
 #[inline(always)]
-fn within(behind: WordPlace, phase: Option<Phase>) -> ObjectPosition
-    ensures { result ≡ steps.within behind phase }
+fn within(after: WordPlace, phase: Option<Phase>) -> ObjectPosition
+    ensures { result ≡ steps.within after phase }
 {
     match phase {
-        Some(phase) => ObjectPosition::Block { behind, phase },
-        None => ObjectPosition::Word(behind),
+        Some(phase) => ObjectPosition::Block { after, phase },
+        None => ObjectPosition::Word(after),
     }
 }
 
@@ -149,12 +149,12 @@ impl ObjectPosition {
         match self {
             ObjectPosition::Word(place) => place.refuse(word),
             ObjectPosition::UnitCount if word >= NAME_LIMIT => Some(Reason::NameWord),
-            ObjectPosition::Block { behind: _, phase } => phase.refuse(word),
+            ObjectPosition::Block { after: _, phase } => phase.refuse(word),
             _ => None,
         }
     }
 
-    /// Behind a longword that is not refused.
+    /// After a longword that is not refused.
     #[inline(always)]
     pub(crate) fn step(self, word: u32) -> ObjectPosition
         ensures { result ≡ steps.step self word }
@@ -163,11 +163,11 @@ impl ObjectPosition {
             ObjectPosition::Word(_) if word == UNIT_WORD => ObjectPosition::UnitCount,
             ObjectPosition::Word(place) => {
                 let kind = BlockWord::of(word).kind();
-                within(place.behind(kind), Phase::begin(kind))
+                within(place.after(kind), Phase::begin(kind))
             }
             ObjectPosition::UnitCount => owe_name(word),
             ObjectPosition::UnitName { owed } => owe_name(owed),
-            ObjectPosition::Block { behind, phase } => within(behind, phase.step(word)),
+            ObjectPosition::Block { after, phase } => within(after, phase.step(word)),
         }
     }
 
@@ -177,7 +177,7 @@ impl ObjectPosition {
     pub(crate) fn stride_from(self, word: u32) -> Result<ObjectStride, Reason>
         ensures passes { OnOk result (refuse_object (role_at self) word ≡ None) }
         ensures run { IfOk result (λ s. s.run ≡ steps.run (steps.step self word)) }
-        ensures behind { IfOk result (λ s. s.behind ≡ steps.behind (steps.step self word)) }
+        ensures after { IfOk result (λ s. s.after ≡ steps.after (steps.step self word)) }
         ensures bound { IfOk result (λ s. s.run ≤ 2 ^ 32) }
         ensures refusal { IfErr result (λ reason. refuse_object (role_at self) word ≡ Some reason) }
     {
@@ -194,7 +194,7 @@ impl ObjectPosition {
     fn stride_at(self, word: u32) -> Result<ObjectStride, Reason>
         ensures passes { OnOk result (refuse_object (role_at self) word ≡ None) }
         ensures run { IfOk result (λ s. s.run ≡ steps.run (steps.step self word)) }
-        ensures behind { IfOk result (λ s. s.behind ≡ steps.behind (steps.step self word)) }
+        ensures after { IfOk result (λ s. s.after ≡ steps.after (steps.step self word)) }
         ensures bound { IfOk result (λ s. s.run ≤ 2 ^ 32) }
         ensures refusal { IfErr result (λ reason. refuse_object (role_at self) word ≡ Some reason) }
     {
@@ -204,7 +204,7 @@ impl ObjectPosition {
         let next = self.step(word);
         Ok(ObjectStride {
             run: next.run(),
-            behind: next.behind(),
+            after: next.after(),
         })
     }
 
@@ -224,19 +224,19 @@ impl ObjectPosition {
     {
         match self {
             ObjectPosition::UnitName { owed } => u64::from(owed) + 1,
-            ObjectPosition::Block { behind: _, phase } => phase.skip(),
+            ObjectPosition::Block { after: _, phase } => phase.skip(),
             _ => 0,
         }
     }
 
-    /// Behind all of them.
+    /// After all of them.
     #[inline(always)]
-    fn behind(self) -> ObjectPosition
-        ensures { result ≡ steps.behind self }
+    fn after(self) -> ObjectPosition
+        ensures { result ≡ steps.after self }
     {
         match self {
             ObjectPosition::UnitName { owed: _ } => ObjectPosition::Word(WordPlace::BetweenHunks),
-            ObjectPosition::Block { behind, phase } => within(behind, phase.behind()),
+            ObjectPosition::Block { after, phase } => within(after, phase.after()),
             _ => self,
         }
     }

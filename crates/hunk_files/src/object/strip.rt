@@ -4,9 +4,9 @@ ghost use Rattle.hunk_words.specs.Longs.{bytes_of};
 ghost use Rattle.hunk_files.specs.ObjectFile.{object_text};
 ghost use Rattle.hunk_files.specs.Strip.{strip_blocks, strip_object, strip_unit};
 
+use crate::kept::is_kept;
 use crate::object::file::ObjectFile;
 use crate::object::unit::{Hunk, Unit};
-use crate::order::is_kept;
 
 impl Hunk<'_> {
     /// Drops the blocks that only name, describe or comment the hunk.

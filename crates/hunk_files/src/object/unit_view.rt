@@ -12,13 +12,13 @@ ghost use Rattle.hunk_files.specs.Units.{UnitAt};
 
 use crate::object::hunk_view::HunkViews;
 use crate::object::unit::Unit;
-use crate::place::out_of_memory;
+use crate::out_of_memory::out_of_memory;
 use hunk_blocks::Payload;
 use hunk_words::{FileFault, word_at};
 use std::alloc::Global;
 use std::marker::Model;
 
-/// The name in the header of the unit that stands at `start`, and the byte behind the header (The
+/// The name in the header of the unit that stands at `start`, and the byte after the header (The
 /// AmigaDOS Manual, `dos/doshunks.h`).
 #[tactic(auto, using(std::proofs::lemmas::List::take_rest, crate::proofs::UnitReading::count_is, crate::proofs::UnitReading::name_is))]
 pub(crate) fn read_header(bytes: &[u8], start: usize) -> (Payload<'_>, usize)
@@ -128,7 +128,7 @@ impl<'a> UnitViews<'a> {
         UnitViews { bytes, at: start }
     }
 
-    /// The byte of the input at which the next unit begins, or behind the last the byte at which the
+    /// The byte of the input at which the next unit begins, or after the last the byte at which the
     /// file ends.
     #[inline(always)]
     pub fn place(&self) -> u64
@@ -151,7 +151,7 @@ impl<'a> UnitViews<'a> {
         })
     }
 
-    /// Goes on behind the next unit, which ends at this byte, as the hunks of a unit tell once they
+    /// Goes on after the next unit, which ends at this byte, as the hunks of a unit tell once they
     /// were gone through.
     #[inline(always)]
     pub fn pass(&mut self, end: u64)

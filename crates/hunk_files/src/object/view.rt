@@ -11,7 +11,7 @@ ghost use Rattle.hunk_files.specs.Lacks.{EndsAt, EndsObjectPart};
 use crate::items::Items;
 use crate::object::file::ObjectFile;
 use crate::object::unit_view::UnitViews;
-use crate::object::whole::walk_object;
+use crate::object::walk::walk_object;
 use hunk_words::FileFault;
 use std::alloc::Global;
 use std::marker::Model;

@@ -53,8 +53,8 @@ fn runs(rt: HostRuntime) -> Result<(), Fail> {
         let bytes = spelled(rt.alloc(), text)?;
         let position = follow(&bytes, 1).unwrap_or(Position::Done);
         assert!(rt; position.run() == 3);
-        let behind = position.pass(3);
-        assert!(rt; matches!(behind, Position::Body(_, phase) if phase == *next));
+        let after = position.pass(3);
+        assert!(rt; matches!(after, Position::Body(_, phase) if phase == *next));
         assert_equal(&rt, position.pass(2), position.step(0).step(0));
     }
     Ok(())

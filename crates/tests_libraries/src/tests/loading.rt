@@ -15,7 +15,7 @@ mod parts;
 mod streams;
 
 use hunk_files::Row;
-use hunk_scatter::stream::{Standing, Stop, take_piece};
+use hunk_scatter::stream::{Standing, Stop, feed_piece};
 use hunk_scatter::{Image, Limits, Placer, load};
 use hunk_words::{LoadFault, Source};
 use std::alloc::{AllocError, Global};
@@ -61,14 +61,14 @@ fn loaded<R: Source, P: Placer>(
     load(alloc, source, limits, placer)
 }
 
-/// What `take_piece` answers. This promises nothing, either.
+/// What `feed_piece` answers. This promises nothing, either.
 fn piece_taken(
     store: &mut [u8],
     rows: &[Row],
     at: Standing,
     piece: &[u8],
 ) -> Result<(Standing, usize), Stop> {
-    take_piece(store, rows, at, piece)
+    feed_piece(store, rows, at, piece)
 }
 
 /// Why a load is refused, if it is.

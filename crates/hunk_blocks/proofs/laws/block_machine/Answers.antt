@@ -1,4 +1,4 @@
-use Rattle.hunk_blocks.proofs.Along.{block_along}
+use Rattle.hunk_blocks.proofs.AlongText.{block_along}
 use Rattle.hunk_blocks.proofs.laws.block_machine.Goals as goal
 
 pub returns : goal.returns

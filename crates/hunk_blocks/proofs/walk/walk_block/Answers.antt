@@ -31,9 +31,9 @@ walking-preserved c =
     let on = passes c.args.mode bytes (λ i. omega (arith, c.type_inv.bytes i)) c.walking.at c.in-Some.phase some (omega (arith, c.if-at-count.false, length-longs bytes)) c.word_at-word.result c.word_at-word.ensures
     (sym c.refuse_alone.ensures ∙ c.in_default-refuse_alone.is) in
     let P : Option Phase → Type 0 = λ p. BlockWalks c.args.mode bytes (c.walking.at + (1 + inside.skipped p)) (inside.skip_all p) in
-    let here = subst P (sym c.step-behind.ensures) on in
+    let here = subst P (sym c.step-after.ensures) on in
     subst (BlockWalks c.args.mode bytes (c.walking.at + (1 + c.skipped.result))) (sym c.skip_all-position.ensures)
-    (subst (λ (n : ℕ). BlockWalks c.args.mode bytes (c.walking.at + (1 + n)) (inside.skip_all c.step-behind.result)) (sym c.skipped.ensures.value) here)
+    (subst (λ (n : ℕ). BlockWalks c.args.mode bytes (c.walking.at + (1 + n)) (inside.skip_all c.step-after.result)) (sym c.skipped.ensures.value) here)
 
 pub returns-then-at-count-2 : goal.returns-then-at-count-2
 returns-then-at-count-2 c =

@@ -12,7 +12,7 @@ listing-preserved g c =
     let old = c.listing.entries in
     let new = c.next.new.self in
     let is = c.entry_row.ensures ∙ ap (λ (n : ℕ). row n (entry_of c.in-Some.entry)) c.listing.invariant.0 in (
-      c.place-behind.ensures,
+      c.place-after.ensures,
       taken_on g.T.Takes.takes g.met.T.Takes.more _ _ _ (c.entry_row.result ∷ []) (left new.place new.value) (left old.place old.value)
           (left c.args.entries.place c.args.entries.value)
           (item_first entry_of row ext_text old new c.in-Some.entry c.entry_row.result c.in-Some.ensures.steps is) c.listing.invariant.1 c.take.ensures,

@@ -12,8 +12,8 @@ many bytes t u n h e k = ap (λ (v : List TableEntry). length v) (same_header by
 pub placing-init : goal.placing-init
 placing-init c t h e = none_packed _ t h c.args.start c.from.result _ c.from.ensures c.requires.room
 
-pub next_row-behind-requires : goal.next_row-behind-requires
-next_row-behind-requires c =
+pub next_row-after-requires : goal.next_row-after-requires
+next_row-after-requires c =
     let r = c.requires.table in
     let s = c.placing.invariant r.0 r.1 r.2 in
     record {
@@ -32,17 +32,17 @@ returns-then-place-ge-END-clause-unplaced c = λ t h.
     let e = many _ r.0 t c.args.hunks r.1 r.2 h in
     let s = c.placing.invariant t h e in
     let inside : c.placing.hunk < length t = omega (arith, e, c.placing-test.true) in
-    packed_not _ t h c.args.start c.placing.marks c.placing.hunk _ _ s inside _ _ (c.next_row-behind.ensures.row t h c.args.start c.placing.hunk inside s.is_row)
+    packed_not _ t h c.args.start c.placing.marks c.placing.hunk _ _ s inside _ _ (c.next_row-after.ensures.row t h c.args.start c.placing.hunk inside s.is_row)
     (inl (omega (arith, c.if-place-ge-END.true)))
 
-pub returns-then-behind-gt-END-clause-unplaced : goal.returns-then-behind-gt-END-clause-unplaced
-returns-then-behind-gt-END-clause-unplaced c = λ t h.
+pub returns-then-after-gt-END-clause-unplaced : goal.returns-then-after-gt-END-clause-unplaced
+returns-then-after-gt-END-clause-unplaced c = λ t h.
     let r = c.requires.table in
     let e = many _ r.0 t c.args.hunks r.1 r.2 h in
     let s = c.placing.invariant t h e in
     let inside : c.placing.hunk < length t = omega (arith, e, c.placing-test.true) in
-    packed_not _ t h c.args.start c.placing.marks c.placing.hunk _ _ s inside _ _ (c.next_row-behind.ensures.row t h c.args.start c.placing.hunk inside s.is_row)
-    (inr (omega (arith, c.if-behind-gt-END.true)))
+    packed_not _ t h c.args.start c.placing.marks c.placing.hunk _ _ s inside _ _ (c.next_row-after.ensures.row t h c.args.start c.placing.hunk inside s.is_row)
+    (inr (omega (arith, c.if-after-gt-END.true)))
 
 pub put_mark-requires-clause-room : goal.put_mark-requires-clause-room
 put_mark-requires-clause-room c =
@@ -58,9 +58,9 @@ pub placing-preserved : goal.placing-preserved
 placing-preserved c t h e =
     let s = c.placing.invariant t h e in
     let inside : c.placing.hunk < length t = omega (arith, e, c.placing-test.true) in
-    packed_more _ t h c.args.start c.placing.marks c.placing.hunk _ _ s inside _ _ (c.next_row-behind.ensures.row t h c.args.start c.placing.hunk inside s.is_row) c.put_mark.new.marks
-    c.next_row-behind.ensures.near (c.put_mark.ensures _ t h c.args.start s.are_marks s.is_row) c.put_mark.auto.marks
-    (omega (arith, c.if-place-ge-END.false)) (omega (arith, c.if-behind-gt-END.false))
+    packed_more _ t h c.args.start c.placing.marks c.placing.hunk _ _ s inside _ _ (c.next_row-after.ensures.row t h c.args.start c.placing.hunk inside s.is_row) c.put_mark.new.marks
+    c.next_row-after.ensures.near (c.put_mark.ensures _ t h c.args.start s.are_marks s.is_row) c.put_mark.auto.marks
+    (omega (arith, c.if-place-ge-END.false)) (omega (arith, c.if-after-gt-END.false))
 
 pub returns-clause-packed : goal.returns-clause-packed
 returns-clause-packed c =

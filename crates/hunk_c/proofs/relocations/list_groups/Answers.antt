@@ -15,7 +15,7 @@ listing-preserved g c =
     let first =
     ap (λ (gs : List RelocGroup). left old.place gs) steps.0
     ∙ ap (λ (n : ℕ). offset_rows r group.target (old.place + 8) group.offsets ++ left n new.value) (sym steps.1) in (
-      c.place-behind.ensures,
+      c.place-after.ensures,
       taken_on g.T.Takes.takes g.met.T.Takes.more _ _ _ (offset_rows r group.target (old.place + 8) group.offsets) (left new.place new.value) (left old.place old.value)
           (left c.args.groups.place c.args.groups.value) first c.listing.invariant.1
           (subst (λ (n : ℕ). g.T.Takes.takes c.listing.taker (offset_rows r group.target (n + 8) group.offsets) c.list_offsets.new.taker) c.listing.invariant.0 c.list_offsets.ensures),

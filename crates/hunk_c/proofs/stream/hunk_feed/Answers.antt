@@ -28,11 +28,11 @@ pub returns-else-ends_early : goal.returns-else-ends_early
 returns-else-ends_early c =
     let same = c.pass_byte.ensures.stays c.if-pass_byte.false ∙ c.pass_payload.ensures.stays c.if-pass_payload.false in
     let stood = subst (λ (l : Loader). StandsAt l c.in-Ok.at) same c.in-Ok.ensures.stands in
-    let e = c.in-Ok-take_piece.ensures in
-    HasTaken c.in-Ok-take_piece.taken
+    let e = c.in-Ok-feed_piece.ensures in
+    HasTaken c.in-Ok-feed_piece.taken
     (record {
       from = c.in-Ok.at;
-      to = c.in-Ok-take_piece.to;
+      to = c.in-Ok-feed_piece.to;
       stood = stood;
       fits = e.fits;
       numbers = c.of.ensures;
@@ -44,7 +44,7 @@ returns-else-ends_early c =
       takes = λ fed h.
           stands_so _ _ _ _ _ c.of.ensures (e.takes fed (stands_at c.args.rows.now c.args.loader.now c.args.memory.now fed c.in-Ok.at stood h));
     })
-    (c.done-in-Ok-take_piece.ensures ∙ same_answer 0 _ _ _ _ _ _ refl refl (omega arith))
+    (c.done-in-Ok-feed_piece.ensures ∙ same_answer 0 _ _ _ _ _ _ refl refl (omega arith))
 
 pub returns-then-ends_early : goal.returns-then-ends_early
 returns-then-ends_early c =
@@ -53,7 +53,7 @@ returns-then-ends_early c =
     IsStrange
     (λ fed h.
     c.ends_early.ensures.nowhere c.if-ends_early.true c.args.rows.now _ _
-    (c.in-Ok-take_piece.ensures.takes fed (stands_at c.args.rows.now c.args.loader.now c.args.memory.now fed c.in-Ok.at stood h)))
+    (c.in-Ok-feed_piece.ensures.takes fed (stands_at c.args.rows.now c.args.loader.now c.args.memory.now fed c.in-Ok.at stood h)))
     same c.strange.ensures
 
 pub returns-in-Err-Strange : goal.returns-in-Err-Strange

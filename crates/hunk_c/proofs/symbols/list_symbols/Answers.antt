@@ -12,7 +12,7 @@ listing-preserved g c =
     let old = c.listing.symbols in
     let new = c.next.new.self in
     let is = c.symbol_row.ensures ∙ ap (λ (n : ℕ). row n (symbol_of c.in-Some.symbol)) c.listing.invariant.0 in (
-      c.place-behind.ensures,
+      c.place-after.ensures,
       taken_on g.T.Takes.takes g.met.T.Takes.more _ _ _ (c.symbol_row.result ∷ []) (left new.place new.value) (left old.place old.value)
           (left c.args.symbols.place c.args.symbols.value)
           (item_first symbol_of row symbol_text old new c.in-Some.symbol c.symbol_row.result c.in-Some.ensures.steps is) c.listing.invariant.1 c.take.ensures,

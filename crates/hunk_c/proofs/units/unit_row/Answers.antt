@@ -3,7 +3,7 @@ use Rattle.std.proofs.lemmas.Iterator.Consumers.{count_from_yields_List}
 use Rattle.hunk_words.specs.Longs.{bytes_of, longs}
 use Rattle.hunk_blocks.specs.NameText.{before_zero}
 use Rattle.hunk_files.specs.{Hunks.block_texts, ObjectFile.ObjectHunk}
-use Rattle.hunk_files.proofs.Taking.{given_in_turn}
+use Rattle.hunk_files.proofs.PartsInTurn.{given_in_turn}
 use Rattle.hunk_c.specs.declared.units.UnitRow.{UnitRow}
 use Rattle.hunk_c.proofs.units.unit_row.Goals as goal
 

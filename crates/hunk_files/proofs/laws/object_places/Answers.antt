@@ -1,4 +1,4 @@
-use Rattle.hunk_files.proofs.ObjectPlaces.{behind_is, end_tells, free_passes, run_is}
+use Rattle.hunk_files.proofs.ObjectPlaces.{after_is, end_tells, free_passes, run_is}
 use Rattle.hunk_files.proofs.laws.object_places.Goals as goal
 
 pub returns-clause-end : goal.returns-clause-end
@@ -10,5 +10,5 @@ returns-clause-run c o done more is = run_is o is done more
 pub returns-clause-free : goal.returns-clause-free
 returns-clause-free c = free_passes
 
-pub returns-clause-behind : goal.returns-clause-behind
-returns-clause-behind c = behind_is
+pub returns-clause-after : goal.returns-clause-after
+returns-clause-after c = after_is

@@ -3,7 +3,7 @@ use Rattle.hunk_blocks.specs.BodyViews.{viewed}
 use Rattle.hunk_blocks.specs.Parts.{block_text}
 use Rattle.hunk_blocks.specs.Placed.{Placed}
 use Rattle.hunk_blocks.specs.Values.{BlockValue}
-use Rattle.hunk_files.proofs.Taking.{end_reached}
+use Rattle.hunk_files.proofs.PartsInTurn.{end_reached}
 use Rattle.hunk_listing.proofs.BlockLaws.{entries_fit, offsets_fit, symbols_fit}
 use Rattle.hunk_listing.proofs.block.print_blocks.Goals as goal
 

@@ -1,7 +1,7 @@
 use Rattle.std.proofs.Common.{◌≡◌, ◌++◌, length}
 use Rattle.std.specs.List.{flat_map}
 use Rattle.hunk_blocks.specs.Parts.{block_text}
-use Rattle.hunk_files.proofs.Taking.{end_of}
+use Rattle.hunk_files.proofs.PartsInTurn.{end_of}
 use Rattle.hunk_listing.specs.BlockLines.{block_lines}
 use Rattle.hunk_listing.proofs.block.print_blocks.Given as goal
 

@@ -3,7 +3,7 @@ use Rattle.hunk_blocks.specs.Placed.{Placed}
 use Rattle.hunk_files.specs.Hunks.{block_texts}
 use Rattle.hunk_files.specs.InPlace.{GivesPart}
 use Rattle.hunk_files.specs.ObjectFile.{ObjectHunk}
-use Rattle.hunk_files.proofs.Taking.{end_stays, part_passed}
+use Rattle.hunk_files.proofs.PartsInTurn.{end_stays, part_passed}
 use Rattle.hunk_listing.specs.FileLines.{numbered, object_hunk_lines}
 use Rattle.hunk_listing.proofs.Lines.{shown_next}
 use Rattle.hunk_listing.proofs.object.print_hunks.Goals as goal

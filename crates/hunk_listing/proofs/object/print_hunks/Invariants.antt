@@ -1,6 +1,6 @@
 use Rattle.std.proofs.Common.{◌≡◌, ◌+◌, ◌++◌, ◌<◌, ◌^◌, length}
 use Rattle.hunk_files.specs.Hunks.{block_texts}
-use Rattle.hunk_files.proofs.Taking.{end_of}
+use Rattle.hunk_files.proofs.PartsInTurn.{end_of}
 use Rattle.hunk_listing.specs.FileLines.{numbered, object_hunk_lines}
 use Rattle.hunk_listing.proofs.object.print_hunks.Given as goal
 

@@ -2,7 +2,7 @@ use Rattle.std.proofs.Common.{length, Some, ap, ◌∙◌, arith}
 use Rattle.hunk_blocks.specs.Placed.{Placed}
 use Rattle.hunk_files.specs.InPlace.{GivesPart}
 use Rattle.hunk_files.specs.ObjectFile.{ObjectFileValue, unit_text}
-use Rattle.hunk_files.proofs.Taking.{part_passed}
+use Rattle.hunk_files.proofs.PartsInTurn.{part_passed}
 use Rattle.hunk_listing.specs.FileLines.{numbered, unit_lines}
 use Rattle.hunk_listing.proofs.Lines.{shown_next}
 use Rattle.hunk_listing.proofs.object.print_units.Goals as goal

@@ -6,7 +6,7 @@ use Rattle.hunk_words.specs.declared.class.Class.TheVariants as classes
 use Rattle.hunk_words.specs.declared.reason.Reason.TheVariants as reasons
 use Rattle.hunk_files.specs.{LoadFile.TableEntry, declared.part.Part.Part}
 use Rattle.hunk_scatter.specs.{HeaderFaults.IsOverBudget, LoaderValues.ImageValue}
-use Rattle.hunk_scatter.specs.LoadOutcomes.{Gives, HasFileWithin, IsHeaderWithin, GoesPastNoFile, GoesPastNoHeader, PassesBudget, KeepsToHeader, LoadEnds, LoadStop, InHeader, Between, StopsBehindFile, StopsBehindHeader, TellsFailure}
+use Rattle.hunk_scatter.specs.LoadOutcomes.{Gives, HasFileWithin, IsHeaderWithin, GoesPastNoFile, GoesPastNoHeader, PassesBudget, KeepsToHeader, LoadEnds, LoadStop, InHeader, Between, StopsAfterFile, StopsAfterHeader, TellsFailure}
 use Rattle.hunk_scatter.specs.{LoadRefusals.{IsFaultIn, LoadsOrNames, NamesPart, without_part}, declared.load_refusal.LoadRefusal.LoadRefusal}
 use Rattle.hunk_scatter.specs.{Placing.{Placing, IsUnplacedFor}, declared.loading.Limits.Limits}
 use Rattle.hunk_scatter.proofs.HeaderFronts.{within_file}
@@ -19,8 +19,8 @@ module _ (base : Placing) (limits : Limits) (old new : Supply) (result : Result 
   abbrev Promised : Type 0
   Promised = record {
     loads : LoadsOrNames base limits old new result;
-    one_file : StopsBehindFile old new;
-    header_first : StopsBehindHeader base limits.budget old new;
+    one_file : StopsAfterFile old new;
+    header_first : StopsAfterHeader base limits.budget old new;
     succeeds : HasFileWithin base limits old → new.failed ≡ false → IfErr (without_part result) (λ f. f.reason ≡ reasons.OutOfMemory);
     over_budget : (at : ℕ) → PassesBudget limits old new at → IsErrAnd (without_part result) (IsOverBudget at);
     tells_read : TellsFailure old new (without_part result);

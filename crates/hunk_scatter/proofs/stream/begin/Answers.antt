@@ -24,5 +24,5 @@ returns-clause-begins c = λ table header size.
     let filled : c.fill.new.self ≡ replicate (length c.args.store.now) 0 = c.fill.ensures.after (λ y e. e) in
     let zeros : c.fill.new.self ≡ replicate total 0 = filled ∙ ap (λ (n : ℕ). replicate {A = ℕ} n 0) size in
     let count : c.hunks_of.result ≡ length t = c.hunks_of.ensures (omega (arith, table.most, length-map rows row_entry)) ∙ sym (length-map rows row_entry) in
-    let e = c.behind_header.ensures in
+    let e = c.after_header.ensures in
     placed_loading (map row_of t) rows total total c.args.header (header_bytes t) c.fill.new.self _ tabled (sym same) zeros (e.state ∙ ap (λ (n : ℕ). state_at [] (open_next n n)) count) (omega (arith, e.fed, header)) e.pending

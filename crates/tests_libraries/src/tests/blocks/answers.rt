@@ -78,7 +78,7 @@ const IN_LOAD_FILES: &[Row] = &[
     ("3EF 3000001", 0, Some(Reason::NotInLoadFile)),
 ];
 
-/// The same in an object file. A type is refused before the name that it has, but not behind a name that is cut short.
+/// The same in an object file. A type is refused before the name that it has, but not after a name that is cut short.
 const IN_OBJECT_FILES: &[Row] = &[
     ("3F7 0", 8, None),
     ("3FD 0", 8, None),

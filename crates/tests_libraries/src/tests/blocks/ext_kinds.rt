@@ -7,7 +7,7 @@ use std::alloc::{AllocError, Global};
 use std::test::Fail;
 use test_helpers::spelled;
 
-/// A type of each shape and width, with its number, its name, what stands behind the name of an entry, and the width
+/// A type of each shape and width, with its number, its name, what stands after the name of an entry, and the width
 /// of its references.
 const TYPES: &[(ExtKind, u8, &str, ExtShape, Option<u64>)] = &[
     (ExtKind::Def, 1, "DEF", ExtShape::Definition, None),

@@ -59,7 +59,7 @@ fn put_data(told: &mut Vec<u64>, top: u8, payload: &Payload<'_>) -> Result<(), A
     put_bytes(told, payload.bytes())
 }
 
-/// What stands behind a block word, in turn.
+/// What stands after a block word, in turn.
 fn told_by(alloc: Global, body: &Body<'_>) -> Result<Vec<u64>, AllocError> {
     let mut told = Vec::new(alloc);
     match body {
@@ -86,7 +86,7 @@ fn told_by(alloc: Global, body: &Body<'_>) -> Result<Vec<u64>, AllocError> {
     Ok(told)
 }
 
-/// What is read of a block, and the byte at which each of its items begins, with that of the zero behind them.
+/// What is read of a block, and the byte at which each of its items begins, with that of the zero after them.
 #[derive(Drop)]
 struct Read {
     told: Vec<u64>,
@@ -137,7 +137,7 @@ fn read_of(alloc: Global, body: BodyView<'_>) -> Result<Read, AllocError> {
     Ok(read)
 }
 
-/// A text, its word and flags, how many bytes of content it has, what stands behind the word, and where its items
+/// A text, its word and flags, how many bytes of content it has, what stands after the word, and where its items
 /// begin, counted from its first byte.
 type Row = (
     &'static str,
@@ -223,7 +223,7 @@ fn view_at(bytes: &[u8], place: usize) -> Result<BlockView<'_>, BlockFault>
     Ok(BlockView::at(bytes, place))
 }
 
-/// Sees that the block behind the two longwords is read as its row says.
+/// Sees that the block after the two longwords is read as its row says.
 fn expect_view(rt: &impl Abort, alloc: Global, bytes: &[u8], row: &Row) -> Result<(), Fail> {
     let (text, word, content, told, places) = row;
     assert!(rt; bytes.len() >= 8);

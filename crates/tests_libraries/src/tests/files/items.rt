@@ -32,7 +32,7 @@ fn seen_of(item: &Item) -> Seen {
     }
 }
 
-/// Files, and what stands in them: example 1 with a longword behind it, example 34, and a load file of two
+/// Files, and what stands in them: example 1 with a longword after it, example 34, and a load file of two
 /// hunks.
 const FILES: &[(&str, &[Seen])] = &[
     (

@@ -24,7 +24,7 @@ const REFUSED: &[(&str, u64, Numbers, &str)] = &[
     // No load file, and one that ends in its header.
     ("3F4", 0, (None, None), "the header"),
     ("3F3 0 2 0 1 1", 24, (None, None), "the header"),
-    // The header is whole, and the first hunk is to come; then behind its END; and in the third of three hunks.
+    // The header is whole, and the first hunk is to come; then after its END; and in the third of three hunks.
     ("3F3 0 2 0 1 1 1", 28, (None, Some(0)), "hunk 0"),
     (
         "3F3 0 2 0 1 1 1 / 3EB 1 / 3F2 / 3F2",
@@ -38,7 +38,7 @@ const REFUSED: &[(&str, u64, Numbers, &str)] = &[
         (None, Some(2)),
         "hunk 2",
     ),
-    // In the name of a unit, behind one, behind a whole hunk, and in the second unit's second hunk.
+    // In the name of a unit, after one, after a whole hunk, and in the second unit's second hunk.
     ("3E7 2 61000000", 12, (Some(0), None), "unit 0"),
     (
         "3E7 1 61000000 / 3E7 1000000",
@@ -86,7 +86,7 @@ fn by_hand(rt: HostRuntime) -> Result<(), Fail> {
     Ok(())
 }
 
-/// 5,000 hunks of no memory, the last of which has END alone: behind 5 longwords, a size word a hunk,
+/// 5,000 hunks of no memory, the last of which has END alone: after 5 longwords, a size word a hunk,
 /// and three longwords for each other hunk.
 const LAST_HUNK: &[Run] = &[
     (1, &[0x3F3, 0, 5_000, 0, 4_999]),

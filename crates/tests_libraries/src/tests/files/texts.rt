@@ -55,10 +55,7 @@ fn expect(
 const TEXTS: &[(&str, &str)] = &[
     (examples::WITH_A_SYMBOL, examples::ONE_HUNK),
     (examples::WITH_AN_ADVISORY, examples::ONE_HUNK),
-    (
-        examples::RELOCATED_BEHIND_SYMBOLS,
-        examples::RELOCATED_ALONE,
-    ),
+    (examples::RELOCATED_AFTER_SYMBOLS, examples::RELOCATED_ALONE),
     (
         "3F3 0 2 0 1 C0000002 10004 1 / 3E8 0 / 3E9 2 4E714E71 4E754E71 / 3F1 0 / \
             3EC 1 0 0 1 0 4 0 / 3F2 / 3EB 1 / 3F2",

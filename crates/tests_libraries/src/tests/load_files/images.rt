@@ -58,7 +58,7 @@ const IMAGES: &[(&str, &[u32], &[u32])] = &[
     (examples::ENDING_EARLY, &[0x21000], &[0x4E75_4E71, 0, 0]),
     (examples::TWO_BASES, &[0x100, 0x200], &[0x310, 0]),
     (examples::OVERLAPPING, &[1], &[0x0001_0001, 0]),
-    (examples::OVERLAPPING_FROM_BEHIND, &[1], &[1, 0]),
+    (examples::OVERLAPPING_FROM_AFTER, &[1], &[1, 0]),
     (
         examples::ENDING_IN_ZEROS,
         &[0x21000, 0x21008],
@@ -71,7 +71,7 @@ const IMAGES: &[(&str, &[u32], &[u32])] = &[
         &[0x21000],
         &[0x0002_1002, 0x1000_0000, 0x0002_1000, 0],
     ),
-    (examples::RELOCATED_BEHIND_SYMBOLS, &[0x100], &[0x110]),
+    (examples::RELOCATED_AFTER_SYMBOLS, &[0x100], &[0x110]),
     (examples::RELOCATED_ALONE, &[0x100], &[0x110]),
 ];
 
@@ -127,7 +127,7 @@ pub(in crate::tests) fn overlap_of(
 /// The worked examples of overlaps: 6, 36 and 5.
 const OVERLAPS: &[(&str, Option<(u32, u32)>)] = &[
     (examples::OVERLAPPING, Some((0, 2))),
-    (examples::OVERLAPPING_FROM_BEHIND, Some((0, 2))),
+    (examples::OVERLAPPING_FROM_AFTER, Some((0, 2))),
     (examples::OVERLAPPING_APART, Some((0, 2))),
     (examples::TWO_BASES, None),
 ];

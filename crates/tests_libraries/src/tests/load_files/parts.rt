@@ -42,7 +42,7 @@ fn listed(alloc: Global, file: &LoadFile) -> Result<Vec<u32>, AllocError> {
     Ok(words)
 }
 
-/// Two hunks, the first with attributes and a name, and a longword behind the file.
+/// Two hunks, the first with attributes and a name, and a longword after the file.
 const TWO_HUNKS: &str = "3F3 0 2 0 1 C0000002 10004 1 / \
     3E8 1 2E740000 / 3E9 2 4EF90000 44E71 / 3EC 1 1 2 0 / 3F2 / 3EB 1 / 400003F2 / 3F2";
 
@@ -100,7 +100,7 @@ const MANY_HUNKS: &[Run] = &[
     (5_000, &[0x3EB, 1, 0x3F2]),
 ];
 
-/// Sees that hunks of two blocks and three longwords follow each other behind the table.
+/// Sees that hunks of two blocks and three longwords follow each other after the table.
 fn expect_hunks(rt: &impl Abort, file: &LoadView, start: u64) {
     let mut at = start;
     for hunk in file.iter() {

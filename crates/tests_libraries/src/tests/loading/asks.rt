@@ -55,11 +55,11 @@ impl<'a> Asked<'a> {
         ensures same { self.new.failed ≡ self.old.failed }
     {
         let first = move_front(&mut self.front, buf);
-        let behind = &mut buf[first..];
-        let zeros = behind.len().min(self.zeros);
-        behind[..zeros].fill(0);
+        let after = &mut buf[first..];
+        let zeros = after.len().min(self.zeros);
+        after[..zeros].fill(0);
         self.zeros -= zeros;
-        first + zeros + move_front(&mut self.end, &mut behind[zeros..])
+        first + zeros + move_front(&mut self.end, &mut after[zeros..])
     }
 }
 
@@ -68,9 +68,9 @@ fn move_front(rest: &mut &[u8], buf: &mut [u8]) -> usize
     ensures { result ≤ length buf.new }
 {
     let count = buf.len().min(rest.len());
-    let (front, behind) = rest.split_at(count);
+    let (front, after) = rest.split_at(count);
     buf[..count].copy_from_slice(front);
-    *rest = behind;
+    *rest = after;
     count
 }
 

@@ -89,7 +89,7 @@ fn rows_of_a_header(rt: HostRuntime) -> Result<(), Fail> {
 
 /// A loader that has refused holds nothing.
 #[test]
-fn nothing_behind_a_refusal(rt: HostRuntime) -> Result<(), Fail> {
+fn nothing_after_a_refusal(rt: HostRuntime) -> Result<(), Fail> {
     if !memory_ends(&rt)? {
         return Ok(());
     }

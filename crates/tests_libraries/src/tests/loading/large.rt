@@ -94,7 +94,7 @@ const HEADER: usize = 20 + 4 * HUNKS as usize;
 /// The bytes that it declares.
 const STORE: usize = 4 * HUNKS as usize + 4;
 
-/// Sees that a stream whose first piece has this many bytes takes all that is behind the header.
+/// Sees that a stream whose first piece has this many bytes takes all that is after the header.
 fn expect_streamed(
     rt: &impl Abort,
     rows: &[Row],

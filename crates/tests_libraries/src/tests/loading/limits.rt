@@ -67,7 +67,7 @@ fn no_base(rt: HostRuntime) -> Result<(), Fail> {
 /// Examples 21 and 31: how many bytes of example 1 come, what comes then, how many may be read, the fault, and
 /// how many reads lead to it where 1, 3 and 256 bytes of the example come a read at most.
 ///
-/// Behind the example's content a longword is read, and then two a read: the count of a DEBUG block, and what
+/// After the example's content a longword is read, and then two a read: the count of a DEBUG block, and what
 /// comes at least after it.
 const STOPS: &[(usize, Then, u64, u64, Reason, [u64; 3])] = &[
     (30, Then::Fails, 100_000, 30, Reason::Read, [31, 11, 3]),
@@ -117,7 +117,7 @@ fn stops(rt: HostRuntime) -> Result<(), Fail> {
     Ok(())
 }
 
-/// The fault of a load whose read fails behind this many bytes.
+/// The fault of a load whose read fails after this many bytes.
 fn failed_at(given: usize) -> Option<LoadFault> {
     Some(LoadFault {
         place: given as u64,

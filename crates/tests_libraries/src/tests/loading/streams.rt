@@ -162,11 +162,11 @@ fn strange_numbers(rt: HostRuntime) -> Result<(), Fail> {
     let rows = rows_of(rt.alloc(), [(2, 0, 0x10000), (1, 0, 0x20000)].as_slice())?;
     let mut store = [0xA5; 12];
     let first = begin(store.as_mut_slice(), rows.as_slice(), 28);
-    let (mut behind, mut moved, mut full) = (first, first, first);
-    behind.state.hunk = 2;
+    let (mut after, mut moved, mut full) = (first, first, first);
+    after.state.hunk = 2;
     moved.state.start = 8;
     full.pending.count = 4;
-    for at in [behind, moved, full] {
+    for at in [after, moved, full] {
         expect_strange(&rt, rows.as_slice(), store.as_mut_slice(), at);
     }
     expect_strange(&rt, [].as_slice(), store.as_mut_slice(), first);

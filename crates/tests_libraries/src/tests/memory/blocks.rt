@@ -74,7 +74,7 @@ fn expect_starved(rt: &impl Abort, alloc: Global, rows: &[Row], mode: Mode) -> R
 }
 
 /// Only groups and entries of a whole block take memory, at their last longword, and no count does.
-/// Memory hides no fault behind.
+/// Memory hides no fault after.
 const WITHOUT_MEMORY: &[Row] = &[
     ("3E8 1 61000000", 12, None),
     ("3E9 1 4E754E71", 12, None),

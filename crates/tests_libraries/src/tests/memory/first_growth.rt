@@ -80,7 +80,7 @@ fn starved_object(alloc: Global, text: &str) -> Result<Option<FileFault>, AllocE
     Ok(result)
 }
 
-/// A content block and a name, each with a block behind it that is refused.
+/// A content block and a name, each with a block after it that is refused.
 const BEFORE_A_FAULT: &[&str] = &[
     "3E7 0 / 3E9 1 4E754E71 / 3F5",
     "3E7 0 / 3E8 1 61000000 / 3F5",

@@ -9,7 +9,7 @@ use std::test::Fail;
 use test_helpers::{answers_growth_by_growth, answers_one_by_one, examples, memory_ends, spelled};
 
 /// Where memory is asked for in `TWO_UNITS`: for each hunk's blocks at its first, for groups, entries and symbols,
-/// for each unit's hunks at the END of its first, and for the units behind the first.
+/// for each unit's hunks at the END of its first, and for the units after the first.
 const OF_TWO_UNITS: &[u64] = &[24, 40, 64, 84, 92, 108, 116, 132, 136];
 
 #[test]

@@ -103,7 +103,7 @@ pub(super) fn called<R: Source, W: Write + Drop>(
     (fault, out.written(), out.into_inner().into_inner())
 }
 
-/// What a call answers, and the writer behind it.
+/// What a call answers, and the writer after it.
 #[derive(Drop)]
 pub(super) struct Outcome {
     pub fault: Option<RunFault>,

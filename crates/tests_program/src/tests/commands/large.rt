@@ -29,7 +29,7 @@ fn expect(rt: &impl Abort, alloc: Global, call: Call, bytes: &[u8], want: &[u8])
     assert!(rt; text.as_slice() == want, "{call:?}");
 }
 
-/// Text for each number from one up to below another: a front, and behind it the number and a rest, if there is one.
+/// Text for each number from one up to below another: a front, and after it the number and a rest, if there is one.
 type Lines = (u32, u32, &'static str, &'static str);
 
 /// What `show` prints of the load file with many parts.

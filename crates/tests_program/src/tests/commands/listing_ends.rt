@@ -56,9 +56,9 @@ fn input_without_end(rt: HostRuntime) -> Result<(), Fail> {
 
 /// Example 1 with a DEBUG block of this many longwords before its END: 48 bytes and these.
 fn with_debug_data(alloc: Global, longs: u32) -> Result<Vec<u8>, AllocError> {
-    let mut behind = [0x3F1, longs].to_vec(alloc)?;
-    behind.resize(2 + longs as usize, 0)?;
-    before_end(alloc, &behind)
+    let mut after = [0x3F1, longs].to_vec(alloc)?;
+    after.resize(2 + longs as usize, 0)?;
+    before_end(alloc, &after)
 }
 
 /// The fault of a call on these bytes, where 1,000 may be read, and how many it reads.
@@ -76,7 +76,7 @@ fn each_is_done(rt: &impl Abort, alloc: Global, calls: &[Call], bytes: &[u8]) {
     }
 }
 
-/// Files of 1,004, of 1,000 and of 996 bytes. Behind the last byte that may be read no end is looked for.
+/// Files of 1,004, of 1,000 and of 996 bytes. After the last byte that may be read no end is looked for.
 #[test]
 fn files_of_about_the_limit(rt: HostRuntime) -> Result<(), Fail> {
     let alloc = rt.alloc();

@@ -54,7 +54,7 @@ fn sizes(alloc: Global, bytes: &[u8]) -> Result<(u64, usize, usize), RunFault> {
     Ok((size, count, writes))
 }
 
-/// The lines before and behind those of 8,000 relocations, which have 17 bytes each.
+/// The lines before and after those of 8,000 relocations, which have 17 bytes each.
 const OTHERS: &str =
     "load file 1 hunks 4 bytes\nhunk 0 4 bytes any\n  CODE 4 bytes\n  RELOC32 8000\n  END\n";
 

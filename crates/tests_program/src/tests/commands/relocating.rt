@@ -106,7 +106,7 @@ fn prints(rt: HostRuntime) -> Result<(), Fail> {
     Ok(())
 }
 
-/// Files and bases with which a hunk passes 2^32, the byte behind the header, and the hunk: examples 32, 28 and 8.
+/// Files and bases with which a hunk passes 2^32, the byte after the header, and the hunk: examples 32, 28 and 8.
 const UNPLACED: &[(&str, u32, u64, u32)] = &[
     (examples::ONE_HUNK, 0xFFFF_FFFD, 24, 0),
     (examples::TWO_HUNKS, 0xFFFF_FFF8, 28, 1),
@@ -148,7 +148,7 @@ fn names_the_part(rt: HostRuntime) -> Result<(), Fail> {
 }
 
 /// Whether a call is done, and how many bytes the next reader has then.
-fn left_behind(alloc: Global, bytes: &[u8], budget: u64, base: u32) -> (bool, Option<usize>) {
+fn left_after(alloc: Global, bytes: &[u8], budget: u64, base: u32) -> (bool, Option<usize>) {
     let limits = Limits { budget, ..LIMITS };
     let mut source = FromSlice::new(bytes);
     let got = relocated(alloc, &mut source, roomy(), limits, base);
@@ -170,7 +170,7 @@ fn leaves_what_follows(rt: HostRuntime) -> Result<(), Fail> {
     let mut bytes = spelled(rt.alloc(), examples::ONE_HUNK)?;
     bytes.extend_from_slice(b"follows")?;
     for (base, budget, left) in LEFT {
-        let got = left_behind(rt.alloc(), &bytes, *budget, *base);
+        let got = left_after(rt.alloc(), &bytes, *budget, *base);
         assert_equal(&rt, got, (*left == 7, Some(*left)));
     }
     Ok(())

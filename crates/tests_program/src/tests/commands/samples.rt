@@ -69,7 +69,7 @@ pub(super) const AGAIN: &[(&str, usize, bool, &str)] = &[
     (examples::WITH_AN_ADVISORY, 0, true, examples::ONE_HUNK),
     (examples::WITH_A_NAME, 0, true, examples::ONE_HUNK),
     (
-        examples::RELOCATED_BEHIND_SYMBOLS,
+        examples::RELOCATED_AFTER_SYMBOLS,
         0,
         true,
         examples::RELOCATED_ALONE,

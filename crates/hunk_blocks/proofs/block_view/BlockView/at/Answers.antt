@@ -29,12 +29,12 @@ module _ (c : goal.After-reader) where
   unfolding bytes
   first = word_read bytes c.requires _ c.long.new.self c.of-word.result c.long.result refl c.long.ensures c.of-word.ensures
 
-  behind_word : c.long.new.self.place ≡ c.args.place + 4
-  behind_word = omega (arith, c.long.ensures.further)
+  after_word : c.long.new.self.place ≡ c.args.place + 4
+  after_word = omega (arith, c.long.ensures.further)
 
   size : c.read_body-body.new.reader.place ≡ c.args.place + length (bytes_of (block_text (block c.of-word.result (viewed c.read_body-body.result))))
   unfolding bytes
-  size = read_size bytes c.requires c.of-word.result c.long.new.self first c.read_body-body.new.reader (viewed c.read_body-body.result) c.read_body-body.ensures.read c.args.place behind_word
+  size = read_size bytes c.requires c.of-word.result c.long.new.self first c.read_body-body.new.reader (viewed c.read_body-body.result) c.read_body-body.ensures.read c.args.place after_word
 
 pub overflow_sub-result : goal.overflow_sub-result
 overflow_sub-result c = omega (arith, size c, ap (λ u. u.place) c.reader.view_is)
@@ -44,7 +44,7 @@ unfolding bytes
 invariant_of-result c = (
   read_is_block (bytes c) c.requires c.of-word.result c.long.new.self (first c) c.read_body-body.new.reader (viewed c.read_body-body.result) c.read_body-body.ensures.read,
   omega (arith, size c, ap (λ u. u.place) c.reader.view_is),
-  subst (λ (n : ℕ). HasListAt n c.read_body-body.result) (behind_word c) c.read_body-body.ensures.place,
+  subst (λ (n : ℕ). HasListAt n c.read_body-body.result) (after_word c) c.read_body-body.ensures.place,
   omega (arith, size c, ap (λ u. u.place) c.reader.view_is),
 )
 

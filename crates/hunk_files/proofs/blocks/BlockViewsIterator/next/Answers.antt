@@ -5,7 +5,7 @@ use Rattle.hunk_blocks.specs.{Parts.block_text, Placed.Placed, Values.{BlockBody
 use Rattle.hunk_blocks.specs.declared.body_view.BodyView.TheVariants as bodies
 use Rattle.hunk_files.specs.{InPlace.GivesPart, LoadFile.standing}
 use Rattle.hunk_files.proofs.BlocksInPlace.{first_begins, gives_last, gives_next, more_begin, none_seen, seen, some_seen}
-use Rattle.hunk_files.proofs.Taking.{part_less}
+use Rattle.hunk_files.proofs.PartsInTurn.{part_less}
 use Rattle.hunk_files.proofs.blocks.BlockViewsIterator.next.Goals as goal
 use Rattle.hunk_files.proofs.blocks.BlockViewsIterator.next.Goals.{in-End, in_default}
 
@@ -34,9 +34,9 @@ invariant_of-self-in_default c =
     let front = subst (IsFrontBlock (drop at bytes) x) (sym c.encoded_len.ensures.value) c.at-block.ensures.block in
     inr (more_begin bytes at (some_seen bytes at c.self.invariant c.if-self.false) x c.encoded_len.result front (ends_not c.body.ensures.value c.in_default.not-End))
 
--- what was there before and behind the block
+-- what was there before and after the block
 given : (x : Placed BlockValue) (old new a b : Placed (List BlockValue)) → GivesPart block_text a (Some x) b → a ≡ old → new ≡ b → GivesPart block_text old (Some x) new
-given x old new a b gives before behind = subst (λ p. GivesPart block_text p (Some x) new) before (subst (λ p. GivesPart block_text a (Some x) p) (sym behind) gives)
+given x old new a b gives before after = subst (λ p. GivesPart block_text p (Some x) new) before (subst (λ p. GivesPart block_text a (Some x) p) (sym after) gives)
 
 pub returns-clause-steps : goal.returns-clause-steps
 returns-clause-steps c =

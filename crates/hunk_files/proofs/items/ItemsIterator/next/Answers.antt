@@ -3,11 +3,11 @@ use Rattle.hunk_words.specs.Longs.{longs}
 use Rattle.hunk_blocks.specs.{Parts.block_text, Placed.Placed, Values.BlockValue}
 use Rattle.hunk_files.specs.{InPlace.GivesPart, Items.{ItemValue, ItemsAt, end_of_blocks, item_text, items_at}}
 use Rattle.hunk_files.specs.declared.items.Items.TheInside.{Inside}
-use Rattle.hunk_files.proofs.ItemLaws.{behind_header, behind_hunk, gives_hunk, gives_unit, hunk_here, none_left, none_open, open_ends, unit_here}
-use Rattle.hunk_files.proofs.{ObjectViewLaws.tested, Taking.part_less}
+use Rattle.hunk_files.proofs.ItemLaws.{after_header, after_hunk, gives_hunk, gives_unit, hunk_here, none_left, none_open, open_ends, unit_here}
+use Rattle.hunk_files.proofs.{ObjectViewLaws.tested, PartsInTurn.part_less}
 use Rattle.hunk_files.proofs.items.ItemsIterator.next.Goals as goal
 
--- what stands behind the open hunk
+-- what stands after the open hunk
 left : (s : Inside) → ItemsAt s.bytes.now s.units s.hunks (end_of_blocks s.blocks) → (new : Placed (List BlockValue)) (at : ℕ) → GivesPart block_text s.blocks None new → at ≡ new.place → ItemsAt s.bytes.now s.units s.hunks at
 left s is new at none here = subst (ItemsAt s.bytes.now s.units s.hunks) (open_ends s.blocks new at none here) is
 
@@ -18,7 +18,7 @@ at-self-inside-requires c =
 
 pub invariant_of-self-then-not-ends_unit : goal.invariant_of-self-then-not-ends_unit
 invariant_of-self-then-not-ends_unit c =
-    behind_hunk c.self.inside.bytes.now c.place-at.result c.self.inside.units c.self.inside.hunks (left c.self.inside c.self.invariant c.next.new.self c.place-at.result c.in_default.ensures.steps c.place-at.ensures)
+    after_hunk c.self.inside.bytes.now c.place-at.result c.self.inside.units c.self.inside.hunks (left c.self.inside c.self.invariant c.next.new.self c.place-at.result c.in_default.ensures.steps c.place-at.ensures)
     (tested c.self.inside.bytes.now c.place-at.result c.ends_unit.result c.ends_unit.ensures c.if-not-ends_unit.true) c.at-self-inside.result c.at-self-inside.ensures
 
 pub returns-then-not-ends_unit-clause-steps : goal.returns-then-not-ends_unit-clause-steps
@@ -52,7 +52,7 @@ pub invariant_of-self-2 : goal.invariant_of-self-2
 invariant_of-self-2 c =
     let s = c.self.inside in
     let header =
-    behind_header s.bytes.now c.place-at.result s.units s.hunks (left s c.self.invariant c.next.new.self c.place-at.result c.in_default.ensures.steps c.place-at.ensures)
+    after_header s.bytes.now c.place-at.result s.units s.hunks (left s c.self.invariant c.next.new.self c.place-at.result c.in_default.ensures.steps c.place-at.ensures)
     (tested s.bytes.now c.place-at.result c.ends_unit.result c.ends_unit.ensures c.if-not-ends_unit.false) c.if-at-bytes.false (longs c.read_header-name.result.0) c.read_header-name.result.1 c.read_header-name.ensures in
     let none = c.none-self-inside.ensures in
     let end : end_of_blocks c.none-self-inside.result ≡ c.read_header-name.result.1 = omega (arith, ap end_of_blocks none) in

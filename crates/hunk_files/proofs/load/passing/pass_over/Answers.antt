@@ -5,7 +5,7 @@ use Rattle.hunk_files.proofs.load.passing.pass_over.Goals as goal
 
 pub returns-in-SizeWord : goal.returns-in-SizeWord
 returns-in-SizeWord c =
-    let row = c.behind_rows-end in
+    let row = c.after_rows-end in
     passed_rows c.in-SizeWord.hunks c.in-SizeWord.owed row.result.1 row.result.0 c.in-SizeWord.is row.ensures.few row.ensures.rows
 
 pub returns-then-end-at : goal.returns-then-end-at
@@ -13,7 +13,7 @@ returns-then-end-at c = nothing
 
 pub returns-else-end-at : goal.returns-else-end-at
 returns-else-end-at c =
-    let end = c.behind_blocks-end in
+    let end = c.after_blocks-end in
     let here = c.in-Body-default-FirstBlock in
     let begins : part_at here.field-1 ≡ parts.BlockWord = search rules in
     passed_blocks here.hunk here.field-1 end.result.0 end.result.1 here.is begins (omega (arith, c.if-end-at.false)) end.ensures

@@ -8,9 +8,9 @@ use Rattle.hunk_grammar.specs.Roles.{refuse}
 use Rattle.hunk_grammar.specs.Positions as scan
 use Rattle.hunk_grammar.specs.Positions.{role_at}
 use Rattle.hunk_grammar.specs.declared.position.Position.{Position}
-use Rattle.hunk_files.specs.Entries.{entry_at, entry_behind}
+use Rattle.hunk_files.specs.Entries.{entry_at, entry_after}
 use Rattle.hunk_files.specs.Fault.{HasFault}
-use Rattle.hunk_files.specs.declared.load.walk.Entry.{Entry}
+use Rattle.hunk_files.specs.declared.load.walk.DeclaredHunk.{DeclaredHunk}
 use Rattle.hunk_files.proofs.LoadWalks.{Walks, start_walk, refused, ends, opens, passes, ends_early}
 use Rattle.hunk_files.proofs.PassedWalks.{walk_over}
 use Rattle.hunk_files.proofs.Passed.{passed_on}
@@ -33,7 +33,7 @@ returns-in-Done c =
     let w = c.walking in
     let ok = c.in-Ok in
     ends bytes (λ i. omega (arith, c.type_inv.bytes i)) w.at w.position w.entry w.invariant (omega (arith, length-longs bytes)) c.word_at-word.result c.word_at-word.ensures
-    ok.behind ok.ensures.steps ok.ensures.passes c.in-Done.is
+    ok.after ok.ensures.steps ok.ensures.passes c.in-Done.is
 
 pub word_at-size-requires : goal.word_at-size-requires
 word_at-size-requires c =
@@ -41,7 +41,7 @@ word_at-size-requires c =
     let w = c.walking in
     let ok = c.in-Ok in
     opens bytes (λ i. omega (arith, c.type_inv.bytes i)) w.at w.position w.entry w.invariant (omega (arith, length-longs bytes)) c.word_at-word.result c.word_at-word.ensures
-    ok.behind ok.ensures.steps ok.ensures.passes c.in_default.not-Done (sym c.is_between_hunks.ensures ∙ c.if-is_between_hunks.true)
+    ok.after ok.ensures.steps ok.ensures.passes c.in_default.not-Done (sym c.is_between_hunks.ensures ∙ c.if-is_between_hunks.true)
 
 pub overflow_add-entry : goal.overflow_add-entry
 overflow_add-entry c =
@@ -50,7 +50,7 @@ overflow_add-entry c =
     let ok = c.in-Ok in
     let inside =
     opens bytes (λ i. omega (arith, c.type_inv.bytes i)) w.at w.position w.entry w.invariant (omega (arith, length-longs bytes)) c.word_at-word.result c.word_at-word.ensures
-    ok.behind ok.ensures.steps ok.ensures.passes c.in_default.not-Done (sym c.is_between_hunks.ensures ∙ c.if-is_between_hunks.true) in
+    ok.after ok.ensures.steps ok.ensures.passes c.in_default.not-Done (sym c.is_between_hunks.ensures ∙ c.if-is_between_hunks.true) in
     omega (arith, inside, c.entry_longs.ensures.bound)
 
 pub walking-preserved : goal.walking-preserved
@@ -61,20 +61,20 @@ walking-preserved c =
     let ok = c.in-Ok in
     let on =
     passes bytes fit w.at w.position w.entry w.invariant (omega (arith, length-longs bytes)) c.word_at-word.result c.word_at-word.ensures
-    ok.behind ok.ensures.steps ok.ensures.passes c.in_default.not-Done in
+    ok.after ok.ensures.steps ok.ensures.passes c.in_default.not-Done in
     let entry = c.if-is_between_hunks.entry in
-    let opened : Bool → Entry = λ b. if b then entry_behind (slice_index (longs bytes) w.entry.next) w.entry.next else w.entry in
-    let entry_is : entry ≡ entry_at (longs bytes) ok.behind w.entry =
+    let opened : Bool → DeclaredHunk = λ b. if b then entry_after (slice_index (longs bytes) w.entry.next) w.entry.next else w.entry in
+    let entry_is : entry ≡ entry_at (longs bytes) ok.after w.entry =
     elim c.if-is_between_hunks.branch [
       | then-is_between_hunks v ↦ v.entry-is ∙ ap₂ (λ (word longs : ℕ). record { longs = size_longs word; next = w.entry.next + longs }) v.word_at-size.ensures (v.entry_longs.ensures.value ∙ ap entry_longs v.word_at-size.ensures)
           ∙ ap opened (sym (sym c.is_between_hunks.ensures ∙ v.if-is_between_hunks.true))
       | else-is_between_hunks v ↦ v.entry-is ∙ ap opened (sym (sym c.is_between_hunks.ensures ∙ v.if-is_between_hunks.false))
     ] in
     let from : w.at + (1 + c.run-run.result) ≡ w.at + 1 + c.run-run.result = omega arith in
-    let P : ℕ → Type 0 = λ n. Walks bytes (w.at + (1 + n)) (scan.pass ok.behind n) (entry_at (longs bytes) ok.behind w.entry) in
+    let P : ℕ → Type 0 = λ n. Walks bytes (w.at + (1 + n)) (scan.pass ok.after n) (entry_at (longs bytes) ok.after w.entry) in
     let here = subst (λ (k : ℕ). Walks bytes k c.pass.result entry) from
     (subst (λ (p : Position). Walks bytes (w.at + (1 + c.run-run.result)) p entry) (sym c.pass.ensures)
-    (subst (λ (e : Entry). Walks bytes (w.at + (1 + c.run-run.result)) (scan.pass ok.behind c.run-run.result) e) (sym entry_is)
+    (subst (λ (e : DeclaredHunk). Walks bytes (w.at + (1 + c.run-run.result)) (scan.pass ok.after c.run-run.result) e) (sym entry_is)
     (subst P (sym c.run-run.ensures.value) on))) in
     walk_over bytes fit (w.at + 1 + c.run-run.result) c.pass.result entry c.pass_over.result.0 c.pass_over.result.1 here c.pass_over.ensures
 

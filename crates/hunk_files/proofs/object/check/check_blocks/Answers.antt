@@ -1,7 +1,7 @@
 use Rattle.std.proofs.Common.{◌∙◌}
 use Rattle.hunk_blocks.specs.Parts.{block_text}
 use Rattle.hunk_files.specs.PlacedFindings.{block_findings_at, hunk_findings_at}
-use Rattle.hunk_files.proofs.{FindingSteps.taken_on, PlacedFindingLaws.block_first, Taking.end_stays}
+use Rattle.hunk_files.proofs.{FindingSteps.taken_on, PlacedFindingLaws.block_first, PartsInTurn.end_stays}
 use Rattle.hunk_files.proofs.object.check.check_blocks.Goals as goal
 
 pub checking-preserved : goal.checking-preserved

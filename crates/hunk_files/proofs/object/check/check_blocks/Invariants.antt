@@ -1,7 +1,7 @@
 use Rattle.std.proofs.Common.{◌≡◌, length}
 use Rattle.hunk_blocks.specs.Parts.{block_text}
 use Rattle.hunk_files.specs.PlacedFindings.{hunk_findings_at}
-use Rattle.hunk_files.proofs.{FindingSteps.TakenUpTo, Taking.end_of}
+use Rattle.hunk_files.proofs.{FindingSteps.TakenUpTo, PartsInTurn.end_of}
 use Rattle.hunk_files.proofs.object.check.check_blocks.Given as goal
 
 abbrev pub invariant-checking : goal.invariant-checking

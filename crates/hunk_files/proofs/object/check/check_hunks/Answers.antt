@@ -3,7 +3,7 @@ use Rattle.hunk_blocks.specs.Placed.{Placed}
 use Rattle.hunk_files.specs.{Findings.{HunkContext, hunk_bytes}, Hunks.block_texts, InPlace.GivesPart}
 use Rattle.hunk_files.specs.{ObjectFile.ObjectHunk, PlacedFindings.{PlacedFinding, hunk_findings_at, hunks_findings_at}}
 use Rattle.hunk_files.proofs.{FindingSteps.taken_on, PlacedFindingLaws.{hunk_first, hunk_found}}
-use Rattle.hunk_files.proofs.Taking.{end_stays, part_passed}
+use Rattle.hunk_files.proofs.PartsInTurn.{end_stays, part_passed}
 use Rattle.hunk_files.proofs.object.check.check_hunks.Goals as goal
 
 pub checking-preserved : goal.checking-preserved

@@ -1,6 +1,6 @@
 use Rattle.std.proofs.Common.{◌≡◌, ◌+◌, ◌^◌, ◌<◌, length}
 use Rattle.hunk_files.specs.{Hunks.block_texts, PlacedFindings.hunks_findings_at}
-use Rattle.hunk_files.proofs.{FindingSteps.TakenUpTo, Taking.end_of}
+use Rattle.hunk_files.proofs.{FindingSteps.TakenUpTo, PartsInTurn.end_of}
 use Rattle.hunk_files.proofs.object.check.check_hunks.Given as goal
 
 abbrev pub invariant-checking : goal.invariant-checking

@@ -2,7 +2,7 @@ use Rattle.std.proofs.Common.{◌≡◌, ◌+◌, ◌*◌, ℕ, List, length, ap
 use Rattle.std.proofs.lemmas.Iterator.Consumers.{count_from_yields_List}
 use Rattle.hunk_files.specs.{Hunks.block_texts, ObjectFile.{ObjectHunk, unit_header}}
 use Rattle.hunk_files.specs.PlacedFindings.{PlacedFinding, hunks_findings_at}
-use Rattle.hunk_files.proofs.Taking.{given_in_turn}
+use Rattle.hunk_files.proofs.PartsInTurn.{given_in_turn}
 use Rattle.hunk_files.proofs.object.check.check_unit.Goals as goal
 
 pub returns-clause-taken : goal.returns-clause-taken

@@ -3,7 +3,7 @@ use Rattle.hunk_grammar.specs.declared.phase.OpenHunk.{OpenHunk}
 use Rattle.hunk_blocks.specs.declared.phase.Phase.{Phase}
 use Rattle.hunk_grammar.specs.declared.position.Position.{Position}
 use Rattle.hunk_grammar.specs.declared.position.Position.TheVariants as positions
-use Rattle.hunk_grammar.specs.Positions.{behind, onward, pass, pass_in}
+use Rattle.hunk_grammar.specs.Positions.{after, onward, pass, pass_in}
 use Rattle.hunk_grammar.proofs.position.Position.pass.Goals as goal
 
 pass_some : (o : OpenHunk) (phase : Phase) (n : ℕ) → 0 < n → pass_in o phase (n - 1) ≡ pass (positions.Body o phase) n
@@ -15,11 +15,11 @@ returns-in-Some c =
     let o = c.in-Body.hunk in
     let phase = c.in-Body.phase in
     subst (λ (p : Position). positions.Body o c.in-Some.next ≡ pass p c.args.count) (sym c.in-Body.is)
-    (ap (onward o (behind o phase)) (sym c.in-Some.is ∙ c.pass.ensures) ∙ pass_some o phase c.args.count (omega (arith, c.if-count-gt0.true)))
+    (ap (onward o (after o phase)) (sym c.in-Some.is ∙ c.pass.ensures) ∙ pass_some o phase c.args.count (omega (arith, c.if-count-gt0.true)))
 
 pub returns-in-None : goal.returns-in-None
 returns-in-None c =
     let o = c.in-Body.hunk in
     let phase = c.in-Body.phase in
-    subst (λ (p : Position). c.behind.result ≡ pass p c.args.count) (sym c.in-Body.is)
-    (c.behind.ensures ∙ ap (onward o (behind o phase)) (sym c.in-None.is ∙ c.pass.ensures) ∙ pass_some o phase c.args.count (omega (arith, c.if-count-gt0.true)))
+    subst (λ (p : Position). c.after.result ≡ pass p c.args.count) (sym c.in-Body.is)
+    (c.after.ensures ∙ ap (onward o (after o phase)) (sym c.in-None.is ∙ c.pass.ensures) ∙ pass_some o phase c.args.count (omega (arith, c.if-count-gt0.true)))

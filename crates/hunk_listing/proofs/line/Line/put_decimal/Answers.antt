@@ -1,7 +1,7 @@
 use Rattle.std.proofs.Common.{◌≡◌, ◌∙◌, sym, length, rules, arith}
 use Rattle.std.specs.Prelude.{decimal}
 use Rattle.std.proofs.lemmas.Fmt.{length-decimal-le}
-use Rattle.hunk_listing.proofs.DecimalLaws.{length_digit, length_power, put_behind}
+use Rattle.hunk_listing.proofs.DecimalLaws.{length_digit, length_power, put_at_end}
 use Rattle.hunk_listing.proofs.line.Line.put_decimal.Goals.{then-number-lt10, else-number-lt10}
 use Rattle.hunk_listing.proofs.line.Line.put_decimal.Goals as goal
 
@@ -24,4 +24,4 @@ returns-clause-text c =
       | then-number-lt10 w ↦ length_digit c.args.number w.if-number-lt10.true ∙ sym w.count-is
       | else-number-lt10 w ↦ length_power w.ilog10.result c.args.number w.ilog10.ensures.power_le w.ilog10.ensures.next_power_gt c.ranges.number.fits ∙ sym w.count-is
     ] in
-    put_behind c.self.inside.bytes w.new.buf c.args.self.now (decimal c.args.number) _ c.self.inside.len w.result c.if-number-lt10.count c.self.view_is (omega arith) (omega (arith, count, w.ensures.start)) count w.ensures.before w.ensures.written
+    put_at_end c.self.inside.bytes w.new.buf c.args.self.now (decimal c.args.number) _ c.self.inside.len w.result c.if-number-lt10.count c.self.view_is (omega arith) (omega (arith, count, w.ensures.start)) count w.ensures.before w.ensures.written

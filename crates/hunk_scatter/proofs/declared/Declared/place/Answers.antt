@@ -14,7 +14,7 @@ invariant_of-result g c =
     let entries = c.in_default.ensures.entries ∙ ap entries_of c.as_mut_slice.ensures.value in
     let hunks : c.len.result ≡ length (entries_of c.place_rows.new.rows) =
     omega (arith, c.len.ensures, ap length rows, length-map c.place_rows.new.rows row_entry) in
-    let standing = c.behind_header-standing in
+    let standing = c.after_header-standing in
     let placed = placed_loading c.table.inside.rows.items c.place_rows.new.rows c.table.inside.total c.table.inside.budget c.table.inside.count c.table.inside.history.bytes c.in-Ok.store.items standing.result
     c.table.invariant entries (c.in-Ok.ensures.items_if_clones_equal (λ y e. e)) (standing.ensures.state ∙ ap (λ (n : ℕ). state_at [] (open_next n n)) hunks) (omega (arith, standing.ensures.fed, c.table.invariant.counted)) standing.ensures.pending in
     subst (λ (rs : List Row). BodyLoaderInvariant rs c.in-Ok.store.items standing.result None c.table.inside.history.bytes) (sym rows)

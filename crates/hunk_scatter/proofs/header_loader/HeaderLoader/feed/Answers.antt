@@ -63,7 +63,7 @@ returns-in-Err-clause-out_of_memory c none e =
     let s : StopsInPiece c.args.self.now.budget c.args.self.now.fed c.args.piece.now c.in-Err.fault = stops_on _ _ _ _ _ _ _ i.budget_is i.fed_is c.in-Err.ensures.feeds_or_stops.stops in
     omega (arith, s.3, stop_ends _ s.0 s.1 c.in-Err.fault s.4)
 
--- what is known behind the loop: all of the piece was taken, or the header is whole
+-- what is known after the loop: all of the piece was taken, or the header is whole
 abbrev Ended : HeaderLoaderValue → List ℕ → ℕ → HeaderLoaderValue → Type 0
 Ended old piece taken v = (v.fed ≡ old.fed ++ take taken piece) × (v.budget ≡ old.budget) × (v.refused ≡ None) × (taken < length piece → IsHeader v.fed)
 

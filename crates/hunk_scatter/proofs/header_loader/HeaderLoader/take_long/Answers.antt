@@ -9,30 +9,30 @@ invariant_of-self-in-Ok c =
     let none = heading_unrefused _ _ _ _ _ _ _ c.self.invariant _ c.self.view_is c.requires.reading in
     let front = completes _ c.args.piece.now _ _ _ _ c.in-Some.is c.take_front-taken.ensures.inside c.take_front-taken.ensures.gathers in
     heading_as _ _ _ _ _ _ _ _ _ _ _ c.in-Ok.ensures.rows c.in-Ok.ensures.passes.position_is c.in-Ok.ensures.passes.total_is front.none_left c.and-self-inside-in-Ok.ensures
-    (heading_word _ _ _ _ _ _ _ c.self.invariant none (sym c.is_behind_header.ensures ∙ c.if-is_behind_header.false)
+    (heading_word _ _ _ _ _ _ _ c.self.invariant none (sym c.is_after_header.ensures ∙ c.if-is_after_header.false)
     _ _ front.long c.in-Some.word c.in-Ok.ensures.long front.spelled c.in-Ok.ensures.passes.accepted c.in-Ok.ensures.passes.within)
 
 pub overflow_sub-place : goal.overflow_sub-place
 overflow_sub-place c =
     let none = heading_unrefused _ _ _ _ _ _ _ c.self.invariant _ c.self.view_is c.requires.reading in
     let front = completes _ c.args.piece.now _ _ _ _ c.in-Some.is c.take_front-taken.ensures.inside c.take_front-taken.ensures.gathers in
-    heading_four _ _ _ _ _ _ _ c.self.invariant none (sym c.is_behind_header.ensures ∙ c.if-is_behind_header.false)
+    heading_four _ _ _ _ _ _ _ c.self.invariant none (sym c.is_after_header.ensures ∙ c.if-is_after_header.false)
     _ _ front.long c.in-Some.word c.in-Err.ensures.long front.spelled
 
 pub returns-in_default-clause-feeds_or_stops : goal.returns-in_default-clause-feeds_or_stops
 returns-in_default-clause-feeds_or_stops c =
     heading_feeds _ _ _ _ (search rules) (search rules) (search rules)
-    (heading_seen_not_whole _ _ _ _ _ _ _ c.self.invariant _ c.self.view_is c.requires.reading (sym c.is_behind_header.ensures ∙ c.if-is_behind_header.false))
+    (heading_seen_not_whole _ _ _ _ _ _ _ c.self.invariant _ c.self.view_is c.requires.reading (sym c.is_after_header.ensures ∙ c.if-is_after_header.false))
 
 pub returns-in-Ok-clause-feeds_or_stops : goal.returns-in-Ok-clause-feeds_or_stops
 returns-in-Ok-clause-feeds_or_stops c =
     heading_feeds _ _ _ _ (search rules) (search rules) (search rules)
-    (heading_seen_not_whole _ _ _ _ _ _ _ c.self.invariant _ c.self.view_is c.requires.reading (sym c.is_behind_header.ensures ∙ c.if-is_behind_header.false))
+    (heading_seen_not_whole _ _ _ _ _ _ _ c.self.invariant _ c.self.view_is c.requires.reading (sym c.is_after_header.ensures ∙ c.if-is_after_header.false))
 
 pub returns-in-Err-clause-feeds_or_stops : goal.returns-in-Err-clause-feeds_or_stops
 returns-in-Err-clause-feeds_or_stops c =
     let none = heading_unrefused _ _ _ _ _ _ _ c.self.invariant _ c.self.view_is c.requires.reading in
-    let more = sym c.is_behind_header.ensures ∙ c.if-is_behind_header.false in
+    let more = sym c.is_after_header.ensures ∙ c.if-is_after_header.false in
     let front = completes _ c.args.piece.now _ _ _ _ c.in-Some.is c.take_front-taken.ensures.inside c.take_front-taken.ensures.gathers in
     record {
       budget = search rules;
@@ -54,6 +54,6 @@ returns-in-Err-clause-feeds_or_stops c =
       remembers = search rules;
     }
 
-pub returns-then-is_behind_header-clause-ends : goal.returns-then-is_behind_header-clause-ends
-returns-then-is_behind_header-clause-ends c same =
-    heading_seen_whole _ _ _ _ _ _ _ c.self.invariant _ c.self.view_is c.requires.reading (sym c.is_behind_header.ensures ∙ c.if-is_behind_header.true)
+pub returns-then-is_after_header-clause-ends : goal.returns-then-is_after_header-clause-ends
+returns-then-is_after_header-clause-ends c same =
+    heading_seen_whole _ _ _ _ _ _ _ c.self.invariant _ c.self.view_is c.requires.reading (sym c.is_after_header.ensures ∙ c.if-is_after_header.true)

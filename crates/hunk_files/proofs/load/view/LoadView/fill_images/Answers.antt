@@ -50,15 +50,15 @@ filling-preserved g c =
     let bases = g.B.Bases.bases c.args.bases.now in
     let memory = rw c.filling.invariant.stays at c.fill_hunk.ensures.memory in
     let n = next_hunk_of c.filling.size-iterator (size_entry c.in-Some.size) c.next.new.self bytes at c.in-Some.ensures.steps c.filling.invariant.begins in
-    let behind = c.place-at.ensures ∙ c.fill_hunk.ensures.behind ∙ ap (λ (p : Placed (List BlockValue)). p.place + 4 * length (block_texts p.value)) (c.at-blocks.ensures n.here) in
-    let room = hunk_room c.filling.invariant.left _ _ (n.first _ behind) in
+    let after = c.place-at.ensures ∙ c.fill_hunk.ensures.after ∙ ap (λ (p : Placed (List BlockValue)). p.place + 4 * length (block_texts p.value)) (c.at-blocks.ensures n.here) in
+    let room = hunk_room c.filling.invariant.left _ _ (n.first _ after) in
     let size = part_size c.filling.start c.bytes.result c.filling.memory (omega (arith, c.bytes.ensures, room)) in
     let blocks : c.at-blocks.result.value ≡ blocks_in (drop at bytes) = ap (λ (p : Placed (List BlockValue)). p.value) (c.at-blocks.ensures n.here) ∙ sym (hunk_value n.here) in
     record {
       stays = c.fill_hunk.ensures.stays ∙ c.filling.invariant.stays;
-      begins = n.left c.place-at.result behind;
+      begins = n.left c.place-at.result after;
       left =
-          image_put c.filling.invariant.left _ _ (n.first _ behind) c.bytes.result c.fill_hunk.new.memory c.bytes.ensures (omega (arith, c.fill_hunk.auto.memory, size))
+          image_put c.filling.invariant.left _ _ (n.first _ after) c.bytes.result c.fill_hunk.new.memory c.bytes.ensures (omega (arith, c.fill_hunk.auto.memory, size))
           (memory ∙ ap₂ (memory_of bases) (size ∙ c.bytes.ensures) blocks);
     }
 

@@ -1,6 +1,6 @@
 use Rattle.std.proofs.Common.{◌≡◌, length}
 use Rattle.hunk_files.specs.Hunks.{block_texts}
-use Rattle.hunk_files.proofs.Taking.{end_of}
+use Rattle.hunk_files.proofs.PartsInTurn.{end_of}
 use Rattle.hunk_files.proofs.object.hunk_view.HunkViews.end.Given as goal
 
 abbrev pub invariant-passing : goal.invariant-passing

@@ -1,8 +1,8 @@
 use Rattle.std.proofs.Common.{◌≡◌, ◌∷◌, ◌++◌, [], List, ◌∙◌, refl, rules, subst, sym}
 use Rattle.std.proofs.lemmas.Result.{err_from_is_err_and}
 use Rattle.hunk_files.specs.{Hunks.block_texts, ObjectFile.{ObjectHunk, IsObjectHunk}, ObjectViews.hunks_at}
-use Rattle.hunk_files.proofs.HunkKeeping.{all_kept, are_hunk, hunk_kept, hunk_lacks, hunks_behind, nearer, part_of_hunk, some_behind}
-use Rattle.hunk_files.proofs.{ObjectViewLaws.{next_hunk, tested}, Taking.Taken}
+use Rattle.hunk_files.proofs.HunkKeeping.{all_kept, are_hunk, hunk_kept, hunk_lacks, hunks_after, nearer, part_of_hunk, some_after}
+use Rattle.hunk_files.proofs.{ObjectViewLaws.{next_hunk, tested}, PartsInTurn.Taken}
 use Rattle.hunk_files.proofs.object.hunk_view.HunkViews.keep.Goals as goal
 
 pub at-views-requires : goal.at-views-requires
@@ -22,27 +22,27 @@ invariant_of-append c =
 
 pub out_of_memory-requires : goal.out_of_memory-requires
 out_of_memory-requires c =
-    some_behind c.self.inside.bytes.now c.keeping.at c.keeping.invariant.0 (tested c.self.inside.bytes.now c.keeping.at c.ends_unit.result c.ends_unit.ensures (let test = c.keeping-test.true in cc)) c.at-views.result c.at-views.ensures c.args.self c.keeping.hunks.items c.keeping.invariant.1
-    c.place-at.result (c.place-at.ensures ∙ c.in_ok-blocks.ensures.behind)
+    some_after c.self.inside.bytes.now c.keeping.at c.keeping.invariant.0 (tested c.self.inside.bytes.now c.keeping.at c.ends_unit.result c.ends_unit.ensures (let test = c.keeping-test.true in cc)) c.at-views.result c.at-views.ensures c.args.self c.keeping.hunks.items c.keeping.invariant.1
+    c.place-at.result (c.place-at.ensures ∙ c.in_ok-blocks.ensures.after)
 
 pub returns-then-is_err-clause-place : goal.returns-then-is_err-clause-place
 returns-then-is_err-clause-place c =
     hunk_lacks c.self.inside.bytes.now c.keeping.at c.keeping.invariant.0 (tested c.self.inside.bytes.now c.keeping.at c.ends_unit.result c.ends_unit.ensures (let test = c.keeping-test.true in cc)) c.at-views.result c.at-views.ensures c.args.self c.keeping.hunks.items c.keeping.invariant.1
-    c.place-at.result (c.place-at.ensures ∙ c.in_ok-blocks.ensures.behind) c.out_of_memory.result.place c.out_of_memory.ensures.place
+    c.place-at.result (c.place-at.ensures ∙ c.in_ok-blocks.ensures.after) c.out_of_memory.result.place c.out_of_memory.ensures.place
 
 pub keeping-smaller : goal.keeping-smaller
 keeping-smaller c =
     nearer c.self.inside.bytes.now c.keeping.at c.keeping.invariant.0 (tested c.self.inside.bytes.now c.keeping.at c.ends_unit.result c.ends_unit.ensures (let test = c.keeping-test.true in cc)) c.at-views.result c.at-views.ensures c.args.self c.keeping.hunks.items c.keeping.invariant.1
-    c.place-at.result (c.place-at.ensures ∙ c.in_ok-blocks.ensures.behind)
+    c.place-at.result (c.place-at.ensures ∙ c.in_ok-blocks.ensures.after)
 
 pub keeping-preserved : goal.keeping-preserved
 keeping-preserved c =
     let pushed : c.append.new.list.items ≡ c.keeping.hunks.items ++ c.at-views.result.value ∷ [] = search rules in (
-      hunks_behind c.self.inside.bytes.now c.keeping.at c.keeping.invariant.0 (tested c.self.inside.bytes.now c.keeping.at c.ends_unit.result c.ends_unit.ensures (let test = c.keeping-test.true in cc)) c.at-views.result c.at-views.ensures c.args.self c.keeping.hunks.items c.keeping.invariant.1
-          c.place-at.result (c.place-at.ensures ∙ c.in_ok-blocks.ensures.behind),
+      hunks_after c.self.inside.bytes.now c.keeping.at c.keeping.invariant.0 (tested c.self.inside.bytes.now c.keeping.at c.ends_unit.result c.ends_unit.ensures (let test = c.keeping-test.true in cc)) c.at-views.result c.at-views.ensures c.args.self c.keeping.hunks.items c.keeping.invariant.1
+          c.place-at.result (c.place-at.ensures ∙ c.in_ok-blocks.ensures.after),
       subst (λ (hs : List ObjectHunk). Taken block_texts c.args.self (hunks_at c.self.inside.bytes.now c.place-at.result) hs) (sym pushed)
           (hunk_kept c.self.inside.bytes.now c.keeping.at c.keeping.invariant.0 (tested c.self.inside.bytes.now c.keeping.at c.ends_unit.result c.ends_unit.ensures (let test = c.keeping-test.true in cc)) c.at-views.result c.at-views.ensures c.args.self c.keeping.hunks.items c.keeping.invariant.1
-          c.place-at.result (c.place-at.ensures ∙ c.in_ok-blocks.ensures.behind) c.at-views.result.value refl),
+          c.place-at.result (c.place-at.ensures ∙ c.in_ok-blocks.ensures.after) c.at-views.result.value refl),
     )
 
 pub returns-clause-kept : goal.returns-clause-kept

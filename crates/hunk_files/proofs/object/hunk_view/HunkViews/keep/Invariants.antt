@@ -1,6 +1,6 @@
 use Rattle.std.proofs.Common.{length, ◌-◌}
 use Rattle.hunk_files.specs.{Hunks.block_texts, ObjectViews.{HunksAt, hunks_at}}
-use Rattle.hunk_files.proofs.Taking.{Taken}
+use Rattle.hunk_files.proofs.PartsInTurn.{Taken}
 use Rattle.hunk_files.proofs.object.hunk_view.HunkViews.keep.Given as goal
 
 abbrev pub invariant-keeping : goal.invariant-keeping

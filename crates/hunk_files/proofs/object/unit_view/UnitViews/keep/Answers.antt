@@ -2,8 +2,8 @@ use Rattle.std.proofs.Common.{◌≡◌, ◌∷◌, ◌++◌, [], List, arith, r
 use Rattle.std.proofs.lemmas.Result.{err_from_is_err_and}
 use Rattle.hunk_words.specs.Longs.{longs}
 use Rattle.hunk_files.specs.{ObjectFile.{ObjectHunk, ObjectFileValue, IsUnit, unit_text}, ObjectViews.units_at}
-use Rattle.hunk_files.proofs.Taking.{Taken}
-use Rattle.hunk_files.proofs.UnitKeeping.{are_unit, nearer, part_of_unit, some_behind, unit_kept, unit_lacks, units_behind, units_kept}
+use Rattle.hunk_files.proofs.PartsInTurn.{Taken}
+use Rattle.hunk_files.proofs.UnitKeeping.{are_unit, nearer, part_of_unit, some_after, unit_kept, unit_lacks, units_after, units_kept}
 use Rattle.hunk_files.proofs.{UnitReading.unit, UnitViewLaws.{next_unit, unit_hunks}}
 use Rattle.hunk_files.proofs.object.unit_view.UnitViews.keep.Goals as goal
 
@@ -29,7 +29,7 @@ invariant_of-push c =
 
 pub out_of_memory-requires : goal.out_of_memory-requires
 out_of_memory-requires c =
-    some_behind c.self.inside.bytes.now c.keeping.at c.keeping.invariant.0 (omega arith) (longs c.read_header-name.result.0) c.read_header-name.result.1 c.read_header-name.ensures c.at.result c.at.ensures c.args.self c.keeping.units.items c.keeping.invariant.1
+    some_after c.self.inside.bytes.now c.keeping.at c.keeping.invariant.0 (omega arith) (longs c.read_header-name.result.0) c.read_header-name.result.1 c.read_header-name.ensures c.at.result c.at.ensures c.args.self c.keeping.units.items c.keeping.invariant.1
     c.in_ok-hunks.end c.in_ok-hunks.ensures.end
 
 pub returns-then-is_err-clause-place : goal.returns-then-is_err-clause-place
@@ -45,7 +45,7 @@ keeping-smaller c =
 pub keeping-preserved : goal.keeping-preserved
 keeping-preserved c =
     let pushed : c.push.new.self.items ≡ c.keeping.units.items ++ unit (longs c.read_header-name.result.0) c.at.result.value ∷ [] = search rules in (
-      units_behind c.self.inside.bytes.now c.keeping.at c.keeping.invariant.0 (omega arith) (longs c.read_header-name.result.0) c.read_header-name.result.1 c.read_header-name.ensures c.at.result c.at.ensures c.args.self c.keeping.units.items c.keeping.invariant.1
+      units_after c.self.inside.bytes.now c.keeping.at c.keeping.invariant.0 (omega arith) (longs c.read_header-name.result.0) c.read_header-name.result.1 c.read_header-name.ensures c.at.result c.at.ensures c.args.self c.keeping.units.items c.keeping.invariant.1
           c.in_ok-hunks.end c.in_ok-hunks.ensures.end,
       subst (λ (us : ObjectFileValue). Taken unit_text c.args.self (units_at c.self.inside.bytes.now c.in_ok-hunks.end) us) (sym pushed)
           (unit_kept c.self.inside.bytes.now c.keeping.at c.keeping.invariant.0 (omega arith) (longs c.read_header-name.result.0) c.read_header-name.result.1 c.read_header-name.ensures c.at.result c.at.ensures c.args.self c.keeping.units.items c.keeping.invariant.1

@@ -1,6 +1,6 @@
 use Rattle.std.proofs.Common.{length, ◌-◌}
 use Rattle.hunk_files.specs.{ObjectFile.unit_text, ObjectViews.{UnitsAt, units_at}}
-use Rattle.hunk_files.proofs.Taking.{Taken}
+use Rattle.hunk_files.proofs.PartsInTurn.{Taken}
 use Rattle.hunk_files.proofs.object.unit_view.UnitViews.keep.Given as goal
 
 abbrev pub invariant-keeping : goal.invariant-keeping

@@ -4,7 +4,7 @@ use Rattle.hunk_blocks.specs.Placed.{Placed}
 use Rattle.hunk_files.specs.{Findings.FindingValue, InPlace.GivesPart, ObjectFile.{ObjectFileValue, unit_text}}
 use Rattle.hunk_files.specs.PlacedFindings.{placed_findings, unit_findings_at, units_findings_at}
 use Rattle.hunk_files.proofs.{FindingCounts.findings_few, FindingSteps.taken_on}
-use Rattle.hunk_files.proofs.{PlacedFindingLaws.{findings_placed, unit_first}, Taking.part_passed}
+use Rattle.hunk_files.proofs.{PlacedFindingLaws.{findings_placed, unit_first}, PartsInTurn.part_passed}
 use Rattle.hunk_files.proofs.object.view.ObjectView.check_in_place.Goals as goal
 
 pub checking-preserved : goal.checking-preserved
