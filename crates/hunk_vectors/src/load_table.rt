@@ -31,7 +31,7 @@ const ATTRIBUTES_AND_TWO_CONTENTS: &str =
 
 const EMPTY: &str = "";
 
-const BYTES_AFTER: &str =
+const BYTES_BEHIND: &str =
     "000003f30000000000000001000000000000000000000001000003e9000000014e754e71000003f200000000000000";
 
 const LAST_OFFSET: &str =
@@ -174,7 +174,7 @@ pub const LOAD_TEXTS: [&str; 55] = [
     HUNKS_OF_TWO_SIZES,
     ATTRIBUTES_AND_TWO_CONTENTS,
     EMPTY,
-    BYTES_AFTER,
+    BYTES_BEHIND,
     LAST_OFFSET,
     OFFSET_OUTSIDE,
     TARGET_OUTSIDE,
@@ -290,7 +290,7 @@ pub const VECTORS: [Vector; 55] = [
     },
     Vector {
         row: 10,
-        text: BYTES_AFTER,
+        text: BYTES_BEHIND,
         want: Want::Accepted { hunks: 1, bytes: 4 },
     },
     Vector {

@@ -19,7 +19,7 @@ const NO_UNIT: &str = "000003e900000000";
 
 const UNIT_OF_NOTHING: &str = "000003e700000000";
 
-const HALF_LONGWORD_AFTER: &str = "000003e7000000000000";
+const HALF_LONGWORD_BEHIND: &str = "000003e7000000000000";
 
 const TWO_FINDINGS: &str =
     "000003e700000000000003e90000000100000000000003ec00000001000000010000000200000000000003f2";
@@ -50,7 +50,7 @@ pub const OBJECT_TEXTS: [&str; 16] = [
     REFERENCE_COUNT_MISSING,
     NO_UNIT,
     UNIT_OF_NOTHING,
-    HALF_LONGWORD_AFTER,
+    HALF_LONGWORD_BEHIND,
     TWO_FINDINGS,
     TWO_UNITS,
     COMMON,
@@ -121,7 +121,7 @@ pub const OBJECTS: [ObjectVector; 16] = [
     },
     ObjectVector {
         row: 26,
-        text: HALF_LONGWORD_AFTER,
+        text: HALF_LONGWORD_BEHIND,
         want: ObjectWant::Refused {
             place: 8,
             number: 26,
