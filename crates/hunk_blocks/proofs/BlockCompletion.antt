@@ -2,14 +2,12 @@
 use Rattle.std.proofs.Common.{◌≡◌, ℕ, zero, suc, ◌/◌, ◌^◌, List, [], ◌∷◌, ◌++◌, refl, sym, ap, subst, ◌∙◌, append_assoc, append-nil, arith, None, Option, Some}
 use Rattle.std.specs.List.{AllByRecursion}
 use Rattle.hunk_words.specs.Longs.{IsLong}
-use Rattle.hunk_blocks.specs.declared.ext_shape.ExtShape.{ExtShape}
-use Rattle.hunk_blocks.specs.declared.ext_shape.ExtShape.TheVariants.{Definition, References, Common}
-use Rattle.hunk_blocks.specs.ExtKinds.{ext_shape}
+use Rattle.hunk_grammar.specs.{declared.ext_shape.ExtShape.ExtShape, declared.ext_shape.ExtShape.TheVariants.{Definition, References, Common}, ExtKinds.ext_shape}
 use Rattle.hunk_blocks.specs.Values.{BlockBody, Bss, Reloc, Ext, Symbol, FitsWord, RelocGroup, ExtEntry, SymbolEntry}
+use Rattle.hunk_grammar.specs.{BlockParts.Part, Modes.refuse_inside}
+use Rattle.hunk_blocks.specs.Parts.{body_parts}
 use Rattle.hunk_blocks.specs.BlockSteps.{Counting, ForName, ForCode, ForData, ForBss, Filling, Counted, SizedCode, SizedData, Inside, AtCount, AtSize, InPayload, AtGroup, AtTarget, InOffsets, AtEntry, InName, AtValue, AtExtWord, InExtName, AtExtValue, AtExtSize, AtExtCount, InExtOffsets, BlockNext, Open, Whole, group, entry, external, count_part, part_of, step_inside, fill, filled_body, relocate, name_entry, shaped, name_external, refer, Follows}
-use Rattle.hunk_blocks.specs.{Parts.{Part, body_parts}, Modes.refuse_inside}
-use Rattle.hunk_blocks.proofs.ExtLaws.{end_passes}
-use Rattle.hunk_blocks.proofs.BlockProgress.{read_inside, read_next, NextFits, step_fits, step_reads}
+use Rattle.hunk_blocks.proofs.{ExtLaws.end_passes, BlockProgress.{read_inside, read_next, NextFits, step_fits, step_reads}}
 
 abbrev PartGoes : Part × ℕ → Type 0
 PartGoes p = IsLong p.1 × (refuse_inside p.0 p.1 ≡ None)

@@ -3,14 +3,13 @@ use Rattle.std.proofs.Common.{rules, ◌≡◌, ℕ, ◌*◌, List, [], ◌∷�
 use Rattle.hunk_words.specs.{declared.reason.Reason.Reason, Bits.kind, Longs.{longs, IsLong, IsBytes}}
 use Rattle.hunk_words.specs.declared.reason.Reason.TheVariants as reasons
 use Rattle.hunk_words.proofs.LongLaws.{longs_fit}
-use Rattle.hunk_blocks.specs.{declared.mode.Mode.Mode, Values.{BlockBody, BlockValue, FitsWord, IsBlock}}
-use Rattle.hunk_blocks.specs.Parts.{Part, Part as parts, body_parts, block_parts, block_text}
-use Rattle.hunk_blocks.specs.Modes.{IsOfMode, refuse_inside, refuse_alone_word}
-use Rattle.hunk_blocks.specs.Begins.{BeginsWithBlock, BeginsWithNoBlock}
-use Rattle.hunk_blocks.specs.Faults.{words, Expects, IsFront, refuse_alone, blocks, HasBlockFault}
+use Rattle.hunk_grammar.specs.declared.mode.Mode.{Mode}
+use Rattle.hunk_blocks.specs.Values.{BlockBody, BlockValue, FitsWord, IsBlock}
+use Rattle.hunk_grammar.specs.{BlockParts.{Part, Part as parts}, Modes.{refuse_inside, refuse_alone_word}}
+use Rattle.hunk_blocks.specs.{Parts.{body_parts, block_parts, block_text}, Modes.IsOfMode}
+use Rattle.hunk_blocks.specs.{Begins.{BeginsWithBlock, BeginsWithNoBlock}, Faults.{words, Expects, IsFront, refuse_alone, blocks, HasBlockFault}}
 use Rattle.hunk_blocks.specs.BlockSteps.{Inside, BlockNext, Open, Whole, part_of, step_inside, begin_body, Follows}
-use Rattle.hunk_blocks.proofs.{Admitted.{block}, BlockCompletion.{completes, run_fits}}
-use Rattle.hunk_blocks.proofs.{BlockLongs.block_longs, BlockPrefix.block_prefix}
+use Rattle.hunk_blocks.proofs.{Admitted.block, BlockCompletion.{completes, run_fits}, BlockLongs.block_longs, BlockPrefix.block_prefix}
 use Rattle.hunk_blocks.proofs.BlockProgress.{read_inside, read_next, NextFits, step_fits, step_reads}
 use Rattle.hunk_blocks.proofs.OneBlockFault.{Alone, AtWord, After, alone, block_reads, alone_inside, part_not_word}
 use Rattle.hunk_blocks.proofs.Outcomes.{Keeps, run, front, judged, completed}
@@ -52,15 +51,7 @@ module _ (mode : Mode) where
           }
 
   pub steps_inside : (x : Inside) (word : ℕ) (ws : List ℕ) (w : ℕ) → Inner mode (Open x) word ws → IsLong w → refuse_inside (part_of x) w ≡ None → Inner mode (step_inside x w) word (ws ++ w ∷ [])
-  steps_inside x word ws w h l ok =
-      record {
-        fits = h.fits;
-        ok = h.ok;
-        inside = step_fits word x w h.inside l ok;
-        words_are =
-            ap (λ ys. ys ++ w ∷ []) h.words_are
-            ∙ ap (λ ys. word ∷ ys) (sym (words-append (read_inside x) ((part_of x, w) ∷ [])) ∙ sym (ap words (step_reads word x w h.inside ok)));
-      }
+  steps_inside x word ws w h l ok = search (rules, step_fits, words-append, step_reads)
 
   pub begins_inside : (w : ℕ) → IsLong w → refuse_alone_word mode w ≡ None → Inner mode (begin_body (kind w)) w (w ∷ [])
   begins_inside w l ok = search rules

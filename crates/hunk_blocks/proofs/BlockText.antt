@@ -3,11 +3,10 @@ use Rattle.std.proofs.Common.{◌≡◌, ◌≢◌, ℕ, zero, suc, ◌+◌, ◌
 use Rattle.std.specs.{Prelude.IsTrue, List.{flat_map, AllByRecursion}}
 use Rattle.hunk_words.specs.{declared.block_word.Kind.Kind, Bits.{is_relocation, kind}}
 use Rattle.hunk_words.specs.declared.block_word.Kind.TheVariants as kinds
-use Rattle.hunk_blocks.specs.declared.ext_shape.ExtShape.{ExtShape}
-use Rattle.hunk_blocks.specs.declared.ext_shape.ExtShape.TheVariants.{Definition, References, Common}
-use Rattle.hunk_blocks.specs.ExtKinds.{ext_shape}
+use Rattle.hunk_grammar.specs.{declared.ext_shape.ExtShape.ExtShape, declared.ext_shape.ExtShape.TheVariants.{Definition, References, Common}, ExtKinds.ext_shape}
+use Rattle.hunk_grammar.specs.BlockParts.{Part, Part as parts}
+use Rattle.hunk_blocks.specs.Parts.{each, counted, group_parts, ext_parts, ext_parts_by, symbol_parts, body_parts}
 use Rattle.hunk_blocks.specs.Values.{RelocGroup, ExtEntry, SymbolEntry, FitsShape, BlockBody, Code, Data, Bss, Reloc, Ext, Symbol, Advisory, End, FitsWord, IsGroup, IsExtEntry, IsSymbolEntry, is_unknown}
-use Rattle.hunk_blocks.specs.Parts.{Part, Part as parts, each, counted, group_parts, ext_parts, ext_parts_by, symbol_parts, body_parts}
 use Rattle.hunk_blocks.specs.BlockSteps.{Counting, ForAdvisory, Filling, Counted, SizedCode, SizedData, AtCount, AtGroup, AtEntry, AtValue, AtExtWord, BlockNext, Open, Whole, group, entry, external, count_part, counted_body, step_inside, fill, filled_body, relocate, name_entry, entered, shaped, name_external, refer, listed, begin_body, Follows}
 
 pub Follows-append : (a b c : BlockNext) (ps qs : List (Part × ℕ)) → Follows a ps b → Follows b qs c → Follows a (ps ++ qs) c

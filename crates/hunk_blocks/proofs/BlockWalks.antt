@@ -4,33 +4,33 @@ use Rattle.std.proofs.lemmas.List.{length-take-le, take-append-drop, take_all}
 use Rattle.hunk_words.specs.{declared.reason.Reason.Reason, Bits.kind, Longs.{longs, IsBytes}}
 use Rattle.hunk_words.specs.declared.reason.Reason.TheVariants as reasons
 use Rattle.hunk_words.proofs.LongLaws.{longs_fit}
-use Rattle.hunk_blocks.specs.{declared.mode.Mode.Mode, Parts.{Part, Part as parts, block_text}}
+use Rattle.hunk_grammar.specs.{declared.mode.Mode.Mode, BlockParts.{Part, Part as parts}}
+use Rattle.hunk_blocks.specs.Parts.{block_text}
 use Rattle.hunk_blocks.specs.{Faults.{blocks, refuse_alone, HasBlockFault}, BlockSteps.{Open, Whole, part_of}}
-use Rattle.hunk_blocks.specs.{declared.phase.Phase.Phase, PhaseSteps.{part_at, skipped, skip_all}, Begins.HasBlockText}
-use Rattle.hunk_blocks.specs.ReaderPhase.{phase_of, next_phase}
-use Rattle.hunk_blocks.proofs.{Admitted.block, BlockOutcome.{SoFar, keeps, block_is, goes_on_none}}
-use Rattle.hunk_blocks.proofs.Decoding.{front_bytes}
+use Rattle.hunk_grammar.specs.{declared.phase.Phase.Phase, PhaseSteps.{part_at, longest_run_of, pass_longest_run_of}}
+use Rattle.hunk_blocks.specs.{Begins.HasBlockText, ReaderPhase.{phase_of, next_phase}}
+use Rattle.hunk_blocks.proofs.{Admitted.block, BlockOutcome.{SoFar, keeps, block_is, goes_on_none}, Decoding.front_bytes}
 use Rattle.hunk_blocks.proofs.OneBlockFault.{Alone, AtWord, After, alone, part_not_word, alone_inside}
 use Rattle.hunk_blocks.proofs.{Outcomes.front, BlockPhases.{phase_no_word, step_phase, begin_phase, refuse_phase}}
 use Rattle.hunk_blocks.proofs.KeptWalks.{HasRuns, StandsAt, Walks, starts, stands, word_refused, word_passes}
-use Rattle.hunk_blocks.specs.declared.phase.Phase.TheVariants as phases
-use Rattle.hunk_blocks.specs.PhaseSteps as scan
+use Rattle.hunk_grammar.specs.declared.phase.Phase.TheVariants as phases
+use Rattle.hunk_grammar.specs.PhaseSteps as scan
 
 abbrev pub position_of : Alone → Option Phase
 position_of AtWord = Some phases.BlockWord
 position_of (After n) = next_phase n
 
 module _ (mode : Mode) where
-  pub runs : HasRuns (blocks mode) alone (keeps mode) position_of skipped skip_all
+  pub runs : HasRuns (blocks mode) alone (keeps mode) position_of longest_run_of pass_longest_run_of
   runs = search rules
 
   abbrev pub BlockWalks : List ℕ → ℕ → Option Phase → Type 0
-  BlockWalks bytes at p = Walks (blocks mode) alone (keeps mode) position_of skipped skip_all (longs bytes) at p
+  BlockWalks bytes at p = Walks (blocks mode) alone (keeps mode) position_of longest_run_of pass_longest_run_of (longs bytes) at p
 
 module _ (mode : Mode) (bytes : List ℕ) (fit : IsBytes bytes) where
   pub start : BlockWalks mode bytes 0 (Some phases.BlockWord)
   unfolding keeps
-  start = starts (blocks mode) alone (keeps mode) position_of skipped skip_all (longs bytes)
+  start = starts (blocks mode) alone (keeps mode) position_of longest_run_of pass_longest_run_of (longs bytes)
 
   -- the role of the next longword, and where it leads
   pub record Next (s : Alone) (phase : Phase) (w : ℕ) : Type 0 where
@@ -55,8 +55,8 @@ module _ (mode : Mode) (bytes : List ℕ) (fit : IsBytes bytes) where
   next w (After (Whole b)) phase e = absurd cc
 
   module _ (at : ℕ) (phase : Phase) (h : BlockWalks mode bytes at (Some phase)) (l : at < length (longs bytes)) (w : ℕ) (is : w ≡ get_or (longs bytes) at 0) where
-    s : StandsAt (blocks mode) alone (keeps mode) position_of skipped skip_all (longs bytes) at (Some phase)
-    s = stands (blocks mode) alone (keeps mode) position_of skipped skip_all (longs bytes) at (Some phase) h (omega (arith, l))
+    s : StandsAt (blocks mode) alone (keeps mode) position_of longest_run_of pass_longest_run_of (longs bytes) at (Some phase)
+    s = stands (blocks mode) alone (keeps mode) position_of longest_run_of pass_longest_run_of (longs bytes) at (Some phase) h (omega (arith, l))
 
     n : Next s.state phase (get_or (longs bytes) at 0)
     n = next (get_or (longs bytes) at 0) s.state phase s.position_is
@@ -64,19 +64,19 @@ module _ (mode : Mode) (bytes : List ℕ) (fit : IsBytes bytes) where
     -- The longword is refused.
     pub refused : (reason : Reason) → refuse_alone mode (part_at phase) w ≡ Some reason → HasBlockFault mode bytes (4 * at) reason
     refused reason e =
-        inl (word_refused (blocks mode) alone (keeps mode) position_of skipped skip_all (longs bytes) (longs_fit bytes fit) at (Some phase) s l n.role n.expects reason
+        inl (word_refused (blocks mode) alone (keeps mode) position_of longest_run_of pass_longest_run_of (longs bytes) (longs_fit bytes fit) at (Some phase) s l n.role n.expects reason
         (n.refuse_is ∙ ap (refuse_alone mode (part_at phase)) (sym is) ∙ e))
 
     -- The walk goes on after it.
-    pub passes : refuse_alone mode (part_at phase) w ≡ None → BlockWalks mode bytes (at + (1 + skipped (scan.step phase w))) (skip_all (scan.step phase w))
+    pub passes : refuse_alone mode (part_at phase) w ≡ None → BlockWalks mode bytes (at + (1 + longest_run_of (scan.step phase w))) (pass_longest_run_of (scan.step phase w))
     passes e =
-        word_passes (blocks mode) alone (keeps mode) position_of skipped skip_all (longs bytes) (longs_fit bytes fit) at (Some phase) s l n.role n.expects (runs mode)
+        word_passes (blocks mode) alone (keeps mode) position_of longest_run_of pass_longest_run_of (longs bytes) (longs_fit bytes fit) at (Some phase) s l n.role n.expects (runs mode)
         (n.refuse_is ∙ ap (refuse_alone mode (part_at phase)) (sym is) ∙ e) (scan.step phase w) (n.step_is ∙ ap (scan.step phase) (sym is))
 
   -- A block is whole.
   pub ends : (at : ℕ) → BlockWalks mode bytes at None → at ≤ length (longs bytes) → HasBlockText mode bytes (4 * at)
   unfolding keeps
-  ends at h l = let s = stands (blocks mode) alone (keeps mode) position_of skipped skip_all (longs bytes) at None h l in go s.state s.so_far s.position_is
+  ends at h l = let s = stands (blocks mode) alone (keeps mode) position_of longest_run_of pass_longest_run_of (longs bytes) at None h l in go s.state s.so_far s.position_is
     where
       go : (t : Alone) → SoFar mode t (take at (longs bytes)) → position_of t ≡ None → HasBlockText mode bytes (4 * at)
       go AtWord f e = absurd cc
@@ -110,5 +110,5 @@ module _ (mode : Mode) (bytes : List ℕ) (fit : IsBytes bytes) where
       let o = open_role s.state (λ e. absurd (omega (arith, s.whole, none (sym s.position_is ∙ e)))) in
       truncated s.state o.0 (subst (SoFar mode s.state) (take_all at (longs bytes) l) s.so_far) o.1
   ends_early at p (inr s) l none =
-      let o = open_role s.state (λ e. absurd (omega (arith, s.inside, ap skipped e))) in
+      let o = open_role s.state (λ e. absurd (omega (arith, s.inside, ap longest_run_of e))) in
       truncated s.state o.0 s.so_far o.1

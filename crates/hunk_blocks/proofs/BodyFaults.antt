@@ -1,9 +1,8 @@
 -- A block that may stand anywhere.
-use Rattle.std.proofs.Common.{[], refl, arith}
+use Rattle.std.proofs.Common.{rules, [], refl, arith}
 use Rattle.hunk_words.specs.Bits.{kind}
-use Rattle.hunk_blocks.specs.{declared.mode.Mode.Mode, Values.{BlockValue, End, IsBlock}, Parts.Part as parts}
-use Rattle.hunk_blocks.specs.{Modes.IsOfMode, Faults.{Expects, blocks}}
-use Rattle.hunk_blocks.specs.declared.mode.Mode.TheVariants as modes
+use Rattle.hunk_grammar.specs.{declared.mode.Mode.Mode, BlockParts.Part as parts}
+use Rattle.hunk_blocks.specs.{Values.{BlockValue, End, IsBlock}, Modes.IsOfMode, Faults.{Expects, blocks}}
 use Rattle.hunk_blocks.proofs.Admitted.{block}
 
 -- END is a block of both modes
@@ -15,8 +14,7 @@ unfolding kind
 end_is = record { word = omega arith; bits = refl; body = refl }
 
 end_of_mode : (mode : Mode) → IsOfMode mode end_block
-end_of_mode modes.Load = tt
-end_of_mode modes.Object = tt
+end_of_mode mode = search rules
 
 pub expects_word : (mode : Mode) → Expects (blocks mode) [] parts.BlockWord
 expects_word mode = record { value = end_block; is = (end_is, end_of_mode mode); done = []; word = 0x3F2; more = []; labels = refl; begins = refl }

@@ -1,14 +1,12 @@
 -- What stands after a block word, by the kind of the block.
-use Rattle.std.proofs.Common.{◌≡◌, ℕ, ◌+◌, Bool, true, false, ◌^◌, List, ◌++◌, sym, ap, subst, ◌∙◌, arith}
+use Rattle.std.proofs.Common.{rules, ◌≡◌, ℕ, ◌+◌, Bool, true, false, ◌^◌, List, ◌++◌, sym, ap, subst, ◌∙◌, arith}
 use Rattle.std.specs.Prelude.{IsTrue, ⊤}
 use Rattle.hunk_words.specs.{declared.block_word.Kind.Kind, Bits.{is_relocation, kind}}
-use Rattle.hunk_blocks.specs.{declared.body_view.BodyView.BodyView, Begins.{EndsItemOf, LacksItemAt}}
-use Rattle.hunk_blocks.specs.{BodyViews.{EndsListItemAt, HasListAt, viewed}, Placed.Placed}
-use Rattle.hunk_blocks.specs.Values.{BlockBody, BlockValue, Name, Code, Data, Bss, Reloc, Ext, Symbol, Advisory, End, IsPayload, IsSized, IsGroup, IsExtEntry, IsSymbolEntry, FitsWord}
+use Rattle.hunk_blocks.specs.{declared.body_view.BodyView.BodyView, Begins.LacksItemAt, BodyViews.{EndsListItemAt, HasListAt, viewed}, Placed.Placed}
 use Rattle.hunk_blocks.specs.Parts.{counted_text, sized_text, group_text, ext_text, symbol_text, body_text, text_of}
 use Rattle.hunk_blocks.specs.BlockSteps.{ForBss, AtCount, AtSize, AtGroup, AtExtWord, AtEntry, BlockNext, Open, begin_body}
 use Rattle.hunk_blocks.specs.Reading.{BeginsWithSome, BeginsWithList}
-use Rattle.hunk_blocks.specs.declared.body_view.BodyView.TheVariants as bodies
+use Rattle.hunk_blocks.specs.Values.{BlockBody, BlockValue, Name, Code, Data, Bss, Reloc, Ext, Symbol, Advisory, End, IsPayload, IsSized, IsGroup, IsExtEntry, IsSymbolEntry, FitsWord}
 use Rattle.hunk_blocks.proofs.{BlockText.{begin_relocation, begin_unknown}, PartTexts.body_text_is}
 
 -- by where a block of its kind begins
@@ -43,11 +41,7 @@ module _ (word : ℕ) (rest : List ℕ) (b : BeginsWithSome (FitsWord word) body
   body_stands k same = subst (λ j. StandsAfter (begin_body j) rest) (sym same) (stands b.value b.is (b.begins ∙ ap (λ l. l ++ b.more) (body_text_is b.value)))
 
   pub counted_stands : (k : Kind) → k ≡ kind word → IsTrue (is_counted (begin_body k)) → BeginsWithSome (IsPayload (2 ^ 32)) counted_text rest
-  counted_stands k same counted = at (begin_body k) (body_stands k same) counted
-    where
-      at : (n : BlockNext) → StandsAfter n rest → IsTrue (is_counted n) → BeginsWithSome (IsPayload (2 ^ 32)) counted_text rest
-      at (Open (AtCount c)) s h = s
-      at _ s h = absurd cc
+  counted_stands k same counted = search (rules, body_text_is)
 
   pub groups_stand : (k : Kind) → k ≡ kind word → IsTrue (is_relocation k) → BeginsWithList IsGroup group_text rest
   groups_stand k same h = subst (λ (n : BlockNext). StandsAfter n rest) (begin_relocation k h) (body_stands k same)
@@ -56,7 +50,4 @@ module _ (word : ℕ) (rest : List ℕ) (b : BeginsWithSome (FitsWord word) body
 
 -- an item of the list is one of the block
 pub lacks_item : (b : Placed BlockValue) (body : BodyView) (at : ℕ) → viewed body ≡ b.value.body → HasListAt (b.place + 4) body → EndsListItemAt body at → LacksItemAt b at
-lacks_item b (bodies.Reloc groups) at same begins e = record { number = e.number; ends = subst (λ (v : BlockBody). EndsItemOf v e.number) same e.ends; place = omega (arith, e.place, begins) }
-lacks_item b (bodies.Ext entries) at same begins e = record { number = e.number; ends = subst (λ (v : BlockBody). EndsItemOf v e.number) same e.ends; place = omega (arith, e.place, begins) }
-lacks_item b (bodies.Symbol symbols) at same begins e = record { number = e.number; ends = subst (λ (v : BlockBody). EndsItemOf v e.number) same e.ends; place = omega (arith, e.place, begins) }
-lacks_item b _ at same begins e = absurd e
+lacks_item b body at same begins e = search rules

@@ -4,12 +4,11 @@ use Rattle.std.proofs.Math.Seq.{take-append_seam}
 use Rattle.std.proofs.lemmas.List.{length-take, take-append-drop}
 use Rattle.hunk_words.specs.Longs.{longs, bytes_of, IsBytes}
 use Rattle.hunk_words.proofs.LongLaws.{bytes_of-append, length-bytes_of, longs-bytes_of, spelled}
-use Rattle.hunk_blocks.specs.{declared.mode.Mode.Mode, Values.{BlockBody, BlockValue, FitsWord, IsBlock}}
-use Rattle.hunk_blocks.specs.{Parts.{block_text, body_text}, Modes.IsOfMode}
+use Rattle.hunk_grammar.specs.declared.mode.Mode.{Mode}
+use Rattle.hunk_blocks.specs.{Values.{BlockBody, BlockValue, FitsWord, IsBlock}, Parts.{block_text, body_text}, Modes.IsOfMode}
 use Rattle.hunk_blocks.specs.{Begins.{BeginsWithNoBlock, IsFrontBlock, BeginsWithSomeBlock}, Cuts.{Cut, body_cut}}
 use Rattle.hunk_blocks.specs.Reading.{Unread, Reads, ReadsValue, BeginsWithSome}
-use Rattle.hunk_blocks.proofs.{Admitted.block, BlockLongs.block_longs, BlockPrefix.block_same}
-use Rattle.hunk_blocks.proofs.CutLaws.{cut, body_cut_is}
+use Rattle.hunk_blocks.proofs.{Admitted.block, BlockLongs.block_longs, BlockPrefix.block_same, CutLaws.{cut, body_cut_is}}
 
 -- the first longwords are the first bytes
 pub front_bytes : (bytes words rest : List ℕ) → IsBytes bytes → longs bytes ≡ words ++ rest → (take (4 * length words) bytes ≡ bytes_of words) × (4 * length words ≤ length bytes)
@@ -29,7 +28,7 @@ front_longs bytes b n h = ap longs (sym (take-append-drop n bytes) ∙ ap (λ l.
 
 -- as many bytes as its text has
 pub front_size : (bytes : List ℕ) (b : BlockValue) (n : ℕ) → IsFrontBlock bytes b n → n ≡ length (bytes_of (block_text b))
-front_size bytes b n h = omega (arith, ap length h.text, length-take n bytes, h.whole)
+front_size bytes b n h = omega (arith, ap length h.text, length-take n bytes)
 
 -- there is one
 pub front_same : (bytes : List ℕ) (a b : BlockValue) (n m : ℕ) → IsFrontBlock bytes a n → IsFrontBlock bytes b m → a ≡ b

@@ -1,5 +1,5 @@
 -- Where longwords alone determine their roles, the first that is refused is one.
-use Rattle.std.proofs.Common.{rules, ◌≡◌, ℕ, ◌+◌, ◌*◌, List, [], ◌∷◌, ◌++◌, length, refl, sym, ap, subst, ◌∙◌, arith, Option, Some, None, ◌⊎◌, inl, inr}
+use Rattle.std.proofs.Common.{rules, ◌≡◌, ℕ, ◌+◌, ◌*◌, List, [], ◌∷◌, ◌++◌, length, refl, sym, ap, subst, ◌∙◌, Option, Some, None, ◌⊎◌, inl, inr}
 use Rattle.std.specs.List.{AllByRecursion}
 use Rattle.hunk_words.specs.declared.reason.Reason.{Reason}
 use Rattle.hunk_words.specs.declared.reason.Reason.TheVariants as reasons
@@ -56,9 +56,7 @@ module _ {State Role : Type 0} (m : Machine State Role) (refuse : Role → ℕ �
   unfolding first_refused
   scan_refused s t [] role v w more after at reason run ok bad = search rules
   scan_refused s t (d ∷ done) role v w more after at reason run ok bad =
-      passed d.0 d.1 at (m.expects s) (first_refused (m.step s d.1) (at + 4) (words done ++ w ∷ after)) run.0 ok.0
-      ∙ scan_refused (m.step s d.1) t done role v w more after (at + 4) reason run.1 ok.1 bad
-      ∙ ap (λ (n : ℕ). Some (n, reason)) (omega arith)
+      search (rules, scan_refused (m.step s d.1) t done role v w more after (at + 4) reason run.1 ok.1 bad)
 
   -- Nothing of what a text begins with is refused.
   scan_front : (s t : State) (ls : List (Role × ℕ)) (ws more : List ℕ) (at : ℕ) → Leads m s ls t → Passes ls → words ls ≡ ws ++ more → first_refused s at ws ≡ None
@@ -86,12 +84,7 @@ pub record Reads {Value State Role : Type 0} (g : Grammar Value Role) (m : Machi
 
 module _ {Value State Role : Type 0} (g : Grammar Value Role) (m : Machine State Role) (r : Reads g m) where
   refused_is : (ws : List ℕ) (at : ℕ) (reason : Reason) → HasRefusal g ws at reason → first_refused m g.refuse m.start 0 ws ≡ Some (at, reason)
-  refused_is ws at reason h =
-      let e = h.expects in
-      ap (first_refused m g.refuse m.start 0) (h.split ∙ ap (λ xs. xs ++ h.word ∷ h.after) (sym e.begins))
-      ∙ scan_refused m g.refuse m.start (r.end e.value) e.done h.role e.word h.word e.more h.after 0 reason
-      (subst (λ ls. Leads m m.start ls (r.end e.value)) e.labels (r.leads e.value e.is)) (subst (Passes m g.refuse) e.labels (r.passes e.value e.is)) h.refuses
-      ∙ ap (λ (n : ℕ). Some (n, reason)) (omega (arith, h.place, ap length e.begins))
+  refused_is ws at reason h = search (rules, scan_refused)
 
   -- One longword is the first that is refused.
   pub one_refusal : (ws : List ℕ) (at at2 : ℕ) (reason reason2 : Reason) → HasRefusal g ws at reason → HasRefusal g ws at2 reason2 → (at ≡ at2) × (reason ≡ reason2)

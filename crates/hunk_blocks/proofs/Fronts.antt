@@ -1,5 +1,5 @@
 -- Longwords in front of a list of bytes.
-use Rattle.std.proofs.Common.{◌≡◌, ℕ, ◌+◌, ◌-◌, ◌*◌, ◌<◌, List, [], ◌∷◌, ◌++◌, length, take, drop, slice_index, slice_range, refl, sym, ap, ap₂, ◌∙◌, arith}
+use Rattle.std.proofs.Common.{rules, ◌≡◌, ℕ, ◌+◌, ◌-◌, ◌*◌, ◌<◌, List, [], ◌∷◌, ◌++◌, length, take, drop, slice_index, slice_range, refl, sym, ap, ap₂, ◌∙◌, arith}
 use Rattle.std.specs.List.{AllByRecursion}
 use Rattle.std.proofs.lemmas.List.{length-drop, take_all, take-append-drop, drop-drop}
 use Rattle.hunk_words.specs.Longs.{longs}
@@ -15,12 +15,7 @@ All-right P (x ∷ xs) ys h = All-right P xs ys h.1
 
 -- the first of the longwords from a place on
 pub longs-first : (bytes : List ℕ) (at word : ℕ) → 0 < length (longs (drop at bytes)) → word ≡ slice_index (longs (take (length bytes - at) (drop at bytes))) 0 → longs (drop at bytes) ≡ word ∷ drop 1 (longs (drop at bytes))
-longs-first bytes at word some e =
-    first (longs (drop at bytes)) some (e ∙ ap (λ xs. slice_index (longs xs) 0) (take_all (length bytes - at) (drop at bytes) (omega (arith, length-drop at bytes))))
-  where
-    first : (xs : List ℕ) → 0 < length xs → word ≡ slice_index xs 0 → xs ≡ word ∷ drop 1 xs
-    first [] h same = absurd (omega (arith, h))
-    first (x ∷ xs) h same = ap (λ (w : ℕ). w ∷ xs) (sym same)
+longs-first bytes at word some e = search (rules, take_all, length-drop)
 
 -- the longwords after a number of them
 pub longs-after : (bytes : List ℕ) (at count : ℕ) → longs (drop (at + 4 * count) bytes) ≡ drop count (longs (drop at bytes))

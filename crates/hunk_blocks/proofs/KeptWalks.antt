@@ -1,5 +1,5 @@
 -- A walk keeps a state of a machine in which the longwords up to it were read, and passes over runs at once.
-use Rattle.std.proofs.Common.{◌≡◌, ℕ, zero, suc, ◌+◌, ◌*◌, ◌<◌, ◌≤◌, List, [], ◌∷◌, ◌++◌, length, get_or, take, drop, refl, sym, ap, subst, ◌∙◌, append_assoc, append-nil, arith, Some, None, ◌⊎◌, inl, inr}
+use Rattle.std.proofs.Common.{rules, ◌≡◌, ℕ, zero, suc, ◌+◌, ◌*◌, ◌<◌, ◌≤◌, List, [], ◌∷◌, ◌++◌, length, get_or, take, drop, refl, sym, ap, subst, ◌∙◌, append_assoc, append-nil, arith, Some, None, ◌⊎◌, inl, inr}
 use Rattle.std.proofs.{Math.Seq.take-add, lemmas.{List.Elements.All-from_recursion, Bool.cases_lt}}
 use Rattle.std.proofs.lemmas.List.{length-take-le, length-drop, take_more, drop_more, take-append-drop}
 use Rattle.hunk_words.specs.{declared.reason.Reason.Reason, Longs.{IsLong, AreLongs}}
@@ -27,22 +27,22 @@ module _ {Value State Role Pos : Type 0} (g : Grammar Value Role) (m : Machine S
     pub position_is : pos state ≡ p
     pub whole : at ≤ length ws
 
-  -- All longwords are passed over, and the run goes on.
-  pub record HasPassed (ws : List ℕ) (at : ℕ) : Type 0 where
+  -- All longwords are passed over, and the run, after which this position comes, goes on.
+  pub record HasPassed (ws : List ℕ) (at : ℕ) (p : Pos) : Type 0 where
     pub state : State
     pub so_far : k.SoFar state ws
+    pub position_is : after (pos state) ≡ p
     pub inside : 0 < run (pos state)
     pub beyond : length ws < at
 
   abbrev pub Walks : List ℕ → ℕ → Pos → Type 0
-  Walks ws at p = StandsAt ws at p ⊎ HasPassed ws at
+  Walks ws at p = StandsAt ws at p ⊎ HasPassed ws at p
 
   pub starts : (ws : List ℕ) → Walks ws 0 (pos m.start)
   starts ws = inl (record { state = m.start; so_far = k.begins; position_is = refl; whole = omega arith })
 
   pub stands : (ws : List ℕ) (at : ℕ) (p : Pos) → Walks ws at p → at ≤ length ws → StandsAt ws at p
-  stands ws at p (inl s) l = s
-  stands ws at p (inr h) l = absurd (omega (arith, h.beyond, l))
+  stands ws at p h l = search rules
 
   -- a part of a run
   record Passed (s : State) (before ws : List ℕ) : Type 0 where
@@ -106,13 +106,14 @@ module _ {Value State Role Pos : Type 0} (g : Grammar Value Role) (m : Machine S
       unfolding next
       run_is = ap run e
 
-      all_passed : length ws < at + (1 + run q) → HasPassed ws (at + (1 + run q))
+      all_passed : length ws < at + (1 + run q) → HasPassed ws (at + (1 + run q)) (after q)
       unfolding rest next
       all_passed beyond =
           let n = passes_run runs next (take (at + 1) ws) rest (word_reads ok) rest_fits (omega (arith, length-drop (at + 1) ws, l, beyond, run_is)) in
           record {
             state = n.state;
             so_far = subst (k.SoFar n.state) (take-append-drop (at + 1) ws) n.so_far;
+            position_is = n.after_is ∙ ap after e;
             inside = omega (arith, n.run_is, run_is, length-drop (at + 1) ws, l, beyond);
             beyond = beyond;
           }

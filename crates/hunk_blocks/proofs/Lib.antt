@@ -20,10 +20,10 @@ pub mod ListReading
 pub mod Lists
 pub mod OneBlockFault
 pub mod Outcomes
-pub mod Whole
 pub mod TextBytes
 pub mod ListWriting
 pub mod BlockPhases
 pub mod BlockWalks
 pub mod KeptWalks
 pub mod BlockWhole
+pub mod BytesOfLongs

@@ -1,10 +1,9 @@
 -- Reading the groups or entries of a block one after another, up to the zero that ends them.
-use Rattle.std.proofs.Common.{◌≡◌, ◌≢◌, ℕ, ◌+◌, ◌-◌, ◌*◌, ◌<◌, List, [], ◌∷◌, ◌++◌, length, map, refl, sym, ap, ap₂, subst, ◌∙◌, append_assoc, length-append, Option, Some, None, arith}
-use Rattle.std.specs.{List.flat_map, Iterator.{MakesProgress, item_count}, Prelude.{Result, Ok, Err, IfErr, IsErrAnd}}
+use Rattle.std.proofs.Common.{rules, ◌≡◌, ◌≢◌, ℕ, ◌+◌, ◌-◌, ◌*◌, ◌<◌, List, [], ◌∷◌, ◌++◌, length, map, refl, sym, ap, ap₂, subst, ◌∙◌, append_assoc, length-append, Option, Some, None, arith}
+use Rattle.std.specs.{List.flat_map, Iterator.{MakesProgress, item_count}, Prelude.{Result, IfErr, IsErrAnd}}
 use Rattle.hunk_blocks.specs.{Cuts.{Cut, cut_map, list_cut}, Placed.{Placed, GivesFirst, EndsItemAt}}
 use Rattle.hunk_blocks.specs.Reading.{Unread, Reads, ReadsValue, BeginsWithSome, BeginsWithList}
-use Rattle.hunk_blocks.proofs.CutLaws.{AreCut, GoesOn, cut, list_cut_ends, list_goes_on}
-use Rattle.hunk_blocks.proofs.Lists.{flat_map-more, map-more}
+use Rattle.hunk_blocks.proofs.{CutLaws.{AreCut, GoesOn, cut, list_cut_ends, list_goes_on}, Lists.{flat_map-more, map-more}}
 
 module _ {A : Type 0} {Is : A → Type 0} {text : A → List ℕ} {one : List ℕ → Cut A} (are : AreCut Is text one) where
   -- ---- one item
@@ -77,13 +76,7 @@ module _ {T A : Type 0} (view : T → A) (text : A → List ℕ) (all : Placed (
     pub place : left.place ≡ all.place + 4 * length (flat_map text (map view kept))
 
   pub item_kept : (old new : Placed (List A)) (kept : List T) (found : Option T) (item : T) → Keeps old kept → found ≡ Some item → GivesFirst view text old found new → Keeps new (kept ++ item ∷ [])
-  item_kept old new kept found item k same gives =
-      let g : (old.value ≡ view item ∷ new.value) × (new.place ≡ old.place + 4 * length (text (view item))) = subst (λ f. GivesFirst view text old f new) same gives in
-      let more : map view (kept ++ item ∷ []) ≡ map view kept ++ view item ∷ [] = map-more view kept item in
-      record {
-        split = k.split ∙ ap (λ l. map view kept ++ l) g.0 ∙ sym (append_assoc (map view kept) (view item ∷ []) new.value) ∙ ap (λ l. l ++ new.value) (sym more);
-        place = omega (arith, k.place, g.1, ap (λ l. length (flat_map text l)) more, ap length (flat_map-more text (map view kept) (view item)), length-append (flat_map text (map view kept)) (text (view item)));
-      }
+  item_kept old new kept found item k same gives = search (rules, map-more, append_assoc, flat_map-more, length-append)
 
   -- The item that was taken last ends with the longword before the place.
   pub item_ends : (new : Placed (List A)) (kept : List T) (item : T) (at : ℕ) → Keeps new (kept ++ item ∷ []) → 0 < length (text (view item)) → at + 4 ≡ new.place → EndsItemAt text all at
@@ -106,9 +99,7 @@ module _ {T A : Type 0} (view : T → A) (text : A → List ℕ) (all : Placed (
 
 -- what holds of any refusal
 pub if_err : {T E : Type 0} (r : Result T E) (P : E → Type 0) → ((e : E) → P e) → IfErr r P
-if_err (Ok x) P h = tt
-if_err (Err e) P h = h e
+if_err r P e = search rules
 
 pub if_err_and : {T E : Type 0} (r : Result T E) (Q P : E → Type 0) → IsErrAnd r Q → ((e : E) → Q e → P e) → IfErr r P
-if_err_and (Ok x) Q P q h = tt
-if_err_and (Err e) Q P q h = h e q
+if_err_and r Q P e h = search rules

@@ -1,5 +1,5 @@
 -- Printing values one after another.
-use Rattle.std.proofs.Common.{◌≡◌, ℕ, zero, suc, ◌<◌, ◌≤◌, List, [], ◌∷◌, ◌++◌, length, map, get_or, sym, ap, subst, ◌∙◌, append_assoc, arith}
+use Rattle.std.proofs.Common.{rules, ◌≡◌, ℕ, zero, suc, ◌<◌, ◌≤◌, List, [], ◌∷◌, ◌++◌, length, map, get_or, sym, ap, subst, ◌∙◌, append_assoc, arith}
 use Rattle.std.specs.List.{flat_map, AllByRecursion}
 use Rattle.std.proofs.lemmas.List.Folds.{flat_map-map}
 use Rattle.hunk_words.specs.Longs.{bytes_of}
@@ -13,8 +13,7 @@ bytes_of-flat_map text (x ∷ xs) = ap (λ l. bytes_of (text x) ++ l) (bytes_of-
 -- the longwords of all of them
 pub texts_shown : {A : Type 0} (text : A → List ℕ) (xs : List A) (i : ℕ) (now old : List ℕ) →
     length xs ≤ i → ShownUpTo (λ x. bytes_of (text x)) xs i now old → now ≡ old ++ bytes_of (flat_map text xs)
-texts_shown text xs i now old end shown =
-    shown_all (λ x. bytes_of (text x)) xs i now old end shown ∙ ap (λ l. old ++ l) (bytes_of-flat_map text xs)
+texts_shown text xs i now old end shown = search (rules, shown_all, bytes_of-flat_map)
 
 -- and the zero that ends them
 pub list_shown : {A B : Type 0} (f : A → B) (text : B → List ℕ) (xs : List A) (i : ℕ) (now new old : List ℕ) →

@@ -1,12 +1,11 @@
 -- Bytes have one fault as a block, and none where they begin with one.
-use Rattle.std.proofs.Common.{◌≡◌, ◌≢◌, ℕ, List, [], ◌∷◌, ◌++◌, refl, ap, ◌∙◌, Option, Some, None, inl, inr}
+use Rattle.std.proofs.Common.{rules, ◌≡◌, ◌≢◌, ℕ, List, [], ◌∷◌, ◌++◌, refl, ap, ◌∙◌, Option, Some, None, inl, inr}
 use Rattle.hunk_words.specs.{declared.reason.Reason.Reason, Bits.kind, Longs.longs}
 use Rattle.hunk_words.proofs.LongLaws.{longs-bytes_of}
-use Rattle.hunk_blocks.specs.{declared.mode.Mode.Mode, Values.{BlockValue, IsBlock}}
-use Rattle.hunk_blocks.specs.{Parts.{Part, Part as parts, body_parts, block_parts}, Modes.refuse_inside}
-use Rattle.hunk_blocks.specs.Begins.{BeginsWithNoBlock}
-use Rattle.hunk_blocks.specs.Faults.{Expects, HasBlockFault, HasRefusal, IsFront, IsTruncatedBlock, blocks, refuse_alone}
-use Rattle.hunk_blocks.specs.BlockSteps.{ForName, Inside, AtCount, BlockNext, Open, Whole, part_of, step_inside, begin_body, Follows}
+use Rattle.hunk_grammar.specs.{declared.mode.Mode.Mode, BlockParts.{Part, Part as parts}, Modes.refuse_inside}
+use Rattle.hunk_blocks.specs.{Values.{BlockValue, IsBlock}, Parts.{body_parts, block_parts}}
+use Rattle.hunk_blocks.specs.{Begins.BeginsWithNoBlock, Faults.{Expects, HasBlockFault, HasRefusal, IsFront, IsTruncatedBlock, blocks, refuse_alone}}
+use Rattle.hunk_blocks.specs.BlockSteps.{Inside, BlockNext, Open, Whole, part_of, step_inside, begin_body, Follows}
 use Rattle.hunk_blocks.proofs.{Admitted.word_passes, BlockLongs.block_longs, BlockText.body_follows}
 use Rattle.hunk_blocks.proofs.FaultScan.{Machine, Leads, Passes, Reads, none_goes_on, one_fault as one_of, front_passes, whole_passes}
 pub use Rattle.hunk_blocks.proofs.BlockLongs.{PartsPass, body_passes}
@@ -37,12 +36,10 @@ follows_leads (Whole b) end (p ∷ ps) h = absurd h
 
 -- no longword after the block word is one
 pub part_not_word : (x : Inside) → part_of x ≢ parts.BlockWord
-part_not_word (AtCount ForName) e = cc
-part_not_word _ e = cc
+part_not_word x e = search rules
 
 pub alone_inside : (mode : Mode) (part : Part) (w : ℕ) → part ≢ parts.BlockWord → refuse_alone mode part w ≡ refuse_inside part w
-alone_inside mode parts.BlockWord w ne = absurd (ne refl)
-alone_inside mode _ w ne = refl
+alone_inside mode part w ne = search rules
 
 alone_passes : (mode : Mode) (ps : List (Part × ℕ)) → PartsPass ps → Passes alone (refuse_alone mode) ps
 alone_passes mode [] h = tt

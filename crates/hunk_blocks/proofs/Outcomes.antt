@@ -1,5 +1,5 @@
 -- Longwords are read up to the end of a text, to the first that is refused, or to their end.
-use Rattle.std.proofs.Common.{◌≡◌, ℕ, ◌*◌, List, [], ◌∷◌, ◌++◌, length, refl, sym, ap, subst, ◌∙◌, append_assoc, append-nil, Option, Some, None, ◌⊎◌, inl, inr}
+use Rattle.std.proofs.Common.{rules, ◌≡◌, ℕ, ◌*◌, List, [], ◌∷◌, ◌++◌, length, refl, sym, ap, subst, ◌∙◌, append_assoc, append-nil, Option, Some, None, ◌⊎◌, inl, inr}
 use Rattle.hunk_words.specs.{declared.reason.Reason.Reason, Longs.{IsLong, AreLongs}}
 use Rattle.hunk_blocks.specs.Faults.{Grammar, words, Expects, HasRefusal, IsFront}
 use Rattle.hunk_blocks.proofs.{FaultLaws.words-append, FaultScan.{Machine, Leads, Passes, Reads}}
@@ -30,9 +30,7 @@ module _ {State Role : Type 0} (m : Machine State Role) where
 module _ {Value State Role : Type 0} (g : Grammar Value Role) (m : Machine State Role) (r : Reads g m) where
   -- What a text has after these longwords is what the machine expects there.
   pub expected_role : (before : List ℕ) (role : Role) → Expects g before role → m.expects (run m m.start before) ≡ Some role
-  expected_role before role e =
-      let c = cut m m.start (r.end e.value) e.done ((role, e.word) ∷ e.more) (subst (λ ls. Leads m m.start ls (r.end e.value)) e.labels (r.leads e.value e.is)) in
-      ap m.expects (ap (run m m.start) (sym e.begins) ∙ leads_run m m.start c.0 e.done c.1) ∙ c.2.0
+  expected_role before role e = search (rules, cut, leads_run)
 
 module _ {Value State Role : Type 0} (g : Grammar Value Role) (m : Machine State Role) (k : Keeps g m) where
   -- Some text begins with what was read.

@@ -1,11 +1,11 @@
 -- A machine of positions goes along a text.
 use Rattle.std.specs.Prelude.{◌≡◌, ℕ, List, [], ◌∷◌, Option, Some, None}
 use Rattle.hunk_words.specs.declared.reason.Reason.{Reason}
-use Rattle.hunk_blocks.specs.declared.mode.Mode.{Mode}
-use Rattle.hunk_blocks.specs.declared.phase.Phase.{Phase}
-use Rattle.hunk_blocks.specs.Parts.{Part}
+use Rattle.hunk_grammar.specs.declared.mode.Mode.{Mode}
+use Rattle.hunk_grammar.specs.declared.phase.Phase.{Phase}
+use Rattle.hunk_grammar.specs.BlockParts.{Part}
 use Rattle.hunk_blocks.specs.Faults.{refuse_alone}
-use Rattle.hunk_blocks.specs.PhaseSteps.{part_at, step}
+use Rattle.hunk_grammar.specs.PhaseSteps.{part_at, step}
 
 -- From this position: at each longword the machine's test is that of the longword's role, and the step leads on, at last to `end`.
 abbrev pub GoesAlong : {Pos Role : Type 0} → (Role → Pos → ℕ → Option Reason) → (Role → ℕ → Option Reason) → (Pos → ℕ → Pos) → Pos → List (Role × ℕ) → Pos → Type 0

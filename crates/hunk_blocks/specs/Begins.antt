@@ -1,7 +1,7 @@
 -- Bytes that begin with a block, and bytes that do not.
 use Rattle.std.specs.Prelude.{◌≡◌, ℕ, ◌+◌, ◌*◌, ◌≤◌, List, ◌++◌, length, take, slice_index}
 use Rattle.hunk_words.specs.Longs.{longs, bytes_of}
-use Rattle.hunk_blocks.specs.declared.mode.Mode.{Mode}
+use Rattle.hunk_grammar.specs.declared.mode.Mode.{Mode}
 use Rattle.hunk_blocks.specs.Values.{BlockBody, Reloc, Ext, Symbol, BlockValue, IsBlock}
 use Rattle.hunk_blocks.specs.Parts.{block_text, group_text, ext_text, symbol_text}
 use Rattle.hunk_blocks.specs.Modes.{IsOfMode}

@@ -1,8 +1,8 @@
 -- What stands after the name of an EXT entry.
 use Rattle.std.specs.Prelude.{◌≡◌, ℕ, ◌^◌, List, [], ◌∷◌, Option, Some, None}
 use Rattle.hunk_words.specs.Longs.{IsLong}
-use Rattle.hunk_blocks.specs.declared.ext_shape.ExtShape.{ExtShape}
-use Rattle.hunk_blocks.specs.declared.ext_shape.ExtShape.TheVariants.{Definition, References, Common}
+use Rattle.hunk_grammar.specs.declared.ext_shape.ExtShape.{ExtShape}
+use Rattle.hunk_grammar.specs.declared.ext_shape.ExtShape.TheVariants.{Definition, References, Common}
 use Rattle.hunk_blocks.specs.Values.{IsPayload}
 use Rattle.hunk_blocks.specs.Parts.{counted_text}
 

@@ -3,10 +3,12 @@ use Rattle.std.specs.Prelude.{◌≡◌, ℕ, ◌*◌, List, ◌∷◌, ◌++◌
 use Rattle.hunk_words.specs.declared.reason.Reason.{Reason}
 use Rattle.hunk_words.specs.declared.reason.Reason.TheVariants as reasons
 use Rattle.hunk_words.specs.Longs.{longs}
-use Rattle.hunk_blocks.specs.declared.mode.Mode.{Mode}
+use Rattle.hunk_grammar.specs.declared.mode.Mode.{Mode}
 use Rattle.hunk_blocks.specs.Values.{BlockValue, IsBlock}
-use Rattle.hunk_blocks.specs.Parts.{Part, Part as parts, block_parts}
-use Rattle.hunk_blocks.specs.Modes.{IsOfMode, refuse_alone_word, refuse_inside}
+use Rattle.hunk_grammar.specs.BlockParts.{Part, Part as parts}
+use Rattle.hunk_blocks.specs.Parts.{block_parts}
+use Rattle.hunk_blocks.specs.Modes.{IsOfMode}
+use Rattle.hunk_grammar.specs.Modes.{refuse_alone_word, refuse_inside}
 use Rattle.hunk_blocks.specs.Reading.{IsFrontOf}
 use Rattle.hunk_blocks.specs.Begins.{BeginsWithNoBlock}
 

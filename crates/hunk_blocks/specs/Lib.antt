@@ -1,16 +1,14 @@
 pub mod AlongText
 pub mod Begins
-pub mod Cuts
 pub mod BlockSteps
 pub mod BodyViews
+pub mod Cuts
 pub mod Entries
-pub mod ExtKinds
 pub mod Faults
 pub mod Modes
 pub mod NameText
 pub mod Parts
 pub mod Placed
-pub mod PhaseSteps
 pub mod ReaderPhase
 pub mod Reading
 pub mod Values

@@ -1,17 +1,12 @@
--- The blocks of load files and of object files, and what is refused in a block that stands alone.
-use Rattle.std.specs.Prelude.{◌≡◌, ℕ, Bool, true, false, ⊤, nat_lt, if◌then◌else◌, Option, Some, None}
-use Rattle.hunk_words.specs.Limits.{name_limit}
-use Rattle.hunk_words.specs.declared.block_word.Kind.{Kind}
+-- The blocks of load files and of object files, and the reasons that one may be refused for.
+use Rattle.std.specs.Prelude.{◌≡◌, ℕ, Bool, true, false, ⊤}
 use Rattle.hunk_words.specs.declared.block_word.Kind.TheVariants as kinds
 use Rattle.hunk_words.specs.declared.reason.Reason.{Reason}
 use Rattle.hunk_words.specs.declared.reason.Reason.TheVariants as reasons
-use Rattle.hunk_words.specs.Bits.{has_both_bits, is_advisory, is_relocation, kind, entry_type}
-use Rattle.hunk_blocks.specs.declared.mode.Mode.{Mode}
-use Rattle.hunk_blocks.specs.declared.mode.Mode.TheVariants as modes
-use Rattle.hunk_blocks.specs.declared.ext_shape.ExtShape.{ExtShape}
-use Rattle.hunk_blocks.specs.ExtKinds.{ext_shape}
+use Rattle.hunk_words.specs.Bits.{kind}
+use Rattle.hunk_grammar.specs.declared.mode.Mode.{Mode}
+use Rattle.hunk_grammar.specs.declared.mode.Mode.TheVariants as modes
 use Rattle.hunk_blocks.specs.Values.{BlockBody, Reloc, Ext, BlockValue}
-use Rattle.hunk_blocks.specs.Parts.{Part, NameCount, ExtWord}
 
 -- In a load file only RELOC32 relocates, and nothing is external.
 abbrev pub IsOfLoadMode : ℕ → BlockBody → Type 0
@@ -22,36 +17,6 @@ IsOfLoadMode word body = ⊤
 abbrev pub IsOfMode : Mode → BlockValue → Type 0
 IsOfMode modes.Load b = IsOfLoadMode b.word b.body
 IsOfMode modes.Object b = ⊤
-
--- ---- what is refused
-
--- Load files refuse for this reason what object files accept.
-abbrev pub refuse_in_load_file : Mode → Reason → Option Reason
-refuse_in_load_file modes.Load reason = Some reason
-refuse_in_load_file modes.Object reason = None
-
--- The test of a block word by its kind.
-abbrev pub refuse_alone_kind : Mode → Bool → Kind → Option Reason
-refuse_alone_kind mode advisory kinds.Overlay = Some reasons.Overlay
-refuse_alone_kind mode advisory kinds.Break = Some reasons.Break
-refuse_alone_kind mode advisory kinds.Reloc32Short = Some reasons.ShortReloc
-refuse_alone_kind mode advisory kinds.Lib = Some reasons.Library
-refuse_alone_kind mode advisory kinds.Index = Some reasons.Library
-refuse_alone_kind mode advisory kinds.Header = Some reasons.Misplaced
-refuse_alone_kind mode advisory kinds.Unit = Some reasons.Misplaced
-refuse_alone_kind mode advisory (kinds.Unknown n) = if advisory then None else Some reasons.UnknownBlock
-refuse_alone_kind mode advisory kinds.Drel32 = refuse_in_load_file mode reasons.ShortReloc
-refuse_alone_kind mode advisory kinds.Ext = refuse_in_load_file mode reasons.NotInLoadFile
-refuse_alone_kind mode advisory kinds.Reloc32 = None
-refuse_alone_kind mode advisory k = if is_relocation k then refuse_in_load_file mode reasons.NotInLoadFile else None
-
--- The test of a block word.
-abbrev pub refuse_alone_word : Mode → ℕ → Option Reason
-refuse_alone_word mode w = if has_both_bits w then Some reasons.BothBits else refuse_alone_kind mode (is_advisory w) (kind w)
-
-abbrev pub refuse_shape : Option ExtShape → Option Reason
-refuse_shape None = Some reasons.ExtKind
-refuse_shape _ = None
 
 -- The reasons that a block may be refused for.
 abbrev pub is_block_refusal : Reason → Bool
@@ -68,9 +33,3 @@ is_block_refusal reasons.ExtKind = true
 is_block_refusal reasons.Truncated = true
 is_block_refusal reasons.OutOfMemory = true
 is_block_refusal _ = false
-
--- The tests of a longword after the block word.
-abbrev pub refuse_inside : Part → ℕ → Option Reason
-refuse_inside NameCount w = if nat_lt w name_limit then None else Some reasons.NameWord
-refuse_inside ExtWord w = refuse_shape (ext_shape (entry_type w))
-refuse_inside part w = None

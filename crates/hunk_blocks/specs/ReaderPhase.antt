@@ -1,11 +1,11 @@
 -- What was read of a block, in numbers alone: the phase of its reader.
 use Rattle.std.specs.Prelude.{ℕ, suc, ◌+◌, length, Option, Some, None}
 use Rattle.hunk_words.specs.Bits.{entry_type}
-use Rattle.hunk_blocks.specs.declared.ext_shape.ExtShape.{ExtShape}
-use Rattle.hunk_blocks.specs.declared.ext_shape.ExtShape.TheVariants.{Definition, References, Common}
-use Rattle.hunk_blocks.specs.declared.phase.Phase.{Phase}
-use Rattle.hunk_blocks.specs.declared.phase.Phase.TheVariants as phases
-use Rattle.hunk_blocks.specs.ExtKinds.{ext_shape}
+use Rattle.hunk_grammar.specs.declared.ext_shape.ExtShape.{ExtShape}
+use Rattle.hunk_grammar.specs.declared.ext_shape.ExtShape.TheVariants.{Definition, References, Common}
+use Rattle.hunk_grammar.specs.declared.phase.Phase.{Phase}
+use Rattle.hunk_grammar.specs.declared.phase.Phase.TheVariants as phases
+use Rattle.hunk_grammar.specs.ExtKinds.{ext_shape}
 use Rattle.hunk_blocks.specs.BlockSteps.{ForName, ForCode, ForData, ForBss, Counted, SizedCode, SizedData, Inside, AtCount, AtSize, InPayload, AtGroup, AtTarget, InOffsets, AtEntry, InName, AtValue, AtExtWord, InExtName, AtExtValue, AtExtSize, AtExtCount, InExtOffsets, BlockNext, Open, Whole}
 
 -- in the name of an external entry

@@ -1,26 +1,25 @@
 //! Blocks.
-ghost use Rattle.std.specs.Prelude.{◌≡◌, ◌≢◌, ◌*◌, ◌≤◌, Err, IfErr, IfOk};
-ghost use Rattle.std.specs.Prelude.{IsTrue, Some, length};
+ghost use Rattle.std.specs.Prelude.{◌≡◌, ◌≢◌, ◌*◌, ◌≤◌, Err, IfErr, IfOk, IsTrue, Some, length};
 ghost use Rattle.hunk_words.specs.declared.reason.Reason.{Reason};
 ghost use Rattle.hunk_words.specs.declared.reason.Reason.TheVariants as reasons;
 ghost use Rattle.hunk_words.specs.Longs.{bytes_of, longs};
 ghost use Rattle.hunk_words.specs.Prints.{Prints};
 ghost use Rattle.hunk_words.specs.Puts.{PutsText};
-ghost use Rattle.hunk_blocks.specs.declared.mode.Mode.TheVariants as modes;
+ghost use Rattle.hunk_grammar.specs.declared.mode.Mode.TheVariants as modes;
 ghost use Rattle.hunk_blocks.specs.Values.{IsBlock};
 ghost use Rattle.hunk_blocks.specs.Parts.{block_text};
-ghost use Rattle.hunk_blocks.specs.Modes.{is_block_refusal, refuse_alone_word};
+ghost use Rattle.hunk_blocks.specs.Modes.{is_block_refusal};
+ghost use Rattle.hunk_grammar.specs.Modes.{refuse_alone_word};
 ghost use Rattle.hunk_blocks.specs.Faults.{HasBlockFault};
-ghost use Rattle.hunk_blocks.specs.Begins.{BeginsWithBlock, BeginsWithNoBlock, first_long};
-ghost use Rattle.hunk_blocks.specs.Begins.{BeginsWithSomeBlock, IsFrontBlock};
+ghost use Rattle.hunk_blocks.specs.Begins.{BeginsWithBlock, BeginsWithNoBlock, first_long, BeginsWithSomeBlock, IsFrontBlock};
 ghost use Rattle.hunk_blocks.specs.Begins.{LacksItem, LacksItemAt, LacksItemOfMode};
 ghost use Rattle.hunk_blocks.specs.Views.{body_of};
 
 use crate::block_view::BlockView;
 use crate::body::{Body, print_body};
 use crate::body_view::keep_body;
-use crate::mode::Mode;
 use crate::walk::walk_block;
+use hunk_grammar::Mode;
 use hunk_words::{BlockFault, BlockWord, LongWriter, PagePrinter, Sink, WriteFault};
 use std::alloc::Global;
 use std::marker::Model;

@@ -1,16 +1,5 @@
 //! Lists that grow.
-ghost use Rattle.std.specs.Prelude.{
-  ◌≡◌,
-  ◌≤◌,
-  ◌++◌,
-  ◌∷◌,
-  [],
-  OnErr,
-  is_ok,
-  if◌then◌else◌,
-  vec_capacity,
-  vec_len,
-};
+ghost use Rattle.std.specs.Prelude.{◌≡◌, ◌≤◌, ◌++◌, ◌∷◌, [], OnErr, is_ok, if◌then◌else◌, vec_capacity, vec_len};
 
 use std::alloc::AllocError;
 

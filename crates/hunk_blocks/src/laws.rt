@@ -1,15 +1,15 @@
 //! Laws over the definitions alone.
 ghost use Rattle.hunk_words.specs.Longs.{IsBytes, IsLong, longs};
 ghost use Rattle.hunk_words.specs.declared.reason.Reason.{Reason};
-ghost use Rattle.hunk_blocks.specs.declared.mode.Mode.{Mode};
+ghost use Rattle.hunk_grammar.specs.declared.mode.Mode.{Mode};
 ghost use Rattle.hunk_blocks.specs.Begins.{BeginsWithBlock, BeginsWithNoBlock};
-ghost use Rattle.hunk_blocks.specs.Faults.{Expects, HasBlockFault, HasRefusal, IsFront};
-ghost use Rattle.hunk_blocks.specs.Faults.{IsTruncatedBlock, blocks, refuse_alone};
+ghost use Rattle.hunk_blocks.specs.Faults.{Expects, HasBlockFault, HasRefusal, IsFront, IsTruncatedBlock, blocks, refuse_alone};
 ghost use Rattle.std.specs.Prelude.{◌≡◌, List, [], ◌∷◌, ◌++◌, ℕ, Some, None, ◌⊎◌};
 ghost use Rattle.hunk_blocks.specs.Values.{BlockValue, IsBlock};
-ghost use Rattle.hunk_blocks.specs.Parts.{Part, block_parts, block_text};
+ghost use Rattle.hunk_grammar.specs.BlockParts.{Part};
+ghost use Rattle.hunk_blocks.specs.Parts.{block_parts, block_text};
 ghost use Rattle.hunk_blocks.specs.AlongText.{GoesAlong, refuse_at, step_on};
-ghost use Rattle.hunk_blocks.specs.declared.phase.Phase.TheVariants as phases;
+ghost use Rattle.hunk_grammar.specs.declared.phase.Phase.TheVariants as phases;
 
 /// No block begins another, and one text has one block.
 ///

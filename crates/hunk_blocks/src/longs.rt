@@ -56,7 +56,7 @@ impl<'a> Longs<'a> {
     }
 
     /// The longword number `i`, counted from 0.
-    #[tactic(auto, using(crate::proofs::Whole::long_counts))]
+    #[tactic(auto, using(crate::proofs::BytesOfLongs::long_counts))]
     pub fn at(&self, i: usize) -> u32
         requires { i < length self.now }
         ensures { result ≡ slice_index self.now i }

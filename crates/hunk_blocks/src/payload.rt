@@ -43,7 +43,7 @@ impl<'a> Payload<'a> {
     }
 
     /// The number of bytes: 4 for each longword.
-    #[tactic(auto, using(crate::proofs::Whole::payload_size))]
+    #[tactic(auto, using(crate::proofs::BytesOfLongs::payload_size))]
     pub fn byte_count(&self) -> u64
         ensures { result ≡ 4 * length (longs self.now) }
     {

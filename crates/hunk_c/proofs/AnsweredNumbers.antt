@@ -9,7 +9,7 @@ use Rattle.hunk_files.specs.HunkFile.{IsRefusal}
 use Rattle.hunk_files.specs.ObjectFile.{is_object_refusal}
 use Rattle.hunk_files.specs.declared.hunk_file.HunkFile.{HunkFile}
 use Rattle.hunk_files.specs.declared.row.Row.{Row}
-use Rattle.hunk_files.proofs.{ObjectRefusals.fault_other, Refusals.refusal_of_word}
+use Rattle.hunk_files.proofs.{object_walk.ObjectRefusals.fault_other, walk.Refusals.refusal_of_word}
 use Rattle.hunk_grammar.specs.declared.file_kind.Sniff.{Sniff}
 use Rattle.hunk_grammar.specs.declared.file_kind.Sniff.TheVariants as sniffs
 use Rattle.hunk_grammar.specs.declared.position.Position.{Position}
@@ -17,21 +17,16 @@ use Rattle.hunk_grammar.specs.declared.position.Position.TheVariants as position
 use Rattle.hunk_scatter.specs.declared.stream.Standing.{Standing}
 use Rattle.hunk_scatter.specs.{HeaderSizes.RefusesHeader, LoaderReasons.is_of_body, Placing.Placing}
 use Rattle.hunk_c.specs.Answers.{is_answered, strange}
-use Rattle.hunk_c.specs.Checks as checks
-use Rattle.hunk_c.specs.Checks.{Checks}
 use Rattle.hunk_c.specs.Loaders.{TellsAgain, TellsRefusal, TellsStrange, MayStand, MayStandAt, no_loader, loader_at, unrefused}
 use Rattle.hunk_c.specs.Loads as loads
 use Rattle.hunk_c.specs.Loads.{Loads, IsNotLoaded}
 use Rattle.hunk_c.specs.Names.{IsMeaningOf, IsNameOf, Means, Names, PutsText, HasText, HasNoText, OfReason, OfNoRoom, OfStrange, OfNone, MeansReason, MeansNoRoom, MeansStrange, MeansNothing}
 use Rattle.hunk_c.specs.Rows as lists
-use Rattle.hunk_c.specs.Rows.{Tabulates}
+use Rattle.hunk_c.specs.Rows.{Lists}
 use Rattle.hunk_c.specs.Streams.{Begins, HasBegun, LacksRoom, FitsNot, Ends, IsWhole, IsCutShort, HasNoEnd, Feeds, HasTaken, HasRefused, HadRefused, IsStrange, Wants, HasWant, HasNoWant}
-use Rattle.hunk_c.specs.Strips as strips
-use Rattle.hunk_c.specs.Strips.{Strips}
 use Rattle.hunk_c.specs.Tables as tables
 use Rattle.hunk_c.specs.Tables.{Tables}
 use Rattle.hunk_c.specs.declared.answer.Answer.{Answer}
-use Rattle.hunk_c.specs.declared.check.FindingRow.{FindingRow}
 use Rattle.hunk_c.specs.declared.loader.Loader.{Loader}
 use Rattle.hunk_c.specs.declared.table.TableRow.{TableRow}
 
@@ -45,50 +40,24 @@ told_by a b e h = subst Told (sym e) h
 
 of_word : (r : Reason) → IsTrue (is_word_refusal r) → IsTrue (is_answered (number_of r))
 of_word reasons.Advisory h = absurd cc
-of_word reasons.ExtKind h = absurd cc
-of_word reasons.Truncated h = absurd cc
-of_word reasons.Budget h = absurd cc
 of_word reasons.FileLimit h = absurd cc
-of_word (reasons.NoBase hunk) h = absurd cc
 of_word reasons.Read h = absurd cc
 of_word reasons.OutOfMemory h = absurd cc
 of_word _ h = refl
 
 of_object : (r : Reason) → IsTrue (is_object_refusal r) → (r ≡ reasons.OutOfMemory → ⊥) → IsTrue (is_answered (number_of r))
+of_object reasons.Advisory h other = absurd cc
+of_object reasons.FileLimit h other = absurd cc
+of_object reasons.Read h other = absurd cc
 of_object reasons.OutOfMemory h other = absurd (other refl)
-of_object reasons.Library h other = refl
-of_object reasons.BothBits h other = refl
-of_object reasons.Overlay h other = refl
-of_object reasons.Break h other = refl
-of_object reasons.ShortReloc h other = refl
-of_object reasons.Misplaced h other = refl
-of_object reasons.UnknownBlock h other = refl
-of_object reasons.SecondContent h other = refl
-of_object reasons.BeforeContent h other = refl
-of_object reasons.NoContent h other = refl
-of_object reasons.NameWord h other = refl
-of_object reasons.ExtKind h other = refl
-of_object reasons.Truncated h other = refl
-of_object _ h other = absurd cc
+of_object _ h other = refl
 
 of_body : (r : Reason) → IsTrue (is_of_body r) → IsTrue (is_answered (number_of r))
-of_body reasons.Library h = refl
-of_body reasons.BothBits h = refl
-of_body reasons.Overlay h = refl
-of_body reasons.Break h = refl
-of_body reasons.ShortReloc h = refl
-of_body reasons.NotInLoadFile h = refl
-of_body reasons.Misplaced h = refl
-of_body reasons.UnknownBlock h = refl
-of_body reasons.SecondContent h = refl
-of_body reasons.BeforeContent h = refl
-of_body reasons.NoContent h = refl
-of_body reasons.ContentTooLong h = refl
-of_body reasons.NameWord h = refl
-of_body reasons.NothingToRelocate h = refl
-of_body reasons.BadTarget h = refl
-of_body reasons.BadOffset h = refl
-of_body _ h = absurd cc
+of_body reasons.Advisory h = absurd cc
+of_body reasons.FileLimit h = absurd cc
+of_body reasons.Read h = absurd cc
+of_body reasons.OutOfMemory h = absurd cc
+of_body _ h = refl
 
 of_load : (bytes : List ℕ) (at : ℕ) (r : Reason) → HasFault bytes at r → IsTrue (is_answered (number_of r))
 of_load bytes at r (inl h) = of_word r (refusal_of_word bytes at r h)
@@ -143,20 +112,10 @@ pub want_told : (l : Loader) (a : Answer) → Wants l a → Told a
 want_told l a (HasWant at owed h w e) = told_by a _ e refl
 want_told l a (HasNoWant h) = again_told l a h
 
-pub check_told : (bytes : List ℕ) (old new : List FindingRow) (a : Answer) → Checks bytes old new a → Told a
-check_told bytes old new a (checks.HasFindings file is fits n e) = told_by a _ e refl
-check_told bytes old new a (checks.HasNoRows file is less n e) = told_by a _ e refl
-check_told bytes old new a (checks.HasNoFile f h n e) = told_by a _ e (of_refusal _ bytes f h.0)
-
-pub list_told : {A : Type 0} (rows : HunkFile → List A) (bytes : List ℕ) (old new : List A) (a : Answer) → Tabulates rows bytes old new a → Told a
-list_told rows bytes old new a (lists.HasRows file is fits n e) = told_by a _ e refl
-list_told rows bytes old new a (lists.HasNoRoom file is less n e) = told_by a _ e refl
-list_told rows bytes old new a (lists.HasNoFile f h n e) = told_by a _ e (of_refusal _ bytes f h.0)
-
-pub strip_told : (bytes old new : List ℕ) (a : Answer) → Strips bytes old new a → Told a
-strip_told bytes old new a (strips.HasStripped file is fits n e) = told_by a _ e refl
-strip_told bytes old new a (strips.HasNoText file is less n e) = told_by a _ e refl
-strip_told bytes old new a (strips.HasNoFile f h n e) = told_by a _ e (of_refusal _ bytes f h.0)
+pub list_told : {A : Type 0} (rows : HunkFile → List A) (count : ℕ → ℕ) (bytes : List ℕ) (old new : List A) (a : Answer) → Lists rows count bytes old new a → Told a
+list_told rows count bytes old new a (lists.HasRows file is fits n e) = told_by a _ e refl
+list_told rows count bytes old new a (lists.HasNoRoom file is less n e) = told_by a _ e refl
+list_told rows count bytes old new a (lists.HasNoFile f h n e) = told_by a _ e (of_refusal _ bytes f h.0)
 
 pub words_told : (words old new : List ℕ) (a : Answer) → PutsText words old new a → Told a
 words_told words old new a (HasText fits n e) = told_by a _ e refl

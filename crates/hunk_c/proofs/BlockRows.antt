@@ -3,8 +3,9 @@ use Rattle.std.proofs.Common.{rules, ◌≡◌, ℕ, ◌+◌, ◌*◌, List, [],
 use Rattle.std.proofs.lemmas.{List.Sums.sum_by-cons, List.length-map}
 use Rattle.hunk_words.specs.{Carriers.saturated, Longs.bytes_of}
 use Rattle.hunk_words.proofs.LongLaws.{length-bytes_of}
-use Rattle.hunk_blocks.specs.Parts.{Part, Payload, block_parts, block_text, group_text}
-use Rattle.hunk_blocks.specs.Values.{BlockBody, BlockValue, RelocGroup, offset_count, Name, Code, Data, Bss, Reloc, Ext, Symbol, Debug, Advisory, End}
+use Rattle.hunk_grammar.specs.BlockParts.{Part, Payload}
+use Rattle.hunk_blocks.specs.Parts.{block_parts, block_text, group_text}
+use Rattle.hunk_blocks.specs.Values.{BlockBody, BlockValue, RelocGroup, offset_count, Name, Code, Data, Debug, Advisory}
 use Rattle.hunk_c.specs.{Blocks.{Span, payload_of}, Counting.Counts, Relocations.{Relocated, group_rows, offset_rows}}
 
 -- a count that begins at 0
@@ -23,11 +24,7 @@ payload_text word (Code top ws) words is = whole word (Code top ws) ws words (om
 payload_text word (Data top ws) words is = whole word (Data top ws) ws words (omega (arith, length-map {B = Part × ℕ} ws (λ w. (Payload, w)))) cc
 payload_text word (Debug ws) words is = whole word (Debug ws) ws words (omega (arith, length-map {B = Part × ℕ} ws (λ w. (Payload, w)))) cc
 payload_text word (Advisory ws) words is = whole word (Advisory ws) ws words (omega (arith, length-map {B = Part × ℕ} ws (λ w. (Payload, w)))) cc
-payload_text word (Bss size) words is = absurd cc
-payload_text word (Reloc groups) words is = absurd cc
-payload_text word (Ext entries) words is = absurd cc
-payload_text word (Symbol entries) words is = absurd cc
-payload_text word End words is = absurd cc
+payload_text word _ words is = absurd cc
 
 pub payload_len : (block : BlockValue) (words : List ℕ) (len : ℕ) → payload_of block.body ≡ Some words → len ≡ length (bytes_of (block_text block)) → len ≡ 8 + 4 * length words
 payload_len block words len is size = size ∙ payload_text block.word block.body words is

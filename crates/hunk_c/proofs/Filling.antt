@@ -1,6 +1,6 @@
 -- Rows that are written in turn.
-use Rattle.std.proofs.Common.{rules, ◌≡◌, ℕ, zero, suc, ◌+◌, ◌≤◌, List, [], ◌∷◌, length, map, take, set, slice_get, Some, sym, ap, ap₂, subst, ◌∙◌, add-one, arith}
-use Rattle.std.proofs.lemmas.List.{take_all, length-set}
+use Rattle.std.proofs.Common.{◌≡◌, ℕ, ◌+◌, ◌<◌, ◌≤◌, List, [], ◌∷◌, ◌++◌, length, map, take, set, get_or, sym, ap, ◌∙◌, arith}
+use Rattle.std.proofs.lemmas.List.{take_all, take_more, take_more_set, length-set, map-append}
 
 module _ {Value Row : Type 0} (row_of : Value → Row) where
   -- The first rows are those of the values.
@@ -8,23 +8,13 @@ module _ {Value Row : Type 0} (row_of : Value → Row) where
     pub size : length written ≡ length values
     pub front : take i written ≡ map row_of (take i values)
 
-  front_more : (values : List Value) (written : List Row) (i : ℕ) (v : Value) → length written ≡ length values → slice_get values i ≡ Some v → take i written ≡ map row_of (take i values) →
-      take (suc i) (set written i (row_of v)) ≡ map row_of (take (suc i) values)
-  front_more [] written i v l is e = absurd cc
-  front_more (x ∷ values) [] i v l is e = absurd (omega (arith, l))
-  front_more (x ∷ values) (y ∷ written) zero v l is e = search rules
-  front_more (x ∷ values) (y ∷ written) (suc i) v l is e =
-      let head : y ≡ row_of x = cc in
-      let tail : take i written ≡ map row_of (take i values) = cc in
-      ap₂ (λ (z : Row) (zs : List Row). z ∷ zs) head (front_more values written i v (omega (arith, l)) is tail)
-
-  pub filled_more : (values : List Value) (written : List Row) (i : ℕ) (v : Value) (r : Row) → slice_get values i ≡ Some v → r ≡ row_of v →
+  pub filled_more : (values : List Value) (written : List Row) (i : ℕ) (d : Value) (r : Row) → i < length values → r ≡ row_of (get_or values i d) →
       AreFilledTo values written i → AreFilledTo values (set written i r) (i + 1)
-  filled_more values written i v r is e f = record {
+  filled_more values written i d r inside is f = record {
     size = length-set written i r ∙ f.size;
     front =
-        subst (λ (n : ℕ). take n (set written i r) ≡ map row_of (take n values)) (sym (add-one i))
-        (ap (λ (y : Row). take (suc i) (set written i y)) e ∙ front_more values written i v f.size is f.front);
+        take_more_set written i r (omega (arith, inside, f.size)) ∙ ap (λ (rows : List Row). rows ++ r ∷ []) f.front ∙ ap (λ (y : Row). map row_of (take i values) ++ y ∷ []) is
+        ∙ sym (ap (λ (vs : List Value). map row_of vs) (take_more values i d inside) ∙ map-append row_of (take i values) (get_or values i d ∷ []));
   }
 
   pub filled_all : (values : List Value) (written : List Row) (i : ℕ) → length values ≤ i → AreFilledTo values written i → written ≡ map row_of values

@@ -1,5 +1,4 @@
 pub mod AnsweredNumbers
-pub mod Checked
 pub mod Filling
 pub mod Loaded
 pub mod MayStand

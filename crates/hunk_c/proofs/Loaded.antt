@@ -16,13 +16,9 @@ use Rattle.hunk_c.proofs.Succeeding.{file_header, same_header}
 
 -- ---- answers
 
-answer : ℕ → ℕ → ℕ → ℕ → Answer
-answer number hunk place count = record { number = number; hunk = hunk; place = place; count = count }
-
 pub same_answer : (number h k p q m n : ℕ) → h ≡ k → p ≡ q → m ≡ n →
     ◌≡◌ {A = Answer} (record { number = number; hunk = h; place = p; count = m }) (record { number = number; hunk = k; place = q; count = n })
-unfolding answer
-same_answer number h k p q m n e f g = search rules
+same_answer number h k p q m n e f g = λ i. record { number = number; hunk = e i; place = f i; count = g i }
 
 -- ---- refusals
 

@@ -1,8 +1,8 @@
 -- The numbers of a loader tell where it stands.
 use Rattle.std.proofs.Common.{◌≡◌, ◌==◌, ℕ, Bool, true, false, Option, Some, refl, sym, ap, ap₂, subst, ◌∙◌, if◌then◌else◌, MatchOption}
-use Rattle.hunk_blocks.specs.declared.phase.Phase.{Phase}
-use Rattle.hunk_blocks.specs.declared.phase.Phase.TheVariants as phases
-use Rattle.hunk_grammar.specs.{declared.phase.OpenHunk.OpenHunk, declared.position.Position.Position}
+use Rattle.hunk_grammar.specs.declared.phase.Phase.{Phase}
+use Rattle.hunk_grammar.specs.declared.phase.Phase.TheVariants as phases
+use Rattle.hunk_grammar.specs.{declared.position.OpenHunk.OpenHunk, declared.position.Position.Position}
 use Rattle.hunk_grammar.specs.declared.position.Position.TheVariants as positions
 use Rattle.hunk_grammar.specs.Positions.{is_done}
 use Rattle.hunk_scatter.specs.declared.stream.Standing.{Standing}

@@ -11,8 +11,8 @@ use Rattle.hunk_files.specs.ObjectFile.{ObjectFileValue, ObjectHunk, UnitValue, 
 use Rattle.hunk_files.specs.declared.hunk_file.HunkFile.{HunkFile}
 use Rattle.hunk_files.specs.{LoadFile.LoadFileValue, LoadText.text}
 use Rattle.hunk_files.specs.declared.hunk_file.HunkFile.TheVariants as files
-use Rattle.hunk_files.proofs.{Accepted.All-flat_map, UnitCutLaws.object_value, Scan.{begun_longs, one_front}}
-use Rattle.hunk_files.proofs.{StripSteps.shorter, StripText.bytes_shorter, TableReading.text_is}
+use Rattle.hunk_files.proofs.{walk.Accepted.All-flat_map, cuts.UnitCutLaws.object_value, walk.Scan.{begun_longs, one_front}}
+use Rattle.hunk_files.proofs.{strip.StripSteps.shorter, strip.StripText.bytes_shorter, cuts.TableReading.text_is}
 
 -- ---- load files
 
@@ -80,10 +80,6 @@ file_size bytes (files.Load value rest) is = omega (
   length-append (bytes_of (text is.0.value)) is.0.rest,
 )
 file_size bytes (files.Object value) is = search rules
-
--- an object file is all of the bytes
-pub object_size : (bytes : List ℕ) (o : ObjectFileValue) → IsFileOf bytes (files.Object o) → length bytes ≡ length (file_bytes (files.Object o))
-object_size bytes o is = omega (arith, file_size bytes (files.Object o) is)
 
 -- no more stays of the file than there was
 pub stripped_fits : (file : HunkFile) → length (file_bytes (stripped file)) ≤ length (file_bytes file)

@@ -1,39 +1,35 @@
 -- Hunks one right after the other, by a table that is read where it lies.
-use Rattle.std.proofs.Common.{rules, ◌≡◌, ℕ, zero, suc, ◌+◌, ◌-◌, ◌*◌, ◌/◌, ◌%◌, ◌^◌, ◌<◌, ◌≤◌, Bool, true, false, List, [], ◌∷◌, ◌++◌, length, take, get_or, set, slice_get, Option, Some, None, refl, sym, ap, ap₂, subst, ◌∙◌, arith, if◌then◌else◌, ltb, inl, inr, ◌⊎◌, nat_le, nat_lt, add-one}
-use Rattle.std.proofs.lemmas.{Bool.{ltb-true, ltb-false}, Bool.Decides.nat_tests}
-use Rattle.std.proofs.lemmas.List.{length-take-le}
+use Rattle.std.proofs.Common.{rules, ◌≡◌, ℕ, zero, suc, ◌+◌, ◌-◌, ◌*◌, ◌/◌, ◌%◌, ◌^◌, ◌<◌, ◌≤◌, List, [], ◌∷◌, ◌++◌, length, take, get_or, set, Option, Some, None, refl, sym, ap, ap₂, subst, ◌∙◌, arith, if◌then◌else◌, below_more, inl, inr, ◌⊎◌, nat_le, nat_lt}
+use Rattle.std.proofs.lemmas.Bool.Decides.{nat_tests}
+use Rattle.std.proofs.lemmas.{List.{get_or-take, length-take-le, take_more}, Option.{slice_get-get_or, slice_get_past}}
 use Rattle.hunk_words.specs.{Bits.{entry_longs, has_both_bits, size_longs}, Longs.longs}
 use Rattle.hunk_blocks.specs.Cuts.{Cut}
 use Rattle.hunk_files.specs.{Cuts.table_cut, Image.declared_bytes, LoadFile.TableEntry}
-use Rattle.hunk_files.proofs.{LoadCuts.table_cut_is, TableReading.entries_are}
+use Rattle.hunk_files.proofs.{cuts.LoadCuts.table_cut_is, cuts.TableReading.entries_are}
 use Rattle.hunk_scatter.specs.HeaderBytes.{BeginsWithHeader}
 use Rattle.hunk_scatter.specs.Placing.{AreBases, IsFirstUnplaced, base_at, listed_in, packed_from}
 use Rattle.hunk_scatter.specs.{HeaderSizes.HasHeaderSize, declared.header_state.HeaderSize.HeaderSize}
-use Rattle.hunk_scatter.proofs.DeclaredBytes.{declared-cons}
+use Rattle.hunk_scatter.proofs.DeclaredBytes.{declared-append, declared-cons}
 use Rattle.hunk_c.specs.declared.packed.Mark.{Mark}
 use Rattle.hunk_c.specs.Packs.{ArePacked, AreMarksTo, AreNearTo, HasRow, IsRow, RowStandsAt, bases_in, hunks_a_mark, most_marks, no_mark, packed_after}
 use Rattle.hunk_c.specs.Loads.{AreBasesOf}
-use Rattle.hunk_c.proofs.{Succeeding.same_header, TableRows.{stands_first, stands_next, entry_is}}
+use Rattle.hunk_c.proofs.{Succeeding.same_header, TableRows.{no_entry, stands_first, stands_next, entry_is}}
 
 -- ---- a table, entry by entry
 
-abbrev no_entry : TableEntry
-no_entry = record { word = 0; extra = 0 }
-
-declared_next : (t : List TableEntry) (i : ℕ) (e : TableEntry) → slice_get t i ≡ Some e → declared_bytes (take (suc i) t) ≡ declared_bytes (take i t) + 4 * size_longs e.word
-declared_next [] i e is = absurd cc
-declared_next (x ∷ t) zero e is = search rules
-declared_next (x ∷ t) (suc i) e is = omega (arith, declared-cons x (take (suc i) t), declared-cons x (take i t), declared_next t i e is)
+declared_more : (t : List TableEntry) (i : ℕ) → i < length t → declared_bytes (take (i + 1) t) ≡ declared_bytes (take i t) + 4 * size_longs (get_or t i no_entry).word
+declared_more t i inside =
+    omega (arith, ap declared_bytes (take_more t i no_entry inside), declared-append (take i t) (get_or t i no_entry ∷ []), declared-cons (get_or t i no_entry) [])
 
 -- ---- rows
 
 module _ (bytes : List ℕ) (t : List TableEntry) (h : BeginsWithHeader bytes t) (start i at base : ℕ) (r : IsRow h start i at base) (more : i < length t) (word extra : ℕ) (reads_word : word ≡ get_or (longs bytes) at 0)
     (reads_extra : extra ≡ (if has_both_bits (get_or (longs bytes) at 0) then get_or (longs bytes) (at + 1) 0 else 0)) where
-  is : slice_get t i ≡ Some (record { word = word; extra = extra })
+  is : get_or t i no_entry ≡ record { word = word; extra = extra }
   is = entry_is bytes t h i at r.stands more word extra reads_word reads_extra
 
   declared_is : declared_bytes (take (i + 1) t) ≡ declared_bytes (take i t) + 4 * size_longs word
-  declared_is = ap (λ (n : ℕ). declared_bytes (take n t)) (add-one i) ∙ declared_next t i (record { word = word; extra = extra }) is
+  declared_is = omega (arith, declared_more t i more, ap (λ (e : TableEntry). 4 * size_longs e.word) is)
 
   pub row_next : (count size : ℕ) → count ≡ entry_longs word → size ≡ 4 * size_longs word → IsRow h start (i + 1) (at + count) (base + size)
   row_next count size l s = record {
@@ -51,14 +47,6 @@ packed_none : (start before size : ℕ) → (2 ^ 32 ≤ start + before) ⊎ (2 ^
     ◌≡◌ {A = Option ℕ} (if nat_le (2 ^ 32) (start + before) then None else if nat_lt (2 ^ 32) (start + before + size) then None else Some (start + before)) None
 packed_none start before size (inl a) = grind (arith, nat_tests)
 packed_none start before size (inr b) = grind (arith, nat_tests)
-
-declared_more : (t : List TableEntry) (i : ℕ) → i < length t → declared_bytes (take (i + 1) t) ≡ declared_bytes (take i t) + 4 * size_longs (get_or t i no_entry).word
-declared_more t i inside = ap (λ (n : ℕ). declared_bytes (take n t)) (add-one i) ∙ go t i inside
-  where
-    go : (t : List TableEntry) (i : ℕ) → i < length t → declared_bytes (take (suc i) t) ≡ declared_bytes (take i t) + 4 * size_longs (get_or t i no_entry).word
-    go [] i less = absurd (omega (arith, less))
-    go (x ∷ t) zero less = omega (arith, declared-cons x [])
-    go (x ∷ t) (suc i) less = omega (arith, declared-cons x (take (suc i) t), declared-cons x (take i t), go t i (omega (arith, less)))
 
 module _ (t : List TableEntry) (start i b b2 : ℕ) (inside : i < length t) (here : b ≡ start + declared_bytes (take i t)) (after : b2 ≡ start + declared_bytes (take (i + 1) t)) where
   size : ℕ
@@ -123,21 +111,11 @@ module _ (bytes : List ℕ) (t : List TableEntry) (h : BeginsWithHeader bytes t)
     near = omega (arith, near, s.near);
     are_marks = are;
     size = n ∙ s.size;
-    placed = λ i less. by_order i (ltb i hunk) refl less;
-    each = λ i less. each_by i (ltb i hunk) refl less;
+    placed =
+        below_more (λ (k : ℕ). base_at (packed_from start) t k ≡ Some (start + declared_bytes (take k t))) hunk s.placed
+        (placed_at t start hunk base base2 inside s.is_row.base_is r.base_is low fits ∙ ap (λ (k : ℕ). Some k) s.is_row.base_is);
+    each = below_more (λ (k : ℕ). start + declared_bytes (take k t) < 2 ^ 32) hunk s.each (omega (arith, s.is_row.base_is, low));
   }
-    where
-      by_order : (i : ℕ) (b : Bool) → ltb i hunk ≡ b → i < hunk + 1 → base_at (packed_from start) t i ≡ Some (start + declared_bytes (take i t))
-      by_order i true e less = s.placed i (ltb-true i hunk e)
-      by_order i false e less =
-          let above : hunk ≤ i = ltb-false i hunk e in
-          let same : i ≡ hunk = omega (arith, above, less) in
-          subst (λ (k : ℕ). base_at (packed_from start) t k ≡ Some (start + declared_bytes (take k t))) (sym same)
-          (placed_at t start hunk base base2 inside s.is_row.base_is r.base_is low fits ∙ ap (λ (k : ℕ). Some k) s.is_row.base_is)
-
-      each_by : (i : ℕ) (b : Bool) → ltb i hunk ≡ b → i < hunk + 1 → start + declared_bytes (take i t) < 2 ^ 32
-      each_by i true e less = s.each i (ltb-true i hunk e)
-      each_by i false e less = search rules
 
   pub packed_not : (2 ^ 32 ≤ base) ⊎ (2 ^ 32 < base2) → IsFirstUnplaced (packed_from start) t hunk
   packed_not why = record {
@@ -205,32 +183,17 @@ module _ (bytes : List ℕ) (hunks start : ℕ) (marks : List Mark) (p : ArePack
 
 -- ---- lists of bases
 
-slice_none : (xs : List ℕ) → slice_get xs (length xs) ≡ None
-slice_none [] = refl
-slice_none (x ∷ xs) = slice_none xs
-
-slice_some : (xs : List ℕ) (i : ℕ) → i < length xs → slice_get xs i ≡ Some (get_or xs i 0)
-slice_some [] i less = absurd (omega (arith, less))
-slice_some (x ∷ xs) zero less = refl
-slice_some (x ∷ xs) (suc i) less = slice_some xs i (omega (arith, less))
-
-take_get : (xs : List ℕ) (n i : ℕ) → i < n → get_or (take n xs) i 0 ≡ get_or xs i 0
-take_get xs zero i less = absurd (omega (arith, less))
-take_get [] (suc n) i less = refl
-take_get (x ∷ xs) (suc n) zero less = refl
-take_get (x ∷ xs) (suc n) (suc i) less = take_get xs n i (omega (arith, less))
-
 pub listed_bases : (bytes bases : List ℕ) (size : HeaderSize) → HasHeaderSize (2 ^ 64 - 1) bytes size → size.hunks ≤ length bases → AreBasesOf (listed_in bases) bytes (take size.hunks bases)
 listed_bases bytes bases size s room t h =
     let many : size.hunks ≡ length t = s.hunks_are ∙ ap (λ (u : List TableEntry). length u) (same_header bytes s.table t s.header h) in
     record {
       count = length-take-le size.hunks bases room ∙ many;
-      each = λ i less. slice_some bases i (omega (arith, less, many, room)) ∙ ap (λ (k : ℕ). Some k) (sym (take_get bases size.hunks i (omega (arith, less, many))));
+      each = λ i less. slice_get-get_or bases i 0 (omega (arith, less, many, room)) ∙ ap (λ (k : ℕ). Some k) (sym (get_or-take size.hunks bases i 0 (omega (arith, less, many))));
     }
 
 pub listed_not : (bases : List ℕ) (t : List TableEntry) → length bases < length t → IsFirstUnplaced (listed_in bases) t (length bases)
 listed_not bases t few = record {
   inside = few;
-  none = slice_none bases;
-  first = λ i less. let some = slice_some bases i less in cc;
+  none = slice_get_past bases (length bases) (omega arith);
+  first = λ i less. let some = slice_get-get_or bases i 0 less in cc;
 }

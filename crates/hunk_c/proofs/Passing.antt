@@ -4,16 +4,16 @@ use Rattle.std.proofs.lemmas.List.{take_all}
 use Rattle.hunk_words.specs.{Carriers.saturated, Longs.{Gathers, IsBytes}, PendingBytes.pending_of}
 use Rattle.hunk_words.specs.declared.pending.Pending.{Pending}
 use Rattle.hunk_words.proofs.{LongLaws.length-bytes_of, PendingLaws.{few_pending, pending_none}}
-use Rattle.hunk_blocks.specs.declared.phase.Phase.{Phase}
-use Rattle.hunk_blocks.specs.declared.phase.Phase.TheVariants as phases
-use Rattle.hunk_grammar.specs.{Positions.{is_done, pass}, declared.phase.OpenHunk.OpenHunk, declared.position.Position.Position}
+use Rattle.hunk_grammar.specs.declared.phase.Phase.{Phase}
+use Rattle.hunk_grammar.specs.declared.phase.Phase.TheVariants as phases
+use Rattle.hunk_grammar.specs.{Positions.{is_done, pass}, declared.position.OpenHunk.OpenHunk, declared.position.Position.Position}
 use Rattle.hunk_grammar.specs.declared.position.Position.TheVariants as positions
 use Rattle.hunk_files.specs.declared.row.Row.{Row}
 use Rattle.hunk_scatter.specs.{BodyLoaderFields.StandsAfter, Streaming.{FitsStore, IsFed}}
 use Rattle.hunk_scatter.specs.declared.stream.Standing.{Standing}
-use Rattle.hunk_scatter.proofs.{BodyFields.{fed_more, gone, in_room}, OneByte.more_pending, WholeLongs.run_taken}
+use Rattle.hunk_scatter.proofs.{BodyFields.{fed_more, gone, in_room}, OneByte.more_pending, StreamLaws.first_byte, WholeLongs.run_taken}
 use Rattle.hunk_c.specs.declared.loader.Loader.{Loader}
-use Rattle.hunk_c.specs.Loaders.{MayHavePosition, Stands, StandsAt, loader_at, open_hunk, pending_in, phase_in, refusal_in, unused, with_numbers}
+use Rattle.hunk_c.specs.Loaders.{MayHavePosition, StandsAt, loader_at, open_hunk, pending_in, phase_in, refusal_in, with_numbers}
 use Rattle.hunk_c.specs.Streams.{PassesOver}
 use Rattle.hunk_c.proofs.Streamed.{stands_at, stands_so}
 
@@ -24,30 +24,35 @@ with_pending at fed pending = record { state = at.state; fed = fed; pending = pe
 abbrev pub loader_with : Loader → ℕ → Pending → Loader
 loader_with l fed pending = with_numbers l fed l.owed pending (refusal_in l)
 
+-- no refusal is in the numbers of one that stands
+clean_is : (l : Loader) (at : Standing) → StandsAt l at → refusal_in l ≡ (0, 0, 0)
+clean_is l at s = λ i. (s.clean.place i, s.clean.number i, s.clean.hunk i)
+
 with_is : (l : Loader) (at : Standing) (fed : ℕ) (pending : Pending) → StandsAt l at → loader_with l fed pending ≡ loader_at (with_pending at fed pending)
-with_is l at fed pending s = λ i. record {
-  start = (s.numbers i).start;
-  fed = fed;
-  place = s.clean.place i;
-  refused = s.clean.number i;
-  refused_hunk = s.clean.hunk i;
-  hunk = (s.numbers i).hunk;
-  hunks = (s.numbers i).hunks;
-  ahead = (s.numbers i).ahead;
-  has_content = (s.numbers i).has_content;
-  phase = (s.numbers i).phase;
-  part = (s.numbers i).part;
-  owed = (s.numbers i).owed;
-  pending = pending.count;
-  first = pending.first;
-  second = pending.second;
-  third = pending.third;
-  reserved = unused;
-}
+with_is l at fed pending s =
+    ap (with_numbers l fed l.owed pending) (clean_is l at s) ∙ ap (λ (x : Loader). with_numbers x fed x.owed pending (0, 0, 0)) s.numbers
 
 -- The numbers fit as long as the state is the same.
 fits_with : (rows : List Row) (total : ℕ) (at : Standing) (fed : ℕ) (pending : Pending) → FitsStore rows total at → pending.count < 4 → FitsStore rows total (with_pending at fed pending)
 fits_with rows total at fed pending f few = record { few = few; in_store = f.in_store; hunks = f.hunks; whole = f.whole }
+
+-- All of a piece is taken, where the loader then stands so, and the file goes on.
+passes_over : (rows : List Row) (total : ℕ) (l new : Loader) (piece : List ℕ) (from to : Standing) → StandsAt l from → FitsStore rows total from → new ≡ loader_at to → FitsStore rows total to →
+    to.fed ≡ saturated (from.fed + length piece) → is_done to.state.position ≡ false →
+    ((memory fed : List ℕ) → IsFed rows memory from fed → IsFed rows memory to (fed ++ take (length piece) piece)) → PassesOver rows total l piece new
+passes_over rows total l new piece from to s f numbers still counted more fed_is = λ memory size. record {
+  from = from;
+  to = to;
+  stood = s;
+  fits = subst (λ (n : ℕ). FitsStore rows n from) (sym size) f;
+  numbers = numbers;
+  fits_still = subst (λ (n : ℕ). FitsStore rows n to) (sym size) still;
+  counted = counted;
+  inside = omega arith;
+  all = λ less. absurd (omega (arith, less));
+  not_early = λ done. absurd (true≢false (sym done ∙ more));
+  takes = λ fed h. stands_so rows new to memory (fed ++ take (length piece) piece) numbers (fed_is memory fed (stands_at rows l memory fed from s h));
+}
 
 -- Bytes that complete no longword.
 module _ (rows : List Row) (total : ℕ) (l : Loader) (at : Standing) (piece : List ℕ) (pending : Pending) (s : StandsAt l at) (f : FitsStore rows total at) (more : is_done at.state.position ≡ false)
@@ -59,24 +64,11 @@ module _ (rows : List Row) (total : ℕ) (l : Loader) (at : Standing) (piece : L
       (subst (λ (xs : List ℕ). StandsAfter rows memory at.state xs (fed ++ piece)) (sym gathers) (more_pending _ _ _ _ _ (gone rows memory at fed h more) piece short))
 
   pub passes_bytes : PassesOver rows total l piece (loader_with l (saturated (at.fed + length piece)) pending)
-  passes_bytes = λ memory size.
-      let to = with_pending at (saturated (at.fed + length piece)) pending in
-      let numbers = with_is l at (saturated (at.fed + length piece)) pending s in
-      record {
-        from = at;
-        to = to;
-        stood = s;
-        fits = subst (λ (n : ℕ). FitsStore rows n at) (sym size) f;
-        numbers = numbers;
-        fits_still = subst (λ (n : ℕ). FitsStore rows n to) (sym size) (fits_with rows total at to.fed pending f few);
-        counted = refl;
-        inside = omega arith;
-        all = λ less. absurd (omega (arith, less));
-        not_early = λ done. absurd (true≢false (sym done ∙ more));
-        takes = λ fed h.
-            subst (λ (xs : List ℕ). Stands rows (loader_with l (saturated (at.fed + length piece)) pending) memory (fed ++ xs)) (sym (take_all (length piece) piece (omega arith)))
-            (stands_so rows _ to memory (fed ++ piece) numbers (fed_bytes memory fed (stands_at rows l memory fed at s h)));
-      }
+  passes_bytes =
+      let sum : ℕ = saturated (at.fed + length piece) in
+      let to : Standing = with_pending at sum pending in
+      passes_over rows total l (loader_with l sum pending) piece at to s f (with_is l at sum pending s) (fits_with rows total at sum pending f few) refl more
+      (λ memory fed h. subst (λ (xs : List ℕ). IsFed rows memory to (fed ++ xs)) (sym (take_all (length piece) piece (omega arith))) (fed_bytes memory fed h))
 
 -- Fewer than four bytes complete no longword.
 pub gathers_none : (bytes pending : List ℕ) (word : Option ℕ) → Gathers bytes pending word → length bytes < 4 → Gathers bytes pending None
@@ -84,9 +76,7 @@ gathers_none bytes pending None g few = g
 gathers_none bytes pending (Some w) g few = absurd (omega (arith, few, ap (λ (xs : List ℕ). length xs) g.0, length-bytes_of (w ∷ [])))
 
 pub one_byte : (piece : List ℕ) → length piece ≡ 1 → get_or piece 0 0 ∷ [] ≡ piece
-one_byte [] e = absurd (omega (arith, e))
-one_byte (x ∷ []) e = refl
-one_byte (x ∷ y ∷ more) e = absurd (omega (arith, e))
+one_byte piece e = first_byte piece (omega (arith, e)) ∙ take_all 1 piece (omega (arith, e))
 
 -- ---- a payload
 
@@ -119,25 +109,9 @@ module _ (rows : List Row) (total : ℕ) (l : Loader) (piece : List ℕ) (s : St
   to = payload_at l (saturated (l.fed + length piece)) (l.owed - length piece / 4)
 
   payload_is : after_payload l (length piece) ≡ loader_at to
-  payload_is = λ i. record {
-    start = l.start;
-    fed = saturated (l.fed + length piece);
-    place = s.clean.place i;
-    refused = s.clean.number i;
-    refused_hunk = s.clean.hunk i;
-    hunk = l.hunk;
-    hunks = l.hunks;
-    ahead = l.ahead;
-    has_content = (s.numbers i).has_content;
-    phase = (s.numbers i).phase;
-    part = (s.numbers i).part;
-    owed = l.owed - length piece / 4;
-    pending = l.pending;
-    first = l.first;
-    second = l.second;
-    third = l.third;
-    reserved = unused;
-  }
+  payload_is =
+      ap (with_numbers l to.fed (l.owed - length piece / 4) (pending_in l)) (clean_is l from s)
+      ∙ ap (λ (x : Loader). with_numbers x to.fed (l.owed - length piece / 4) (pending_in x) (0, 0, 0)) s.numbers
 
   fits_payload : FitsStore rows total to
   fits_payload = record {
@@ -147,10 +121,9 @@ module _ (rows : List Row) (total : ℕ) (l : Loader) (piece : List ℕ) (s : St
     whole = λ e. absurd cc;
   }
 
-  payload_fed : (memory fed : List ℕ) → Stands rows l memory fed → IsFed rows memory to (fed ++ take (length piece) piece)
-  payload_fed memory fed h =
+  payload_fed : (memory fed : List ℕ) → IsFed rows memory from fed → IsFed rows memory to (fed ++ take (length piece) piece)
+  payload_fed memory fed k =
       let n = length piece in
-      let k : IsFed rows memory from fed = stands_at rows l memory fed from s h in
       let none : pending_of from.pending ≡ [] = pending_none from.pending clean in
       let here : StandsAfter rows memory from.state [] fed = subst (λ (xs : List ℕ). StandsAfter rows memory from.state xs fed) none k.stands in
       let long : length (take n piece) ≡ n = omega (arith, length-take n piece) in
@@ -163,16 +136,4 @@ module _ (rows : List Row) (total : ℕ) (l : Loader) (piece : List ℕ) (s : St
       (subst (λ (xs : List ℕ). StandsAfter rows memory to.state xs (fed ++ take n piece)) (sym none) there)
 
   pub passes_payload : PassesOver rows total l piece (after_payload l (length piece))
-  passes_payload = λ memory size. record {
-    from = from;
-    to = to;
-    stood = s;
-    fits = subst (λ (n : ℕ). FitsStore rows n from) (sym size) f;
-    numbers = payload_is;
-    fits_still = subst (λ (n : ℕ). FitsStore rows n to) (sym size) fits_payload;
-    counted = refl;
-    inside = omega arith;
-    all = λ less. absurd (omega (arith, less));
-    not_early = λ done. absurd cc;
-    takes = λ fed h. stands_so rows (after_payload l (length piece)) to memory (fed ++ take (length piece) piece) payload_is (payload_fed memory fed h);
-  }
+  passes_payload = passes_over rows total l (after_payload l (length piece)) piece from to s f payload_is fits_payload refl refl payload_fed

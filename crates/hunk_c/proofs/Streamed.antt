@@ -8,7 +8,7 @@ use Rattle.hunk_files.specs.{Fault.HasFault, FileSteps.{Next, More, Finished}, I
 use Rattle.hunk_files.specs.{LoadFile.{LoadFileValue, IsLoadFile}, LoadText.{table, text}}
 use Rattle.hunk_files.specs.{ReaderPosition.{IsAfterHeader, table_of}, WordsRead.HasRead}
 use Rattle.hunk_files.specs.declared.row.Row.{Row}
-use Rattle.hunk_files.proofs.Reading.{read_ended}
+use Rattle.hunk_files.proofs.walk.Reading.{read_ended}
 use Rattle.hunk_scatter.specs.{BodyLoaderFields.{StandsAfter, EndsWhole}, BodyReader.{state_at, state_of}}
 use Rattle.hunk_scatter.specs.{LoaderValues.told_place, Rows.{bases_of, entries_of}, StoreContent.StoreHolds}
 use Rattle.hunk_scatter.specs.{Streaming.{EndsLoading, IsFed}, declared.store.BodyState.BodyState}
@@ -32,21 +32,6 @@ stands_so rows l at memory fed e h = record {
   numbers = ap unrefused e;
   clean = record { place = ap (λ (x : Loader). x.place) e; number = ap (λ (x : Loader). x.refused) e; hunk = ap (λ (x : Loader). x.refused_hunk) e };
   is_fed = h;
-}
-
--- ---- its numbers
-
--- what is told at the end
-pub record Tells (l : Loader) (at : Standing) : Type 0 where
-  pub hunk : at.state.hunk ≡ l.hunk
-  pub start : at.state.start ≡ l.start
-  pub fed : at.fed ≡ l.fed
-
-pub tells : (l : Loader) (at : Standing) → StandsAt l at → Tells l at
-tells l at e = record {
-  hunk = ap (λ (x : Loader). x.hunk) (sym e.numbers);
-  start = ap (λ (x : Loader). x.start) (sym e.numbers);
-  fed = ap (λ (x : Loader). x.fed) (sym e.numbers);
 }
 
 -- ---- the end
@@ -82,7 +67,6 @@ streamed rows l memory fed at e ends h =
     let i = ends rows memory fed f in
     let finished : is_done at.state.position ≡ true = done_if_whole _ _ _ _ f (i.value, i.file) in
     let r = read_whole rows memory at.state _ fed f.stands finished in
-    let t = tells l at e in
     record {
       value = r.value;
       is_load_file = r.is_load_file;
@@ -90,13 +74,12 @@ streamed rows l memory fed at e ends h =
       table_is = r.table_is;
       memory_is = r.memory_is;
       answer_is =
-          same_answer 0 _ _ _ _ _ _ (sym t.hunk ∙ ap (λ (s : BodyState). s.hunk) r.state_is) (sym t.fed ∙ f.counted ∙ ap (λ (bs : List ℕ). saturated (length bs)) r.bytes_are)
-          (sym t.start ∙ ap (λ (s : BodyState). s.start) r.state_is ∙ sym (before_is r.value));
+          same_answer 0 _ _ _ _ _ _ (ap (λ (x : Loader). x.hunk) e.numbers ∙ ap (λ (s : BodyState). s.hunk) r.state_is) (ap (λ (x : Loader). x.fed) e.numbers ∙ f.counted ∙ ap (λ (bs : List ℕ). saturated (length bs)) r.bytes_are)
+          (ap (λ (x : Loader). x.start) e.numbers ∙ ap (λ (s : BodyState). s.start) r.state_is ∙ sym (before_is r.value));
     }
 
 pub cut_short : (rows : List Row) (l : Loader) (memory fed : List ℕ) (at : Standing) → StandsAt l at → EndsLoading at false → Stands rows l memory fed →
     (at : ℕ) × HasFault fed at reasons.Truncated × (4 * (l.fed / 4) ≡ told_place at)
 cut_short rows l memory fed at e ends h =
     let f = stands_at rows l memory fed at e h in
-    let t = tells l at e in
-    (4 * (length fed / 4), inr (refl, (ends rows memory fed f).1), omega (arith, f.counted, t.fed))
+    (4 * (length fed / 4), inr (refl, (ends rows memory fed f).1), omega (arith, f.counted, ap (λ (x : Loader). x.fed) e.numbers))

@@ -1,7 +1,7 @@
 -- A load file that fits is loaded.
 use Rattle.std.proofs.Common.{◌≡◌, ℕ, List, ◌++◌, length, sym, ap, subst, ◌∙◌, append_assoc, arith, inl, inr}
 use Rattle.hunk_files.specs.{Fault.BeginsWithLoadFile, Image.declared_bytes, LoadFile.TableEntry, LoadText.table}
-use Rattle.hunk_files.proofs.Scan.{no_fault}
+use Rattle.hunk_files.proofs.walk.Scan.{no_fault}
 use Rattle.hunk_scatter.specs.{HeaderBytes.{BeginsWithHeader, header_bytes}, Placing.{Placing, HasBases}}
 use Rattle.hunk_scatter.proofs.HeaderFronts.{one_table, text_header}
 use Rattle.hunk_c.specs.declared.answer.Answer.{Answer}

@@ -1,21 +1,53 @@
--- What a table comes to.
-use Rattle.std.proofs.Common.{◌≡◌, ◌≤◌, ◌<◌, ◌^◌, ℕ, List, length, ap, arith}
+-- What is listed in the caller's rows.
+use Rattle.std.proofs.Common.{◌≡◌, ◌++◌, ◌≤◌, ◌<◌, ◌^◌, ℕ, List, length, drop, sym, ap, ap₂, subst, ◌∙◌, arith, take-append-drop}
+use Rattle.std.proofs.lemmas.List.{length-map}
 use Rattle.hunk_words.specs.Carriers.{saturated}
-use Rattle.hunk_files.specs.declared.hunk_file.HunkFile.{HunkFile}
-use Rattle.hunk_c.specs.Rows.{Tabulates, TabulatesWhatFits, HasRows, HasNoRoom, HasNoFile}
-use Rattle.hunk_c.specs.declared.answer.Answer.{Answer}
+use Rattle.hunk_words.proofs.LongLaws.{length-bytes_of}
+use Rattle.hunk_files.specs.{Findings.FindingValue, HunkFile.{IsFileOf, file_bytes}, ObjectFile.{IsObjectFile, ObjectFileValue, object_text}}
+use Rattle.hunk_files.specs.{PlacedFindings.placed_findings, declared.hunk_file.HunkFile.HunkFile}
+use Rattle.hunk_files.specs.declared.hunk_file.HunkFile.TheVariants as files
+use Rattle.hunk_files.proofs.{findings.FindingCounts.findings_few, findings.PlacedFindingLaws.findings_placed}
+use Rattle.hunk_c.specs.{Answers.no_room, Checks.{finding_row, finding_rows}, Copying.Copies, Files.hunks_in}
+use Rattle.hunk_c.specs.Rows.{Lists, ListsExactly, ListsWhatFits, Tabulates, HasRows, HasNoRoom, HasNoFile}
+use Rattle.hunk_c.specs.declared.{answer.Answer.Answer, check.FindingRow.FindingRow}
 use Rattle.hunk_c.proofs.OneFile.{are_file, one_file}
 
-pub tabulates_what_fits : {Row : Type 0} (rows : HunkFile → List Row) (bytes : List ℕ) (old new : List Row) (answer : Answer) → Tabulates rows bytes old new answer →
-    TabulatesWhatFits rows (length old) bytes answer
-tabulates_what_fits rows bytes old new answer (HasRows a is fits same told) b ok room = ap (λ (x : Answer). x.number) told
-tabulates_what_fits rows bytes old new answer (HasNoRoom a is less same told) b ok room =
+pub what_fits : {Row : Type 0} (rows : HunkFile → List Row) (told : ℕ → ℕ) (bytes : List ℕ) (old new : List Row) (answer : Answer) → Lists rows told bytes old new answer →
+    ListsWhatFits rows (length old) bytes answer
+what_fits rows told bytes old new answer (HasRows a is fits same e) b ok room = ap (λ (x : Answer). x.number) e
+what_fits rows told bytes old new answer (HasNoRoom a is less same e) b ok room =
     absurd (omega (arith, less, room, ap (λ (x : HunkFile). length (rows x)) (one_file bytes a b is ok)))
-tabulates_what_fits rows bytes old new answer (HasNoFile f absent same told) b ok room = absurd (absent.1 (are_file bytes b ok))
+what_fits rows told bytes old new answer (HasNoFile f absent same e) b ok room = absurd (absent.1 (are_file bytes b ok))
 
 -- A count that fits a slice is exact.
 pub counted : (count n room : ℕ) → count ≡ saturated n → count ≤ room → room < 2 ^ 63 → count ≡ n
 counted count n room is fits small = omega (arith, is, fits, small)
 
-pub lacks : (count n room : ℕ) → count ≡ saturated n → room < count → room < n
-lacks count n room is more = omega (arith, is, more)
+-- Where they are few, just so many are told.
+pub exactly : {Row : Type 0} (rows : HunkFile → List Row) (bytes : List ℕ) (old new : List Row) (answer : Answer) → ((file : HunkFile) → IsFileOf bytes file → length (rows file) < 2 ^ 64) →
+    Tabulates rows bytes old new answer → ListsExactly rows bytes old new answer
+exactly rows bytes old new answer few (HasRows a is fits same e) = HasRows a is fits same e
+exactly rows bytes old new answer few (HasNoRoom a is less same e) = HasNoRoom a is less same (e ∙ ap (no_room (hunks_in a) (length (file_bytes a))) (omega (arith, few a is)))
+exactly rows bytes old new answer few (HasNoFile f absent same e) = HasNoFile f absent same e
+
+-- They are few where there is one for each finding.
+pub few_findings : (bytes : List ℕ) (file : HunkFile) → length bytes < 2 ^ 63 → IsFileOf bytes file → length (finding_rows file) < 2 ^ 64
+few_findings bytes (files.Load value rest) small is = omega arith
+few_findings bytes (files.Object value) small is = omega (
+  arith,
+  length-map {B = FindingRow} (placed_findings value) finding_row,
+  length-map {B = FindingValue} (placed_findings value) (λ f. f.value),
+  ap (λ (found : List FindingValue). length found) (findings_placed value),
+  findings_few value (subst IsObjectFile (sym is.1) is.0.is_object_file),
+  ap (λ (o : ObjectFileValue). length (object_text o)) is.1,
+  ap (λ (xs : List ℕ). length xs) is.0.text_is,
+  length-bytes_of (object_text is.0.value),
+  small,
+)
+
+-- ---- what is copied
+
+pub copied : (old bytes new : List ℕ) (n : ℕ) → Copies old 0 bytes new n → length bytes ≤ length old → new ≡ bytes ++ drop n old
+copied old bytes new n copies room =
+    let follows = copies.1 (omega (arith, room)) in
+    sym (take-append-drop n new) ∙ ap₂ (λ (xs ys : List ℕ). xs ++ ys) follows.front follows.rest

@@ -1,5 +1,5 @@
 -- What calls answer.
-use Rattle.std.specs.Prelude.{ℕ, Bool, ◌||◌, ◌==◌}
+use Rattle.std.specs.Prelude.{ℕ, Bool, IsTrue, ◌||◌, ◌==◌}
 use Rattle.hunk_words.specs.Reasons.{number_of}
 use Rattle.hunk_words.specs.declared.fault.Fault.{Fault}
 use Rattle.hunk_words.specs.declared.reason.Reason.{Reason}
@@ -45,6 +45,10 @@ strange = record { number = strange_number; hunk = 0; place = 0; count = 0 }
 -- those that calls answer: 0, those of reasons but Advisory, FileLimit, Read and OutOfMemory, NoRoom and Strange
 abbrev pub is_answered : ℕ → Bool
 is_answered n = between 0 9 n || between 11 27 n || n == 29 || n == no_room_number || n == strange_number
+
+-- Whatever a call comes to, by this, it answers one of them.
+abbrev pub AreAnswered : (Answer → Type 0) → Type 0
+AreAnswered Answers = (answer : Answer) → Answers answer → IsTrue (is_answered answer.number)
 
 -- ---- the interface
 

@@ -1,10 +1,9 @@
 -- Files of either kind, as programs in C see them.
-use Rattle.std.specs.Prelude.{ℕ, List, [], length}
+use Rattle.std.specs.Prelude.{ℕ, List, length}
 use Rattle.hunk_words.specs.Longs.{longs}
 use Rattle.hunk_words.specs.declared.fault.Fault.{Fault}
 use Rattle.hunk_grammar.specs.FileKind.{sniffed}
 use Rattle.hunk_files.specs.HunkFile.{AreFile, IsRefusal}
-use Rattle.hunk_files.specs.PlacedFindings.{PlacedFinding, placed_findings}
 use Rattle.hunk_files.specs.declared.hunk_file.HunkFile.{HunkFile}
 use Rattle.hunk_files.specs.declared.hunk_file.HunkFile.TheVariants as files
 
@@ -12,11 +11,6 @@ use Rattle.hunk_files.specs.declared.hunk_file.HunkFile.TheVariants as files
 abbrev pub hunks_in : HunkFile → ℕ
 hunks_in (files.Load value rest) = length value
 hunks_in (files.Object value) = 0
-
--- what is wrong with its offsets, each with the byte at which it stands
-abbrev pub findings_in : HunkFile → List PlacedFinding
-findings_in (files.Load value rest) = []
-findings_in (files.Object value) = placed_findings value
 
 -- No file is in front, and this is why.
 abbrev pub AreNoFile : List ℕ → Fault → Type 0

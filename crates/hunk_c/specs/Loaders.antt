@@ -4,9 +4,9 @@ use Rattle.hunk_words.specs.Limits.{content_limit, most_hunks, name_limit}
 use Rattle.hunk_words.specs.Reasons.{number_of}
 use Rattle.hunk_words.specs.declared.fault.Fault.{Fault}
 use Rattle.hunk_words.specs.declared.pending.Pending.{Pending}
-use Rattle.hunk_grammar.specs.declared.phase.OpenHunk.{OpenHunk}
-use Rattle.hunk_blocks.specs.declared.phase.Phase.{Phase}
-use Rattle.hunk_blocks.specs.declared.phase.Phase.TheVariants as phases
+use Rattle.hunk_grammar.specs.declared.position.OpenHunk.{OpenHunk}
+use Rattle.hunk_grammar.specs.declared.phase.Phase.{Phase}
+use Rattle.hunk_grammar.specs.declared.phase.Phase.TheVariants as phases
 use Rattle.hunk_grammar.specs.Positions.{is_done}
 use Rattle.hunk_grammar.specs.declared.position.Position.{Position}
 use Rattle.hunk_grammar.specs.declared.position.Position.TheVariants as positions
@@ -253,6 +253,10 @@ pub record MayHavePosition (l : Loader) (p : Position) : Type 0 where
 -- what is owed is so by the numbers, and may be
 abbrev pub OwesByPhase : Loader → Type 0
 OwesByPhase l = MatchOption (phase_in l.phase l.part l.owed) ⊥ (λ phase. HasPhase l phase × MayOwe (open_hunk l) phase)
+
+-- They are those of a loader that may stand at a phase, by its number.
+abbrev pub MayBeInBody : Loader → Type 0
+MayBeInBody l = MatchOption (phase_in l.phase l.part l.owed) ⊥ (λ phase. MayHavePosition l (positions.Body (open_hunk l) phase))
 
 -- A loader may stand so, or have stood so before a refusal.
 pub record MayHaveStood (l : Loader) : Type 0 where

@@ -1,11 +1,11 @@
 -- The units of an object file, in the caller's rows.
-use Rattle.std.specs.Prelude.{ℕ, ◌+◌, List, [], length}
+use Rattle.std.specs.Prelude.{ℕ, ◌+◌, ◌*◌, List, [], ◌∷◌, length}
 use Rattle.hunk_words.specs.Longs.{bytes_of}
 use Rattle.hunk_blocks.specs.NameText.{before_zero}
-use Rattle.hunk_files.specs.ObjectFile.{UnitValue, unit_text}
+use Rattle.hunk_files.specs.Items.{ItemValue, UnitItem, item_text}
+use Rattle.hunk_files.specs.ObjectFile.{UnitValue, unit_header}
+use Rattle.hunk_files.specs.StandingBlocks.{file_items}
 use Rattle.hunk_files.specs.declared.hunk_file.HunkFile.{HunkFile}
-use Rattle.hunk_files.specs.declared.hunk_file.HunkFile.TheVariants as files
-use Rattle.hunk_c.specs.Listing.{item_rows}
 use Rattle.hunk_c.specs.declared.units.UnitRow.{UnitRow}
 
 -- what the caller sees of a unit that begins at this byte: its name stands after its word and a count
@@ -18,7 +18,12 @@ unit_row place u = record {
   reserved = 0;
 }
 
--- those of all units, in file order; a load file has none
+-- those of the units among items, from this byte of the file on
+abbrev pub items_units : ℕ → List ItemValue → List UnitRow
+items_units place [] = []
+items_units place (UnitItem number u ∷ rest) = unit_row place u ∷ items_units (place + 4 * length (unit_header u.name)) rest
+items_units place (item ∷ rest) = items_units (place + 4 * length (item_text item)) rest
+
+-- those of all units of a file, in file order; among the items of a load file there are none
 abbrev pub units_in : HunkFile → List UnitRow
-units_in (files.Load hunks rest) = []
-units_in (files.Object units) = item_rows unit_row unit_text 0 units
+units_in file = items_units (file_items file).place (file_items file).value

@@ -4,19 +4,13 @@ ghost use Rattle.hunk_c.specs.Answers.{done, refused_hunk, no_room, refused, str
 
 use hunk_words::{Fault, Reason};
 
-/// What a call answers: 24 bytes, with no padding.
+/// What a call answers, `struct hunk_answer`: 24 bytes, with no padding.
 #[repr(C)]
-#[derive(Clone, Copy, Debug, PartialEq, Eq)]
+#[derive(Clone, Copy)]
 pub struct Answer {
-    /// 0, the number of a reason, 1 to 31, `NO_ROOM` or `STRANGE`.
     pub number: u32,
-    /// The hunks of a load file, or those that are whole while it is fed; the hunk without a base
-    /// where `number` is that of NoBase.
     pub hunk: u32,
-    /// The number of bytes that were read; the byte that is refused where `number` is a reason's.
     pub place: u64,
-    /// What the call counts, in elements of the caller's array or bytes: written, or needed where
-    /// there is no room.
     pub count: u64,
 }
 

@@ -3,73 +3,46 @@ ghost use Rattle.std.specs.Prelude.{◌≡◌, ◌+◌, ◌*◌, ◌≤◌, leng
 ghost use Rattle.std.specs.Option.{option_map};
 ghost use Rattle.hunk_words.specs.Longs.{longs};
 ghost use Rattle.hunk_blocks.specs.BodyViews.{viewed};
-ghost use Rattle.hunk_c.specs.Blocks.{block_row, block_rows, blocks_in, content, items};
-ghost use Rattle.hunk_c.specs.Blocks.{payload_of};
-ghost use Rattle.hunk_c.specs.Rows.{Tabulates, TabulatesWhatFits};
+ghost use Rattle.hunk_c.specs.Blocks.{block_row, block_rows, blocks_in, content, items, payload_of};
+ghost use Rattle.hunk_c.specs.Rows.{ListsWhatFits, Tabulates};
 
 use crate::answer::Answer;
 use crate::entries::list_entries;
-use crate::rows::{BlockTable, ByBlock, RowCount, tabulate};
+use crate::rows::{InBlock, RowCount, tabulate};
 use crate::symbols::list_symbols;
 use hunk_blocks::{BlockView, BodyView, Payload};
 use hunk_files::Takes;
 
-/// A block, and where it stands: 80 bytes, with no padding.
+/// A block of a hunk, `struct hunk_block`: 80 bytes, with no padding.
 #[repr(C)]
-#[derive(Clone, Copy, Debug, PartialEq, Eq)]
+#[derive(Clone, Copy)]
 pub struct BlockRow {
-    /// The byte of the file at which it begins.
     pub place: u64,
-    /// Its bytes in the file.
     pub bytes: u64,
-    /// The unit, counted from 0.
     pub unit: u64,
-    /// The hunk, counted from 0 in its unit.
     pub hunk: u64,
-    /// The byte of the file at which its content, its name or its data begins; 0 where it has none.
     pub content: u64,
-    /// How many bytes these are.
     pub content_bytes: u64,
-    /// The bytes of a CODE, DATA or BSS block in memory, else 0.
     pub memory: u64,
-    /// How many rows it has in the table of its items: offsets, symbols or entries.
     pub items: u64,
-    /// The type, its word without the top three bits: 0x3E9 is CODE.
     pub kind: u32,
-    /// The top three bits: 1 advisory, 2 chip memory, 4 fast memory.
     pub flags: u32,
-    /// 0: room for what later versions may tell.
     pub reserved: u64,
 }
 
-/// Lists the blocks of the object file that the bytes are, or of the load file that they begin
-/// with.
-///
-/// It writes a row for each block of each hunk, END too, in file order. The rows after them are as
-/// they were, and after a refusal all are. It answers the number of hunks of a load file, and 0 of
-/// an object file, the bytes of the file, and the number of blocks.
-///
-/// # Errors
-///
-/// The first fault of the bytes; `NO_ROOM` where there are fewer rows than blocks.
+/// Lists the blocks of each hunk of a file, END too.
 #[unsafe(no_mangle)]
 pub extern "C" fn hunk_blocks(bytes: &[u8], rows: &mut [BlockRow]) -> Answer
     ensures outcome { Tabulates blocks_in bytes.now rows.old rows.new result }
-    ensures succeeds { TabulatesWhatFits blocks_in (length rows.old) bytes.now result }
+    ensures succeeds { ListsWhatFits blocks_in (length rows.old) bytes.now result }
 {
-    tabulate(&ByBlock(BlockListing), bytes, rows)
+    tabulate(bytes, rows)
 }
 
-/// The blocks.
-#[derive(Drop)]
-struct BlockListing;
+impl InBlock for BlockRow {
+    ghost in_block = { block_rows };
 
-impl BlockTable for BlockListing {
-    type Row = BlockRow;
-
-    ghost rows = { block_rows };
-
-    fn list<T: Takes<BlockRow>>(&self, unit: u64, hunk: u64, block: BlockView<'_>, taker: &mut T) {
+    fn list<T: Takes<BlockRow>>(unit: u64, hunk: u64, block: BlockView<'_>, taker: &mut T) {
         taker.take(block_row(unit, hunk, &block));
     }
 }
@@ -96,7 +69,7 @@ fn block_row(unit: u64, hunk: u64, block: &BlockView<'_>) -> BlockRow
 }
 
 /// Bytes of the file.
-#[derive(Clone, Copy, Debug)]
+#[derive(Clone, Copy)]
 struct Span {
     place: u64,
     bytes: u64,

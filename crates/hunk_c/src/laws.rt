@@ -1,10 +1,10 @@
 //! Laws over what calls answer: each function does nothing, and its contract is the law.
-ghost use Rattle.std.specs.Prelude.{◌≡◌, ◌≤◌, ℕ, List, IsTrue, length};
+ghost use Rattle.std.specs.Prelude.{◌≡◌, ◌≤◌, ℕ, List, length};
 ghost use Rattle.hunk_files.specs.HunkFile.{IsFileOf, file_bytes};
 ghost use Rattle.hunk_files.specs.declared.hunk_file.HunkFile.{HunkFile};
 ghost use Rattle.hunk_files.specs.declared.row.Row.{Row};
 ghost use Rattle.hunk_scatter.specs.Placing.{Placing};
-ghost use Rattle.hunk_c.specs.Answers.{is_answered, strange};
+ghost use Rattle.hunk_c.specs.Answers.{AreAnswered, strange};
 ghost use Rattle.hunk_c.specs.Checks.{Checks};
 ghost use Rattle.hunk_c.specs.Loaders.{no_loader};
 ghost use Rattle.hunk_c.specs.Loads.{Loads};
@@ -20,34 +20,27 @@ ghost use Rattle.hunk_c.specs.declared.table.TableRow.{TableRow};
 
 /// No call answers the number of Advisory, FileLimit, Read or OutOfMemory.
 pub fn answered_numbers()
-    ensures table { (budget : ℕ) (bytes : List ℕ) (old new : List TableRow) (answer : Answer)
-        → Tables budget bytes old new answer → IsTrue (is_answered answer.number) }
-    ensures load { (base : Placing) (bytes old new : List ℕ) (answer : Answer)
-        → Loads base bytes old new answer → IsTrue (is_answered answer.number) }
+    ensures table { (budget : ℕ) (bytes : List ℕ) (old new : List TableRow)
+        → AreAnswered (Tables budget bytes old new) }
+    ensures load { (base : Placing) (bytes old new : List ℕ)
+        → AreAnswered (Loads base bytes old new) }
     ensures begin { (rows : List Row) (header : ℕ) (new : Loader) (memory after : List ℕ)
-        (answer : Answer) → Begins rows header new memory after answer
-        → IsTrue (is_answered answer.number) }
+        → AreAnswered (Begins rows header new memory after) }
     ensures feed { (rows : List Row) (old new : Loader) (memory after piece : List ℕ)
-        (answer : Answer) → Feeds rows old new memory after piece answer
-        → IsTrue (is_answered answer.number) }
-    ensures end { (l : Loader) (answer : Answer) → Ends l answer
-        → IsTrue (is_answered answer.number) }
-    ensures want { (l : Loader) (answer : Answer) → Wants l answer
-        → IsTrue (is_answered answer.number) }
-    ensures check { (bytes : List ℕ) (old new : List FindingRow) (answer : Answer)
-        → Checks bytes old new answer → IsTrue (is_answered answer.number) }
-    ensures strip { (bytes old new : List ℕ) (answer : Answer) → Strips bytes old new answer
-        → IsTrue (is_answered answer.number) }
-    ensures name { (number : ℕ) (old new : List ℕ) (answer : Answer)
-        → Names number old new answer → IsTrue (is_answered answer.number) }
-    ensures meaning { (number : ℕ) (old new : List ℕ) (answer : Answer)
-        → Means number old new answer → IsTrue (is_answered answer.number) }
+        → AreAnswered (Feeds rows old new memory after piece) }
+    ensures end { (l : Loader) → AreAnswered (Ends l) }
+    ensures want { (l : Loader) → AreAnswered (Wants l) }
+    ensures check { (bytes : List ℕ) (old new : List FindingRow)
+        → AreAnswered (Checks bytes old new) }
+    ensures strip { (bytes old new : List ℕ) → AreAnswered (Strips bytes old new) }
+    ensures name { (number : ℕ) (old new : List ℕ) → AreAnswered (Names number old new) }
+    ensures meaning { (number : ℕ) (old new : List ℕ) → AreAnswered (Means number old new) }
 {}
 
 /// Nor does a call that writes a row for each item.
 pub fn answered_numbers_of_items<T>()
-    ensures { (rows : HunkFile → List T) (bytes : List ℕ) (old new : List T) (answer : Answer)
-        → Tabulates rows bytes old new answer → IsTrue (is_answered answer.number) }
+    ensures { (rows : HunkFile → List T) (bytes : List ℕ) (old new : List T)
+        → AreAnswered (Tabulates rows bytes old new) }
 {}
 
 /// As many bytes as a file has are room for what is left of it.

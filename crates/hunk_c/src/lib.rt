@@ -1,4 +1,5 @@
-//! Hunk files for programs in C: `bindings/c/hunk.h` declares what is exported here.
+//! Hunk files for programs in C: `bindings/c/hunk.h` declares what is exported here, and tells what
+//! each call takes and answers, and each field.
 //!
 //! Each export is a thin layer over a library of this repository. It takes no memory, keeps nothing
 //! between two calls, hands out no pointer, and tests every number that it is given.
@@ -15,6 +16,7 @@ mod load;
 mod loader;
 mod name;
 mod packed;
+mod phases;
 mod places;
 mod reason;
 mod references;

@@ -14,14 +14,7 @@ use hunk_words::{Fault, Reason};
 
 /// Loads the load file that the bytes begin with, each hunk for the base of its number in `bases`.
 ///
-/// The segments go to the memory, one right after the other; what lies after them is as it was,
-/// and after a refusal all of it is. It answers the number of hunks, the bytes of the file, and
-/// those of the segments. The file is read to its end before the first byte is written.
-///
-/// # Errors
-///
-/// The first fault of the bytes; `NO_ROOM` where the segments need more memory than there is, and
-/// NoBase of the first hunk that has no base, both before a byte of the body is read.
+/// The file is read to its end before the first byte of the memory is written.
 #[unsafe(no_mangle)]
 pub extern "C" fn hunk_load(bytes: &[u8], bases: &[u32], memory: &mut [u8]) -> Answer
     ensures outcome { Loads (listed_in bases.now) bytes.now memory.old memory.new result }
@@ -39,11 +32,7 @@ pub extern "C" fn hunk_load(bytes: &[u8], bases: &[u32], memory: &mut [u8]) -> A
     load_at(bytes, size, memory, &mut bases)
 }
 
-/// Loads the load file that the bytes begin with, for hunks one right after the other from `base`
-/// on, as they then lie in the memory.
-///
-/// All else is as `hunk_load` does it. NoBase is the answer for the first hunk that passes the end
-/// of the address space of 32 bits.
+/// The same for hunks one right after the other from `base` on, as they then lie in the memory.
 #[unsafe(no_mangle)]
 pub extern "C" fn hunk_load_packed(bytes: &[u8], base: u32, memory: &mut [u8]) -> Answer
     ensures outcome { Loads (packed_from base) bytes.now memory.old memory.new result }
@@ -99,7 +88,7 @@ fn load_at<B: Bases>(bytes: &[u8], size: HeaderSize, memory: &mut [u8], bases: &
 {
     let (file, read) = match LoadView::read(bytes) {
         Ok(found) => found,
-        Err(fault) => return refused(fault),
+        Err(refusal) => return refused(refusal.fault),
     };
     file.fill_images(&mut memory[..size.declared as usize], bases);
     done(size.hunks, read as u64, size.declared)

@@ -1,23 +1,17 @@
 //! A loader in numbers, which its caller keeps.
-ghost use Rattle.std.specs.Prelude.{◌≡◌, ◌+◌, ◌≤◌, false, true, ℕ, List, IfErr, IfOk};
-ghost use Rattle.std.specs.Prelude.{MatchOption};
+ghost use Rattle.std.specs.Prelude.{◌≡◌, ◌≤◌, ◌↔◌, false, true, ℕ, List, IfErr, IfOk, IsTrue, MatchOption};
 ghost use Rattle.hunk_words.specs.declared.fault.Fault.{Fault};
 ghost use Rattle.hunk_grammar.specs.Positions.{is_done};
-ghost use Rattle.hunk_grammar.specs.declared.position.Position.{Position};
 ghost use Rattle.hunk_grammar.specs.declared.position.Position.TheVariants as positions;
 ghost use Rattle.hunk_files.specs.declared.row.Row.{Row};
 ghost use Rattle.hunk_scatter.specs.Streaming.{IsFed};
-ghost use Rattle.hunk_scatter.specs.declared.stream.Standing.{Standing};
-ghost use Rattle.hunk_c.specs.Loaders.{CountsBytes, MayHavePosition, MayHaveStood, OwesByPhase};
+ghost use Rattle.hunk_c.specs.Loaders.{CountsBytes, MayBeInBody, MayHavePosition, MayHaveStood};
+ghost use Rattle.hunk_c.specs.Loaders.{OwesByPhase, StandsAt, TellsAgain, TellsFault, TellsNone};
+ghost use Rattle.hunk_c.specs.Loaders.{least_file, loader_at, loader_position, open_hunk, refusing, standing_in, whole};
 ghost use Rattle.hunk_c.specs.Streams.{PassesOver};
-ghost use Rattle.hunk_c.specs.Loaders.{StandsAt, TellsAgain, TellsFault, TellsNone};
-ghost use Rattle.hunk_c.specs.Loaders.{hunk_of};
-ghost use Rattle.hunk_c.specs.Loaders.{least_file, loader_at, loader_position};
-ghost use Rattle.hunk_c.specs.Loaders.{open_hunk, phase_in};
-ghost use Rattle.hunk_c.specs.Loaders.{phase_numbers, position_numbers, refusing, standing_in};
-ghost use Rattle.hunk_c.specs.Loaders.{whole};
 
 use crate::answer::{Answer, refused, strange};
+use crate::phases::{PAYLOAD, WHOLE, numbers_of, phase_in};
 use hunk_files::Row;
 use hunk_grammar::{OpenHunk, Phase, Position};
 use hunk_scatter::stream::{BodyState, Pending, Standing};
@@ -28,7 +22,7 @@ use hunk_words::{CONTENT_LIMIT, Fault, MOST_HUNKS, NAME_LIMIT, Reason};
 /// Any numbers may stand here. Zeros are answered by `STRANGE`, and so are those that lead out of
 /// the rows or the memory.
 #[repr(C)]
-#[derive(Clone, Copy, Debug, PartialEq, Eq)]
+#[derive(Clone, Copy)]
 pub struct Loader {
     /// The byte of the memory where the open hunk begins; after the last hunk, the bytes of all.
     pub start: u64,
@@ -90,12 +84,6 @@ pub(crate) const NO_LOADER: Loader = Loader {
     reserved: UNUSED,
 };
 
-/// The phase of a loader inside a payload.
-const PAYLOAD: u32 = 8;
-
-/// The phase of a loader whose file is whole.
-const WHOLE: u32 = 14;
-
 impl Loader {
     /// The numbers of where a loader stands.
     #[inline(always)]
@@ -106,9 +94,6 @@ impl Loader {
         Loader {
             start: at.state.start,
             fed: at.fed,
-            place: 0,
-            refused: 0,
-            refused_hunk: 0,
             hunk: at.state.hunk,
             hunks: hunk.hunks,
             ahead: hunk.ahead,
@@ -120,7 +105,7 @@ impl Loader {
             first: at.pending.first,
             second: at.pending.second,
             third: at.pending.third,
-            reserved: UNUSED,
+            ..NO_LOADER
         }
     }
 
@@ -224,8 +209,7 @@ impl Loader {
     /// Whether the numbers tell no refusal.
     #[inline(always)]
     fn is_clean(&self) -> bool
-        ensures sound { result ≡ true → TellsNone self.now }
-        ensures complete { TellsNone self.now → result ≡ true }
+        ensures { IsTrue result ↔ TellsNone self.now }
     {
         self.place == 0 && self.refused == 0 && self.refused_hunk == 0
     }
@@ -233,8 +217,7 @@ impl Loader {
     /// Whether a loader may stand so, or have stood so before a refusal.
     #[inline(never)]
     fn has_stood(&self) -> bool
-        ensures sound { result ≡ true → MayHaveStood self.now }
-        ensures complete { MayHaveStood self.now → result ≡ true }
+        ensures { IsTrue result ↔ MayHaveStood self.now }
     {
         if !self.counts_bytes() {
             return false;
@@ -271,10 +254,7 @@ impl Loader {
         ensures { MatchOption result ((fault : Fault) → TellsFault self.now fault → ⊥)
             (TellsFault self.now) }
     {
-        let is_of_body = match self.refused {
-            3 | 9 | 11..=24 => true,
-            _ => false,
-        };
+        let is_of_body = matches!(self.refused, 3 | 9 | 11..=24);
         if !is_of_body || self.refused_hunk > 0 || self.place % 4 > 0 {
             return None;
         }
@@ -288,9 +268,7 @@ impl Loader {
     /// Whether bytes are pending as they were fed, after whole longwords.
     #[inline(always)]
     fn counts_bytes(&self) -> bool
-        ensures sound { result ≡ true → CountsBytes self.now.start self.now.fed self.now.pending }
-        ensures complete { CountsBytes self.now.start self.now.fed self.now.pending
-            → result ≡ true }
+        ensures { IsTrue result ↔ CountsBytes self.now.start self.now.fed self.now.pending }
     {
         if self.start % 4 > 0 {
             return false;
@@ -317,8 +295,7 @@ impl Loader {
     #[inline(always)]
     fn may_be_whole(&self) -> bool
         requires { self.now.phase ≡ whole }
-        ensures sound { result ≡ true → MayHavePosition self.now positions.Done }
-        ensures complete { MayHavePosition self.now positions.Done → result ≡ true }
+        ensures { IsTrue result ↔ MayHavePosition self.now positions.Done }
     {
         let is_closed = self.hunks == 0 && self.ahead == 0 && self.has_content == 0;
         let owes_none = self.part == 0 && self.owed == 0 && self.pending == 0;
@@ -343,12 +320,7 @@ impl Loader {
     /// Whether a loader may have these numbers where a hunk is open.
     #[inline(always)]
     fn may_be_open(&self) -> bool
-        ensures sound { result ≡ true → MatchOption (phase_in self.now.phase self.now.part
-            self.now.owed) ⊥ (λ phase. MayHavePosition self.now (positions.Body (open_hunk self.now)
-            phase)) }
-        ensures complete { MatchOption (phase_in self.now.phase self.now.part self.now.owed) ⊥
-            (λ phase. MayHavePosition self.now (positions.Body (open_hunk self.now) phase))
-            → result ≡ true }
+        ensures { IsTrue result ↔ MayBeInBody self.now }
     {
         if self.has_content > 1 || self.hunks > MOST_HUNKS {
             return false;
@@ -362,8 +334,7 @@ impl Loader {
     /// Whether so much may be owed at this phase.
     #[inline(always)]
     fn may_owe(&self) -> bool
-        ensures sound { result ≡ true → OwesByPhase self.now }
-        ensures complete { OwesByPhase self.now → result ≡ true }
+        ensures { IsTrue result ↔ OwesByPhase self.now }
     {
         let owes_none = self.part == 0 && self.owed == 0;
         match self.phase {
@@ -405,80 +376,5 @@ pub(crate) fn ends_early(at: &Standing) -> bool
     match at.state.position {
         Position::Done => at.fed < least_file(at.state.hunk),
         _ => false,
-    }
-}
-
-/// The phase of a number, with the longwords of a content or the target of offsets, and what is
-/// owed.
-#[inline(always)]
-fn phase_in(number: u32, part: u32, owed: u32) -> Option<Phase>
-    ensures { result ≡ phase_in number part owed }
-{
-    match number {
-        1 => Some(Phase::FirstBlock),
-        2 => Some(Phase::BlockWord),
-        3 => Some(Phase::NameCount),
-        4 => Some(Phase::LongCount),
-        5 => Some(Phase::ContentSize),
-        6 => Some(Phase::BssSize),
-        7 => Some(Phase::Content { longs: part, owed }),
-        8 => Some(Phase::Payload { owed }),
-        9 => Some(Phase::GroupCount),
-        10 => Some(Phase::Target { owed }),
-        11 => Some(Phase::Offset { target: part, owed }),
-        12 => Some(Phase::EntryWord),
-        13 => Some(Phase::Symbol { owed }),
-        _ => None,
-    }
-}
-
-/// The number of a phase, with the longwords of a content or the target of offsets, and what is
-/// owed.
-#[inline(always)]
-fn phase_numbers(phase: Phase) -> (u32, u32, u32)
-    ensures { result ≡ phase_numbers phase }
-{
-    match phase {
-        Phase::FirstBlock => (1, 0, 0),
-        Phase::BlockWord => (2, 0, 0),
-        Phase::NameCount => (3, 0, 0),
-        Phase::LongCount => (4, 0, 0),
-        Phase::ContentSize => (5, 0, 0),
-        Phase::BssSize => (6, 0, 0),
-        Phase::Content { longs, owed } => (7, longs, owed),
-        Phase::Payload { owed } => (8, 0, owed),
-        Phase::GroupCount => (9, 0, 0),
-        Phase::Target { owed } => (10, 0, owed),
-        Phase::Offset { target, owed } => (11, target, owed),
-        Phase::EntryWord => (12, 0, 0),
-        Phase::Symbol { owed } => (13, 0, owed),
-        // Nothing is external in a load file: the number of no phase.
-        Phase::ExtWord | Phase::ExtFront { .. } | Phase::ExtCount | Phase::ExtRest { .. } => {
-            (0, 0, 0)
-        }
-    }
-}
-
-/// The open hunk, and the numbers of its phase. In a header and in EXT, where no loader of a body
-/// stands, the number is that of no phase.
-#[inline(always)]
-fn numbers_of(position: Position) -> (OpenHunk, u32, u32, u32)
-    ensures hunk { result.0 ≡ hunk_of position }
-    ensures phase { result.1 ≡ (position_numbers position).0 }
-    ensures part { result.2 ≡ (position_numbers position).1 }
-    ensures owed { result.3 ≡ (position_numbers position).2 }
-{
-    let none = OpenHunk {
-        hunks: 0,
-        ahead: 0,
-        has_content: false,
-    };
-    match position {
-        Position::Body(hunk, phase) => {
-            let (number, part, owed) = phase_numbers(phase);
-            (hunk, number, part, owed)
-        }
-        Position::Done => (none, WHOLE, 0, 0),
-        _ => (none, 0, 0, 0),
     }
 }

@@ -4,8 +4,7 @@ ghost use Rattle.hunk_files.specs.LoadFile.{TableEntry};
 ghost use Rattle.hunk_scatter.specs.HeaderBytes.{BeginsWithHeader};
 ghost use Rattle.hunk_scatter.specs.Placing.{IsFirstUnplaced, packed_from};
 ghost use Rattle.hunk_c.specs.Loads.{AreBasesOf};
-ghost use Rattle.hunk_c.specs.Packs.{AreMarksTo, AreNearTo, ArePacked, HasRow, IsRow};
-ghost use Rattle.hunk_c.specs.Packs.{bases_in, hunks_a_mark, most_marks};
+ghost use Rattle.hunk_c.specs.Packs.{AreMarksTo, AreNearTo, ArePacked, HasRow, IsRow, bases_in, hunks_a_mark, most_marks};
 ghost use Rattle.hunk_c.specs.Tables.{BeginsWithTableOf};
 
 use hunk_files::Bases;
@@ -132,10 +131,7 @@ pub(crate) fn place_marks(
     };
     'placing: for hunk in 0..hunks {
         let after = next_row(bytes, place);
-        if place.base >= END {
-            return Err(hunk);
-        }
-        if after.base > END {
+        if place.base >= END || after.base > END {
             return Err(hunk);
         }
         put_mark(marks, hunk as usize, place);

@@ -1,5 +1,5 @@
 //! What the rows of a stream come to as a table: its header, and its hunks.
-ghost use Rattle.std.specs.Prelude.{◌≡◌, true, MatchOption};
+ghost use Rattle.std.specs.Prelude.{◌↔◌, IsTrue, MatchOption};
 ghost use Rattle.hunk_files.specs.LoadFile.{IsTableEntry};
 ghost use Rattle.hunk_scatter.specs.HeaderBytes.{IsHeaderTable};
 ghost use Rattle.hunk_files.specs.Tables.{row_entry};
@@ -12,8 +12,7 @@ use hunk_words::{MOST_HUNKS, SizeWord};
 
 /// Whether a header can declare the row: attributes stand only where both bits of the memory do.
 fn is_entry(row: Row) -> bool
-    ensures sound { result ≡ true → IsTableEntry (row_entry row) }
-    ensures complete { IsTableEntry (row_entry row) → result ≡ true }
+    ensures { IsTrue result ↔ IsTableEntry (row_entry row) }
 {
     SizeWord::has_extra(row.word) || row.extra == 0
 }

@@ -4,14 +4,7 @@ ghost use Rattle.hunk_c.specs.Names.{IsMeaningOf, IsNameOf, Means, Names, PutsTe
 use crate::answer::{Answer, NO_ROOM, STRANGE, done, no_room};
 use hunk_words::Reason;
 
-/// Writes the name of an answer's number to the text, with no zero after it.
-///
-/// 0 and numbers above 33 have the empty name. It answers the bytes of the name, at most 17. What
-/// lies after the name is as it was.
-///
-/// # Errors
-///
-/// `NO_ROOM` where the name is longer than the text, which is then as it was.
+/// Writes the name of an answer's number to the text.
 #[unsafe(no_mangle)]
 pub extern "C" fn hunk_reason(number: u32, text: &mut [u8]) -> Answer
     ensures { Names number text.old text.new result }
@@ -19,10 +12,7 @@ pub extern "C" fn hunk_reason(number: u32, text: &mut [u8]) -> Answer
     put_words(name_of_number(number), text)
 }
 
-/// Writes what an answer's number means to the text, with no zero after it: a sentence without a
-/// full stop, at most 75 bytes, which the answer counts. 0 and numbers above 33 have none.
-///
-/// All else is as `hunk_reason` does it.
+/// Writes what an answer's number means to the text.
 #[unsafe(no_mangle)]
 pub extern "C" fn hunk_reason_text(number: u32, text: &mut [u8]) -> Answer
     ensures { Means number text.old text.new result }

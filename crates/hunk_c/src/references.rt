@@ -4,59 +4,38 @@ ghost use Rattle.std.specs.List.{AllByRecursion};
 ghost use Rattle.hunk_words.specs.Carriers.{saturated};
 ghost use Rattle.hunk_blocks.specs.Values.{IsExtEntry};
 ghost use Rattle.hunk_c.specs.Listing.{item_rows};
-ghost use Rattle.hunk_c.specs.References.{body_entries, body_references, entries_references};
-ghost use Rattle.hunk_c.specs.References.{long_text, reference_row, references_in};
-ghost use Rattle.hunk_c.specs.Rows.{Tabulates, TabulatesWhatFits};
+ghost use Rattle.hunk_c.specs.References.{body_entries, body_references, entries_references, long_text, reference_row, references_in};
+ghost use Rattle.hunk_c.specs.Rows.{ListsWhatFits, Tabulates};
 
 use crate::answer::Answer;
-use crate::rows::{Table, tabulate};
+use crate::rows::{FileRow, tabulate};
 use hunk_blocks::{BlockView, BodyView, EntriesIter, Longs};
 use hunk_files::{FileView, Item, Takes, reference_width};
 
-/// An offset that refers to what an EXT entry names: 32 bytes, with no padding.
+/// An offset of an EXT entry, `struct hunk_reference`: 32 bytes, with no padding.
 #[repr(C)]
-#[derive(Clone, Copy, Debug, PartialEq, Eq)]
+#[derive(Clone, Copy)]
 pub struct ReferenceRow {
-    /// The entry: the number of its row in the table of entries, from 0.
     pub entry: u64,
-    /// The byte of the file at which the offset stands.
     pub place: u64,
-    /// The offset, in bytes from the start of the hunk.
     pub offset: u32,
-    /// How many bytes refer: 1, 2 or 4.
     pub width: u32,
-    /// 0: room for what later versions may tell.
     pub reserved: u64,
 }
 
-/// Lists the references of the EXT entries of the object file that the bytes are; a load file has
-/// none.
-///
-/// It writes a row for each offset, in file order. The rows after them are as they were, and after
-/// a refusal all are. It answers the number of hunks of a load file, and 0 of an object file, the
-/// bytes of the file, and the number of references.
-///
-/// # Errors
-///
-/// The first fault of the bytes; `NO_ROOM` where there are fewer rows than references.
+/// Lists the offsets of the EXT entries of an object file; a load file has none.
 #[unsafe(no_mangle)]
 pub extern "C" fn hunk_references(bytes: &[u8], rows: &mut [ReferenceRow]) -> Answer
     ensures outcome { Tabulates references_in bytes.now rows.old rows.new result }
-    ensures succeeds { TabulatesWhatFits references_in (length rows.old) bytes.now result }
+    ensures succeeds { ListsWhatFits references_in (length rows.old) bytes.now result }
 {
-    tabulate(&ReferenceTable, bytes, rows)
+    tabulate(bytes, rows)
 }
 
-/// The references.
-#[derive(Drop)]
-struct ReferenceTable;
-
-impl Table for ReferenceTable {
-    type Row = ReferenceRow;
-
+impl FileRow for ReferenceRow {
     ghost rows = { references_in };
 
-    fn list_file<T: Takes<ReferenceRow>>(&self, file: &FileView<'_>, taker: &mut T) {
+    fn list_file<T: Takes<ReferenceRow>>(file: &FileView<'_>, taker: &mut T) {
         // The number of the next entry, up to 2 ^ 64 - 1.
         let mut number = 0;
         'listing: for item in file.items() {
@@ -96,13 +75,8 @@ fn list_entries<T: Takes<ReferenceRow>>(
 {
     let mut number = first;
     'listing: while let Some(entry) = entries.next() {
-        list_references(
-            taker,
-            number,
-            reference_width(&entry) as u32,
-            &entry.offsets,
-            entries.place(),
-        );
+        let width = reference_width(&entry) as u32;
+        list_references(taker, number, width, &entry.offsets, entries.place());
         number = number.saturating_add(1);
     }
     number

@@ -3,10 +3,11 @@ ghost use Rattle.std.specs.Prelude.{◌≡◌, ◌<◌, ◌^◌, List, length};
 ghost use Rattle.std.proofs.Common.{◌∙◌, refl};
 ghost use Rattle.hunk_words.specs.Carriers.{saturated};
 ghost use Rattle.hunk_files.specs.FileView.{file_of};
+ghost use Rattle.hunk_files.specs.HunkFile.{IsFileOf};
 ghost use Rattle.hunk_files.specs.StandingBlocks.{StandingBlock};
 ghost use Rattle.hunk_files.specs.declared.hunk_file.HunkFile.{HunkFile};
 ghost use Rattle.hunk_c.specs.Counting.{Counts, counts_none, counts_more};
-ghost use Rattle.hunk_c.specs.Rows.{Tabulates, TabulatesWhatFits, rows_in};
+ghost use Rattle.hunk_c.specs.Rows.{ListsWhatFits, Tabulates, rows_in};
 ghost use Rattle.hunk_c.specs.Filling.{Fills, fills_none, fills_more};
 
 use crate::answer::{Answer, done, no_room, refused};
@@ -14,42 +15,33 @@ use crate::file::hunks_in;
 use hunk_blocks::BlockView;
 use hunk_files::{FileView, Item, Takes};
 
-/// What stands in a file, as rows.
-pub(crate) trait Table {
-    type Row: Copy + Drop;
-
-    ghost rows: { HunkFile → List Self.Row };
+/// A row of what stands in a file.
+pub(crate) trait FileRow: Copy + Drop {
+    ghost rows: { HunkFile → List Self };
 
     /// Hands over a row for each thing, in file order.
-    fn list_file<T: Takes<Self::Row>>(&self, file: &FileView<'_>, taker: &mut T)
+    fn list_file<T: Takes<Self>>(file: &FileView<'_>, taker: &mut T)
         ensures { T.takes taker.old (rows (file_of file.now)) taker.new };
 }
 
-/// What stands in the blocks of a file, as rows.
-pub(crate) trait BlockTable {
-    type Row: Copy + Drop;
-
-    ghost rows: { StandingBlock → List Self.Row };
+/// A row of what stands in a block.
+pub(crate) trait InBlock: Copy + Drop {
+    ghost in_block: { StandingBlock → List Self };
 
     /// Hands over a row for each thing in this block of a hunk of a unit.
-    fn list<T: Takes<Self::Row>>(&self, unit: u64, hunk: u64, block: BlockView<'_>, taker: &mut T)
+    fn list<T: Takes<Self>>(unit: u64, hunk: u64, block: BlockView<'_>, taker: &mut T)
         ensures { T.takes taker.old
-            (rows (record { unit = unit; hunk = hunk; block = block.entry })) taker.new };
+            (in_block (record { unit = unit; hunk = hunk; block = block.entry })) taker.new };
 }
 
 /// The rows of all blocks, one block after the other.
-#[derive(Drop)]
-pub(crate) struct ByBlock<B>(pub(crate) B);
+impl<R: InBlock> FileRow for R {
+    ghost rows = { rows_in R.in_block };
 
-impl<B: BlockTable> Table for ByBlock<B> {
-    type Row = B::Row;
-
-    ghost rows = { rows_in B.rows };
-
-    fn list_file<T: Takes<B::Row>>(&self, file: &FileView<'_>, taker: &mut T) {
+    fn list_file<T: Takes<R>>(file: &FileView<'_>, taker: &mut T) {
         'listing: for item in file.items() {
             if let Item::Block { unit, hunk, view } = item {
-                self.0.list(unit, hunk, view, taker);
+                R::list(unit, hunk, view, taker);
             }
         }
     }
@@ -102,45 +94,64 @@ impl<R: Copy + Drop> Takes<R> for RowFiller<'_, R> {
 
 /// Writes the rows of the file that the bytes are, or begin with, to the caller's.
 ///
-/// They are counted first, and then, where there are any, listed again. The rows after them are as
-/// they were, and after a refusal all are.
+/// They are counted first, and then, where there are any, listed again.
 ///
 /// # Errors
 ///
 /// The first fault of the bytes; `NO_ROOM` where the caller has too few rows.
-pub(crate) fn tabulate<A: Table>(table: &A, bytes: &[u8], rows: &mut [A::Row]) -> Answer
+pub(crate) fn tabulate<R: FileRow>(bytes: &[u8], rows: &mut [R]) -> Answer
     requires { length rows.old < 2 ^ 63 }
-    ensures outcome { Tabulates A.rows bytes.now rows.old rows.new result }
-    ensures succeeds { TabulatesWhatFits A.rows (length rows.old) bytes.now result }
+    ensures outcome { Tabulates R.rows bytes.now rows.old rows.new result }
+    ensures succeeds { ListsWhatFits R.rows (length rows.old) bytes.now result }
 {
-    let file = match FileView::read(bytes) {
-        Ok(file) => file,
-        Err(fault) => return refused(fault),
-    };
-    let hunks = hunks_in(&file);
+    match FileView::read(bytes) {
+        Ok(file) => write_rows(bytes, &file, count_rows::<R>(&file), rows),
+        Err(refusal) => refused(refusal.fault),
+    }
+}
+
+/// Writes the rows of the file that the bytes are, or begin with, whose count is known.
+pub(crate) fn write_rows<R: FileRow>(
+    bytes: &[u8],
+    file: &FileView<'_>,
+    count: u64,
+    rows: &mut [R],
+) -> Answer
+    requires file { IsFileOf bytes.now (file_of file.now) }
+    requires count { count ≡ saturated (length (R.rows (file_of file.now))) }
+    requires small { length rows.old < 2 ^ 63 }
+    ensures outcome { Tabulates R.rows bytes.now rows.old rows.new result }
+    ensures succeeds { ListsWhatFits R.rows (length rows.old) bytes.now result }
+{
+    let hunks = hunks_in(file);
     let size = bytes.len() as u64 - file.rest();
-    let count = count_rows(table, &file);
     if count > rows.len() as u64 {
         return no_room(hunks, size, count);
     }
-    put_rows(table, &file, &mut rows[..count as usize]);
+    put_rows(file, &mut rows[..count as usize]);
     done(hunks, size, count)
 }
 
 /// How many rows there are, up to 2 ^ 64 - 1.
-fn count_rows<A: Table>(table: &A, file: &FileView<'_>) -> u64
-    ensures { result ≡ saturated (length (A.rows (file_of file.now))) }
+#[inline(never)]
+fn count_rows<R: FileRow>(file: &FileView<'_>) -> u64
+    ensures { result ≡ saturated (length (R.rows (file_of file.now))) }
 {
     let mut counter = RowCount { count: 0 };
-    table.list_file(file, &mut counter);
+    R::list_file(file, &mut counter);
     counter.count
 }
 
 /// Writes the row of each thing.
-fn put_rows<A: Table>(table: &A, file: &FileView<'_>, rows: &mut [A::Row])
-    requires { length rows.old ≡ length (A.rows (file_of file.now)) }
-    ensures { rows.new ≡ A.rows (file_of file.now) }
+#[inline(never)]
+fn put_rows<R: FileRow>(file: &FileView<'_>, rows: &mut [R])
+    requires { length rows.old ≡ length (R.rows (file_of file.now)) }
+    ensures { rows.new ≡ R.rows (file_of file.now) }
 {
+    // Nothing is looked for again where nothing was found.
+    if rows.is_empty() {
+        return;
+    }
     let mut filler = RowFiller { rows, at: 0 };
-    table.list_file(file, &mut filler);
+    R::list_file(file, &mut filler);
 }

@@ -11,16 +11,7 @@ use hunk_files::Row;
 use hunk_scatter::stream::{Stop, begin, feed_piece};
 use hunk_words::{Fault, Reason};
 
-/// Fills the memory with zero bytes, and sets a loader to the end of the header of the table in
-/// `rows`; `header` is the length of that header in bytes.
-///
-/// It answers the number of hunks, the bytes of the header, and those of the memory.
-///
-/// # Errors
-///
-/// `NO_ROOM` where the hunks have more bytes than the memory, and how many they have; `STRANGE`
-/// where they have fewer, or the rows are not those of a table whose header is `header` bytes long.
-/// The memory is then as it was, and the loader's numbers are those of no loader.
+/// Sets a loader to the end of the header of the table in `rows`, and the memory to zero bytes.
 #[unsafe(no_mangle)]
 pub extern "C" fn hunk_begin(
     loader: &mut Loader,
@@ -34,30 +25,18 @@ pub extern "C" fn hunk_begin(
     let Some((size, bytes)) = table_sizes(rows) else {
         return strange();
     };
-    if header != size {
+    let room = memory.len() as u64;
+    if header != size || room > bytes {
         return strange();
     }
-    let room = memory.len() as u64;
     if room < bytes {
         return no_room(rows.len() as u32, header, bytes);
-    }
-    if room > bytes {
-        return strange();
     }
     *loader = Loader::of(begin(memory, rows, header));
     done(rows.len() as u32, header, bytes)
 }
 
 /// Takes the piece, or up to the end of the file where that stands inside it.
-///
-/// It answers the number of whole hunks, the bytes of header and body so far, 2^64 - 1 at most, and
-/// those of the piece that were taken: fewer than there are where the file is whole. The memory is
-/// as the longwords so far leave it.
-///
-/// # Errors
-///
-/// The first fault of all that was fed, and then the same again, whatever is fed; `STRANGE` where
-/// the loader's numbers are none that a loader with these rows and this memory may have.
 #[unsafe(no_mangle)]
 pub extern "C" fn hunk_feed(
     loader: &mut Loader,
@@ -94,14 +73,7 @@ pub extern "C" fn hunk_feed(
     }
 }
 
-/// Whether the file is whole. Where it is, the memory is its hunks, one right after the other, each
-/// as it lies at the base of its row.
-///
-/// It answers the number of hunks, the bytes of the file, and those of the hunks.
-///
-/// # Errors
-///
-/// Truncated where more of the file is to come; an earlier refusal; `STRANGE`, as a feed does.
+/// Whether the file is whole, and the memory its hunks.
 #[unsafe(no_mangle)]
 pub extern "C" fn hunk_end(loader: &Loader) -> Answer
     ensures { Ends loader.now result }
@@ -119,15 +91,7 @@ pub extern "C" fn hunk_end(loader: &Loader) -> Answer
     })
 }
 
-/// How many bytes the file still has, at least: as many may be asked of a pipe on which something
-/// else follows it. 0 where the file is whole.
-///
-/// It answers the number of whole hunks, the bytes of header and body so far, 2^64 - 1 at most, and
-/// those that are to come.
-///
-/// # Errors
-///
-/// An earlier refusal; `STRANGE`, as an end does.
+/// How many bytes the file still has, at least.
 #[unsafe(no_mangle)]
 pub extern "C" fn hunk_want(loader: &Loader) -> Answer
     ensures { Wants loader.now result }

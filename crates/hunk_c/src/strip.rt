@@ -5,31 +5,22 @@ ghost use Rattle.hunk_files.specs.FileView.{file_of};
 ghost use Rattle.hunk_files.specs.HunkFile.{file_bytes};
 ghost use Rattle.hunk_c.specs.Copying.{Copies, copies_none, copies_more};
 ghost use Rattle.hunk_c.specs.Counting.{Counts, counts_none, counts_more};
-ghost use Rattle.hunk_c.specs.Strips.{Strips, StripsWhatFits, stripped_bytes};
+ghost use Rattle.hunk_c.specs.Rows.{ListsWhatFits};
+ghost use Rattle.hunk_c.specs.Strips.{Strips, stripped_bytes};
 
 use crate::answer::{Answer, done, no_room, refused};
 use crate::file::hunks_in;
 use hunk_files::{FileView, TakesBytes};
 
-/// Writes the object file that the bytes are, or the load file that they begin with, to the text,
-/// without its NAME, SYMBOL, DEBUG and ADVISORY blocks.
-///
-/// What follows a load file is left out. The text after what is written is as it was, and after a
-/// refusal all of it is. It answers the number of hunks of a load file, and 0 of an object file,
-/// the bytes of the file, and those of what was written, which are no more. Where the text is
-/// shorter than the file, what stays is counted before it is copied.
-///
-/// # Errors
-///
-/// The first fault of the bytes; `NO_ROOM` where the text is too short.
+/// Copies the file to the text, without its NAME, SYMBOL, DEBUG and ADVISORY blocks.
 #[unsafe(no_mangle)]
 pub extern "C" fn hunk_strip(bytes: &[u8], text: &mut [u8]) -> Answer
     ensures outcome { Strips bytes.now text.old text.new result }
-    ensures succeeds { StripsWhatFits (length text.old) bytes.now result }
+    ensures succeeds { ListsWhatFits stripped_bytes (length text.old) bytes.now result }
 {
     let file = match FileView::read(bytes) {
         Ok(file) => file,
-        Err(fault) => return refused(fault),
+        Err(refusal) => return refused(refusal.fault),
     };
     let hunks = hunks_in(&file);
     let size = bytes.len() as u64 - file.rest();
@@ -71,7 +62,7 @@ fn count_stripped(file: &FileView<'_>) -> u64
 
 /// Writes the file without those blocks to the front of the text, and gives the number of its
 /// bytes. The text after them is as it was.
-#[tactic(auto, using(crate::proofs::Checked::copied))]
+#[tactic(auto, using(crate::proofs::Tabulated::copied))]
 fn copy_stripped(file: &FileView<'_>, text: &mut [u8]) -> usize
     requires { length (stripped_bytes (file_of file.now)) ≤ length text.old }
     ensures count { result ≡ length (stripped_bytes (file_of file.now)) }

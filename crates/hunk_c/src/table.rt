@@ -9,30 +9,17 @@ use hunk_grammar::TABLE_AT;
 use hunk_scatter::stream::header_size;
 use hunk_words::{CONTENT_LIMIT, SizeWord};
 
-/// What a header declares of a hunk: 16 bytes, with no padding.
+/// What a header declares of a hunk, `struct hunk_row`: 16 bytes, with no padding.
 #[repr(C)]
-#[derive(Clone, Copy, Debug, PartialEq, Eq)]
+#[derive(Clone, Copy)]
 pub struct TableRow {
-    /// The size word.
     pub word: u32,
-    /// The memory attributes, where `memory` is 3; else 0.
     pub extra: u32,
-    /// The declared bytes: 4 times the low 30 bits of the size word.
     pub bytes: u32,
-    /// The memory: 0 any, 1 chip, 2 fast, 3 by the attributes.
     pub memory: u32,
 }
 
-/// Writes the table of the header that the bytes begin with to the rows, one for each hunk.
-///
-/// Bytes after the header are not read, so a first part of a file will do. The rows after the
-/// table are as they were, and after a refusal all are. It answers the number of hunks, the bytes
-/// of the header, and those that the hunks declare together.
-///
-/// # Errors
-///
-/// The first fault of the header; Budget where it declares more than `budget` bytes; Truncated
-/// where the bytes end inside it; `NO_ROOM` where there are fewer rows than hunks.
+/// Lists what the header that the bytes begin with declares of each hunk.
 #[unsafe(no_mangle)]
 pub extern "C" fn hunk_table(bytes: &[u8], budget: u64, rows: &mut [TableRow]) -> Answer
     ensures { Tables budget bytes.now rows.old rows.new result }

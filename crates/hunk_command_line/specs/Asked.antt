@@ -14,10 +14,6 @@ abbrev pub IsHelp : OrderFault → Type 0
 IsHelp (Help text) = ⊤
 IsHelp _ = ⊥
 
--- Help is answered, unless memory runs out.
-abbrev pub IsHelpOrMemory : OrderFault → Type 0
-IsHelpOrMemory fault = IsHelp fault ⊎ (fault ≡ Memory)
-
 -- the line is refused, and this says why
 abbrev pub IsLineOf : List ℕ → OrderFault → Type 0
 IsLineOf why (Line text) = string_bytes text ≡ why
@@ -47,7 +43,7 @@ pub record FollowsClap {T : Type 0} (words : List Text) (result : Result T Order
   -- help is answered only where it is among them
   pub asked : IfErr result (λ fault. IsHelp fault → IsAmong DisplayHelp (fault_of hunkinfo words))
   -- where it is the only one, help is answered, or memory ran out
-  pub help : fault_of hunkinfo words ≡ DisplayHelp ∷ [] → IsErrAnd result IsHelpOrMemory
+  pub help : fault_of hunkinfo words ≡ DisplayHelp ∷ [] → IsErrAnd result (IsMemoryOr IsHelp)
   -- and so the version
   pub versioned : IfErr result (λ fault. fault ≡ Version → IsAmong DisplayVersion (fault_of hunkinfo words))
   pub version : fault_of hunkinfo words ≡ DisplayVersion ∷ [] → IsErrAnd result (IsMemoryOr (λ fault. fault ≡ Version))

@@ -1,7 +1,10 @@
 -- The command that clap reads the words by.
-use Rattle.std.specs.Prelude.{true, [], Some, codes}
-use Rattle.clap.specs.Words.{App, Rule, Text, new_app, new_rule, with_rule, with_subcommand}
+use Rattle.std.specs.Prelude.{◌≡◌, false, true, [], Some, codes}
+use Rattle.clap.specs.Words.{App, Rule, Text, app_of, new_app, new_rule, rule_of, with_rule, with_subcommand}
 use Rattle.clap.specs.Simple.{new_shape}
+use Rattle.clap.specs.declared.builder.arg.Arg.{Arg}
+use Rattle.clap.specs.declared.builder.command.Command.{Command}
+use Rattle.clap.specs.declared.builder.command.Command.TheViews.{out-Command as fields_of}
 use Rattle.clap.specs.declared.builder.ArgAction.TheVariants.{SetTrue}
 
 -- `--name`
@@ -39,3 +42,15 @@ abbrev pub hunkinfo : App
 hunkinfo = with_subcommand (with_subcommand (with_subcommand (with_subcommand program
     (plain_command (codes "show")).top) (plain_command (codes "validate")).top)
     relocate_command.top) rewrite_command.top
+
+-- ---- what is built of them
+
+-- an argument with this rule, of its own command alone
+pub record IsArgument (rule : Rule) (arg : Arg) : Type 0 where
+  pub is : rule_of arg ≡ rule
+  pub not_global : arg.global ≡ false
+
+-- a command of this form, which shares no argument with others
+pub record IsCommand (app : App) (command : Command) : Type 0 where
+  pub is : app_of command ≡ app
+  pub not_global : (fields_of command).has_globals ≡ false

@@ -4,11 +4,10 @@ ghost use Rattle.std.specs.String.{string_bytes};
 ghost use Rattle.clap.specs.Words.{found_of, kind_of, rows_of, subcommand_of, takes};
 ghost use Rattle.clap.specs.Simple.{subcommand_rows_of};
 ghost use Rattle.hunk_command_line.specs.Command as spec;
-ghost use Rattle.hunk_command_line.specs.Asked.{AnswersOrder, FollowsClap, IsHelp, IsHelpOrMemory};
-ghost use Rattle.hunk_command_line.specs.Asked.{IsLineOf, IsMemoryOr, RefusesOrder};
+ghost use Rattle.hunk_command_line.specs.Asked.{AnswersOrder, FollowsClap, IsHelp, IsLineOf, IsMemoryOr, RefusesOrder};
 ghost use Rattle.hunk_command_line.specs.FaultTexts.{told_fault, unwanted_text};
-ghost use Rattle.hunk_command_line.specs.Line.{entered_order, order_of, relocate_order};
-ghost use Rattle.hunk_command_line.specs.Line.{rewrite_order, show_order, validate_order, words_read};
+ghost use Rattle.hunk_command_line.specs.Line.{entered_order, order_of, relocate_order, rewrite_order, show_order, validate_order};
+ghost use Rattle.hunk_command_line.specs.Line.{words_read};
 ghost use Rattle.hunk_command_line.specs.declared.asked.OrderFault.TheVariants.{Memory, Version};
 
 mod command;
@@ -79,22 +78,14 @@ fn relocate_order(alloc: Global, found: &ArgMatches<'_>) -> Result<Order, OrderF
 {
     let hex = text_of(found, "base").unwrap_or("");
     let Some(base) = base_of(hex) else {
-        return Err(unwanted(
-            alloc,
-            hex,
-            "--base <HEX>",
-            "eight hexadecimal digits are wanted",
-        ));
+        let wanted = "eight hexadecimal digits are wanted";
+        return Err(unwanted(alloc, hex, "--base <HEX>", wanted));
     };
     let budget = match text_of(found, "budget") {
         Some(number) => {
             let Some(budget) = budget_of(number) else {
-                return Err(unwanted(
-                    alloc,
-                    number,
-                    "--budget <N>",
-                    "a number below 2^64 is wanted",
-                ));
+                let wanted = "a number below 2^64 is wanted";
+                return Err(unwanted(alloc, number, "--budget <N>", wanted));
             };
             budget
         }
@@ -130,7 +121,7 @@ fn rewrite_order(alloc: Global, found: &ArgMatches<'_>) -> Result<Order, OrderFa
 fn fault_of(alloc: Global, error: &Error) -> OrderFault
     ensures memory { kind_of error.now ≡ ErrorKind.OutOfMemory → result ≡ Memory }
     ensures asked { IsHelp result → kind_of error.now ≡ ErrorKind.DisplayHelp }
-    ensures help { kind_of error.now ≡ ErrorKind.DisplayHelp → IsHelpOrMemory result }
+    ensures help { kind_of error.now ≡ ErrorKind.DisplayHelp → IsMemoryOr IsHelp result }
     ensures versioned { result ≡ Version → kind_of error.now ≡ ErrorKind.DisplayVersion }
     ensures version { kind_of error.now ≡ ErrorKind.DisplayVersion → result ≡ Version }
 {
@@ -161,13 +152,11 @@ fn chosen_order(alloc: Global, found: &ArgMatches<'_>) -> Result<Order, OrderFau
     ensures { AnswersOrder (entered_order (subcommand_rows_of found.now)) result }
 {
     match found.subcommand() {
-        Some((name, found)) => match name {
-            "show" => show_order(alloc, found),
-            "validate" => validate_order(alloc, found),
-            "relocate" => relocate_order(alloc, found),
-            "rewrite" => rewrite_order(alloc, found),
-            _ => Err(unwanted(alloc, name, "<COMMAND>", "a command is wanted")),
-        },
+        Some(("show", found)) => show_order(alloc, found),
+        Some(("validate", found)) => validate_order(alloc, found),
+        Some(("relocate", found)) => relocate_order(alloc, found),
+        Some(("rewrite", found)) => rewrite_order(alloc, found),
+        Some((name, _)) => Err(unwanted(alloc, name, "<COMMAND>", "a command is wanted")),
         None => Err(unwanted(alloc, "", "<COMMAND>", "a command is wanted")),
     }
 }

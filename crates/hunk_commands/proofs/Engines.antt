@@ -1,14 +1,8 @@
 -- What the engine functions share: a text made of bytes and put, and a source whose bytes they are.
 use Rattle.std.proofs.Common.{◌≡◌, ◌∙◌, ℕ, List, Result, Ok, Err, inr, ap, refl, sym, subst, false, true≢false}
 use Rattle.std.specs.Prelude.{IfErr}
-use Rattle.hunk_words.specs.Carriers.{Outlet, Supply, Writing}
-use Rattle.hunk_words.specs.Puts.{PutsText}
-use Rattle.hunk_words.specs.declared.long_writer.WriteFault.{WriteFault}
-use Rattle.hunk_commands.specs.declared.fault.RunFault.{RunFault}
-use Rattle.hunk_commands.specs.declared.fault.RunFault.TheVariants.{Write}
-use Rattle.hunk_commands.specs.Engine.{PutsOrRefuses, ReadsThenPuts}
-use Rattle.hunk_commands.specs.Faults.{IsWrite}
-use Rattle.hunk_commands.specs.Inputs.{ReadsWhole}
+use Rattle.hunk_words.specs.{Carriers.{Outlet, Supply, Writing}, Puts.PutsText, declared.long_writer.WriteFault.WriteFault}
+use Rattle.hunk_commands.specs.{declared.fault.RunFault.{RunFault, TheVariants.Write}, Engine.{PutsOrRefuses, ReadsThenPuts}, Faults.IsWrite, Inputs.ReadsWhole}
 use Rattle.hunk_commands.specs.Refusals.{RefusesBytes}
 use Rattle.hunk_files.specs.HunkFile.{AreFile}
 use Rattle.hunk_scatter.specs.LoadOutcomes.{GivesAtMost}
@@ -34,17 +28,17 @@ module _ {W T : Type 0} (outlet : W → Outlet) (IsTextOf : T → List ℕ → T
   Comes new r = PutsOrRefuses outlet IsTextOf bytes old new r
 
   -- they are no file
-  pub refuses : (result : Result T RunFault) (refusal : RunFault) → ((y : RunFault) × (result ≡ Err y) × (y ≡ refusal)) → (AreFile bytes → ⊥) → RefusesBytes refusal bytes → PutsOrRefuses outlet IsTextOf bytes old old result
+  pub refuses : (refusal : RunFault) → (AreFile bytes → ⊥) → RefusesBytes refusal bytes → PutsOrRefuses outlet IsTextOf bytes old old (Err refusal)
   unfolding Comes
-  refuses result refusal p none is =
-      subst (Comes old) (sym (p.1 ∙ ap Err p.2)) (record {
+  refuses refusal none is =
+      record {
         done = tt;
         no_failure = tt;
         write = λ written same. absurd (no_write refusal bytes written same is);
         fails = record { broken = λ write. absurd (not_write refusal bytes is write); untouched = λ _. refl };
         refused = λ _. is;
         succeeds = λ file. absurd (none file);
-      })
+      }
 
   module _ {S : Type 0} (new : Writing W) (text : List ℕ) (value : T) (is : IsTextOf value text) where
     -- their text was put

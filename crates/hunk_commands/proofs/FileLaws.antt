@@ -1,15 +1,9 @@
 -- Files of the input, and what is told of them.
 use Rattle.std.proofs.Common.{ℕ, List, length, refl, inl, inr, ap, ap₂}
-use Rattle.hunk_files.specs.ObjectFile.{ObjectFileValue}
-use Rattle.hunk_files.specs.Findings.{findings}
-use Rattle.hunk_files.specs.HunkFile.{IsFileOf}
-use Rattle.hunk_files.specs.declared.hunk_file.HunkFile.{HunkFile}
+use Rattle.hunk_files.specs.{ObjectFile.ObjectFileValue, Findings.findings, HunkFile.IsFileOf, declared.hunk_file.HunkFile.HunkFile}
 use Rattle.hunk_files.specs.declared.hunk_file.HunkFile.TheVariants as files
-use Rattle.hunk_listing.specs.FileLines.{load_listing, object_listing}
-use Rattle.hunk_listing.specs.ReportLines.{load_summary, object_report}
-use Rattle.hunk_commands.specs.Reports.{finding_count, report}
-use Rattle.hunk_commands.specs.Shown.{IsShown, file_listing}
-use Rattle.hunk_commands.specs.Validated.{IsValidated}
+use Rattle.hunk_listing.specs.{FileLines.{load_listing, object_listing}, ReportLines.{load_summary, object_report}}
+use Rattle.hunk_commands.specs.{Reports.{finding_count, report}, Shown.{IsShown, file_listing}, Validated.IsValidated}
 
 -- ---- its texts
 

@@ -4,8 +4,7 @@ use Rattle.std.specs.{List.AllPass, Result.result_unwrap_or}
 use Rattle.std.proofs.lemmas.List.Elements.{All-cons, All-head, All-nil, All-tail}
 use Rattle.hex.specs.Hex.{decode_of, decode_pairs, digit_or_error, hex_digit_value, is_hex_digit, pair_value, value_at, ◌>>=◌}
 use Rattle.hex.specs.declared.error.FromHexError.{FromHexError}
-use Rattle.hex.proofs.HexLemmas.{decode_of-digits, decode_of-even, decode_of-ok}
-use Rattle.hex.proofs.Pairs.{cons_byte, decode_pairs-ok_pair}
+use Rattle.hex.proofs.{HexLemmas.{decode_of-digits, decode_of-even, decode_of-ok}, Pairs.{cons_byte, decode_pairs-ok_pair}}
 
 -- what an `Ok` after `>>=` shows
 bind_ok : {A B : Type 0} (r : Result A FromHexError) (f : A → Result B FromHexError) (y : B)

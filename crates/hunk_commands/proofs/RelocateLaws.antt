@@ -1,56 +1,35 @@
 -- What the fault of a load is to a run.
-use Rattle.std.proofs.Common.{◌≡◌, ◌⊎◌, ◌∙◌, ℕ, List, Option, None, Some, Result, Ok, Err, inl, inr, ap, ap₂, refl, sym, subst}
-use Rattle.std.specs.Prelude.{MatchOption}
+use Rattle.std.proofs.Common.{◌≡◌, ◌⊎◌, ◌∙◌, ℕ, List, Result, Ok, Err, inl, inr, ap, ap₂, refl, sym, subst}
 use Rattle.hunk_words.specs.{Carriers.{Outlet, Supply, Writing}, Classes.class_by, Puts.PutsText}
 use Rattle.hunk_words.specs.{declared.long_writer.WriteFault.WriteFault, declared.reason.Reason.Reason}
 use Rattle.hunk_words.specs.declared.class.Class.TheVariants as classes
 use Rattle.hunk_words.specs.declared.reason.Reason.TheVariants as reasons
-use Rattle.hunk_grammar.specs.declared.file_kind.Sniff.TheVariants as sniffs
-use Rattle.hunk_files.specs.{FileParts.IsPartAt, declared.part.Part.Part}
-use Rattle.hunk_scatter.specs.{HeaderFaults.IsOverBudget, LoadOutcomes.Loads, LoaderValues.ImageValue}
-use Rattle.hunk_scatter.specs.LoadRefusals.{IsUnjudged, LoadsOrNames, NamesPart}
-use Rattle.hunk_scatter.specs.{Placing.packed_from, Rows.bases_of, declared.load_refusal.LoadRefusal.LoadRefusal}
-use Rattle.hunk_scatter.specs.declared.loading.Limits.{Limits}
+use Rattle.hunk_scatter.specs.{HeaderFaults.IsOverBudget, LoadOutcomes.Loads, LoaderValues.ImageValue, LoadRefusals.{LoadsOrNames, NamesPart, fault_of}, Placing.packed_from, Rows.bases_of, declared.load_refusal.LoadRefusal.LoadRefusal, declared.load_refusal.LoadRefusal.TheVariants.{Judged, NotJudged}, declared.loading.Limits.Limits}
 use Rattle.hunk_listing.specs.SegmentLines.{segment_listing}
-use Rattle.hunk_commands.specs.declared.fault.RunFault.{RunFault}
-use Rattle.hunk_commands.specs.declared.fault.RunFault.TheVariants.{Memory, Refused, Write}
-use Rattle.hunk_commands.specs.Faults.{IsWrite, load_refused, refused_by, refused_for}
-use Rattle.hunk_commands.specs.Relocating.{IsListingOf, Relocates, image_listing, segments_of}
+use Rattle.hunk_commands.specs.{declared.fault.RunFault.RunFault, declared.fault.RunFault.TheVariants.{Memory, Refused, Write}, Faults.{IsWrite, load_refused, refused_for}, Relocating.{IsListingOf, Relocates, image_listing, segments_of}}
 
 -- a load's refusal is none of writing
 not_write : (refusal : LoadRefusal) → IsWrite (load_refused refusal) → ⊥
-not_write refusal is = by_part refusal.part is
+not_write (Judged refusal) e = e
+not_write (NotJudged fault) e = by_reason fault.reason e
   where
-    by_reason : (reason : Reason) → IsWrite (refused_for reason refusal.fault) → ⊥
+    by_reason : (reason : Reason) → IsWrite (refused_for reason fault) → ⊥
     by_reason reasons.OutOfMemory e = e
     by_reason reasons.Read e = e
     by_reason _ e = e
 
-    by_part : (part : Option Part) → IsWrite (refused_by part refusal.fault) → ⊥
-    by_part None e = by_reason refusal.fault.reason e
-    by_part (Some part) e = e
-
 no_write : (refusal : LoadRefusal) (written : ℕ) → Write written ≡ load_refused refusal → ⊥
 no_write refusal written is = not_write refusal (subst IsWrite is tt)
 
-module _ (given : List ℕ) (refusal : LoadRefusal) (names : NamesPart given refusal) where
-  unnamed : IsUnjudged refusal.fault → refusal.part ≡ None
-  unnamed not = go refusal.part names
-    where
-      go : (o : Option Part) → MatchOption o (IsUnjudged refusal.fault) (λ part. ¬ IsUnjudged refusal.fault × IsPartAt sniffs.Load given refusal.fault.place part) → o ≡ None
-      go None h = refl
-      go (Some part) h = absurd (h.0 not)
+-- for a reason for which the file is not judged
+pub told_for : (given : List ℕ) (refusal : LoadRefusal) → NamesPart given refusal → (reason : Reason) → class_by (fault_of refusal).place reason ≡ classes.NotJudged → (fault_of refusal).reason ≡ reason → load_refused refusal ≡ refused_for reason (fault_of refusal)
+told_for given (Judged refusal) names reason not is = absurd (names.0 (ap (class_by refusal.fault.place) is ∙ not))
+told_for given (NotJudged fault) names reason not is = ap (λ (r : Reason). refused_for r fault) is
 
-  -- for a reason for which the file is not judged
-  pub told_for : (reason : Reason) → class_by refusal.fault.place reason ≡ classes.NotJudged → refusal.fault.reason ≡ reason → load_refused refusal ≡ refused_for reason refusal.fault
-  told_for reason not is =
-      ap (λ (o : Option Part). refused_by o refusal.fault) (unnamed (ap (class_by refusal.fault.place) is ∙ not))
-      ∙ ap (λ (r : Reason). refused_for r refusal.fault) is
-
-  pub over_of : (at : ℕ) → IsOverBudget at refusal.fault → (load_refused refusal ≡ Memory) ⊎ (load_refused refusal ≡ Refused (record { place = at; reason = reasons.Budget }))
-  over_of at (inl (is, there)) =
-      inr (told_for reasons.Budget refl is ∙ ap₂ (λ (p : ℕ) (r : Reason). Refused (record { place = p; reason = r })) there is)
-  over_of at (inr (is, before)) = inl (told_for reasons.OutOfMemory refl is)
+pub over_of : (given : List ℕ) (refusal : LoadRefusal) → NamesPart given refusal → (at : ℕ) → IsOverBudget at (fault_of refusal) → (load_refused refusal ≡ Memory) ⊎ (load_refused refusal ≡ Refused (record { place = at; reason = reasons.Budget }))
+over_of given refusal names at (inl (is, there)) =
+    inr (told_for given refusal names reasons.Budget refl is ∙ ap₂ (λ (p : ℕ) (r : Reason). Refused (record { place = p; reason = r })) there is)
+over_of given refusal names at (inr (is, before)) = inl (told_for given refusal names reasons.OutOfMemory refl is)
 
 -- ---- what `relocate` comes to
 

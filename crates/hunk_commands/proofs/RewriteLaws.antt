@@ -2,11 +2,9 @@
 use Rattle.std.proofs.Common.{◌≡◌, ◌≤◌, ◌+◌, ◌-◌, ◌∙◌, ℕ, Bool, true, false, List, length, inl, inr, ap, arith, subst, length-append}
 use Rattle.hunk_words.specs.Longs.{bytes_of}
 use Rattle.hunk_files.specs.{LoadFile.LoadFileValue, LoadText.text, ObjectFile.{ObjectFileValue, object_text}}
-use Rattle.hunk_files.specs.{Strip.{strip_file, strip_object}, declared.hunk_file.HunkFile.HunkFile}
-use Rattle.hunk_files.specs.HunkFile.{IsFileOf, bytes_after, file_bytes}
+use Rattle.hunk_files.specs.{Strip.{strip_file, strip_object}, declared.hunk_file.HunkFile.HunkFile, HunkFile.{IsFileOf, bytes_after, file_bytes}}
 use Rattle.hunk_files.specs.declared.hunk_file.HunkFile.TheVariants as files
-use Rattle.hunk_commands.specs.declared.rewriting.Rewritten.{Rewritten}
-use Rattle.hunk_commands.specs.Rewritten.{IsRewritten, TellsSizes, stripped_where}
+use Rattle.hunk_commands.specs.{declared.rewriting.Rewritten.Rewritten, Rewritten.{IsRewritten, TellsSizes, stripped_where}}
 
 -- what follows a file is a part of the bytes
 after_fits : (bytes : List ℕ) (file : HunkFile) → IsFileOf bytes file → bytes_after file ≤ length bytes

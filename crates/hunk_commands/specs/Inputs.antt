@@ -34,7 +34,7 @@ Gave old new count = (bytes : List ℕ) × Consumes old.left new.left bytes × (
 -- why it was not read to its end in fewer than `most` bytes
 abbrev pub ReadsInVain : RunFault → Supply → Supply → ℕ → Type 0
 ReadsInVain (faults.Refused refusal) old new most = (refusal.reason ≡ reasons.FileLimit) × (refusal.place ≡ most) × Gave old new most
-ReadsInVain (faults.RefusedIn refusal part) old new most = ⊥
+ReadsInVain (faults.RefusedIn refusal) old new most = ⊥
 ReadsInVain (faults.Read place) old new most = (new.failed ≡ true) × Gave old new place
 ReadsInVain faults.Memory old new most = (count : ℕ) × (0 < count) × Gave old new count
 ReadsInVain (faults.Write written) old new most = ⊥

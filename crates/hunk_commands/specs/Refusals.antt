@@ -9,6 +9,6 @@ use Rattle.hunk_commands.specs.declared.fault.RunFault.TheVariants as faults
 
 -- the fault that they have as what their first longword announces, and the part of that which it is in
 abbrev pub RefusesBytes : RunFault → List ℕ → Type 0
-RefusesBytes (faults.RefusedIn refusal part) bytes =
-    IsRefusal (sniffed (longs bytes)) bytes refusal × IsPartAt (sniffed (longs bytes)) bytes refusal.place part
+RefusesBytes (faults.RefusedIn refusal) bytes =
+    IsRefusal (sniffed (longs bytes)) bytes refusal.fault × IsPartAt (sniffed (longs bytes)) bytes refusal.fault.place refusal.part
 RefusesBytes fault bytes = ⊥

@@ -6,7 +6,7 @@ use Rattle.hunk_files.specs.LoadFile.{LoadFileValue, IsLoadFile}
 use Rattle.hunk_files.specs.LoadText.{table, text}
 use Rattle.hunk_files.specs.Image.{declared_bytes, image}
 use Rattle.hunk_scatter.specs.LoadOutcomes.{Gives, IsFaultOf, IsLoadFault}
-use Rattle.hunk_scatter.specs.LoadRefusals.{NamesPart}
+use Rattle.hunk_scatter.specs.LoadRefusals.{NamesPart, fault_of}
 use Rattle.hunk_scatter.specs.LoaderValues.{ImageValue}
 use Rattle.hunk_scatter.specs.Placing.{AreBases, packed_from}
 use Rattle.hunk_scatter.specs.Rows.{bases_of}
@@ -53,8 +53,8 @@ pub record StopsLoading (start : ℕ) (limits : Limits) (before after : Supply) 
   pub refusal : LoadRefusal
   pub told : fault ≡ load_refused refusal
   pub names : NamesPart given refusal
-  pub is_fault : IsLoadFault (packed_from start) limits after given refusal.fault
-  pub of_file : IsFaultOf before refusal.fault
+  pub is_fault : IsLoadFault (packed_from start) limits after given (fault_of refusal)
+  pub of_file : IsFaultOf before (fault_of refusal)
 
 -- What `relocate` comes to. The source has given these bytes, and no more than the limit.
 pub record Relocates {W T : Type 0} (outlet : W → Outlet) (start : ℕ) (limits : Limits) (before after : Supply)

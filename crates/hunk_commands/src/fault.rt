@@ -5,7 +5,7 @@ ghost use Rattle.hunk_words.specs.Prints.{Prints};
 ghost use Rattle.hunk_commands.specs.Faults.{line_of, load_refused, refused_as, status_of};
 ghost use Rattle.hunk_commands.specs.declared.fault.RunFault.TheVariants.{Memory, Write};
 
-use hunk_files::Part;
+use hunk_files::Refusal;
 use hunk_scatter::LoadRefusal;
 use hunk_words::{Fault, PagePrinter, Reason, Sink, WriteFault};
 use itoa::Buffer;
@@ -18,9 +18,9 @@ use std::fmt;
 pub enum RunFault {
     /// The input is refused, at a place in bytes from its start.
     Refused(Fault),
-    /// The file that the input is to be is refused, at a place in bytes from its start, in this
-    /// part.
-    RefusedIn { fault: Fault, part: Part },
+    /// The file that the input is to be is refused, at a place in bytes from its start, in a part
+    /// of it.
+    RefusedIn(Refusal),
     /// Reading failed after `place` bytes of the input.
     Read { place: u64 },
     /// Writing failed after `written` bytes of the output.
@@ -39,7 +39,7 @@ impl RunFault {
         ensures bound { (0 < result) × (result ≤ 4) }
     {
         match self {
-            RunFault::Refused(_) | RunFault::RefusedIn { .. } | RunFault::HexText => 1,
+            RunFault::Refused(_) | RunFault::RefusedIn(_) | RunFault::HexText => 1,
             RunFault::Read { .. } | RunFault::Write { .. } => 3,
             RunFault::Memory => 4,
         }
@@ -50,7 +50,7 @@ impl RunFault {
         ensures { Prints page.old page.new (line_of self.now ++ codes "\n") }
     {
         match self {
-            RunFault::Refused(fault) | RunFault::RefusedIn { fault, part: _ } => {
+            RunFault::Refused(fault) | RunFault::RefusedIn(Refusal { fault, part: _ }) => {
                 print_refusal(page, *fault);
             }
             RunFault::Read { place } => print_number(page, "reading failed at byte ", *place, ""),
@@ -109,7 +109,7 @@ impl fmt::Display for RunFault {
 
     fn fmt<W: fmt::Write>(&self, f: &mut fmt::Formatter<W>) -> fmt::Result {
         match self {
-            RunFault::Refused(fault) | RunFault::RefusedIn { fault, part: _ } => {
+            RunFault::Refused(fault) | RunFault::RefusedIn(Refusal { fault, part: _ }) => {
                 write!(f, "{fault}")
             }
             RunFault::Read { place } => write!(f, "reading failed at byte {place}"),
@@ -143,10 +143,9 @@ impl From<LoadRefusal> for RunFault {
     ghost from_gives = { λ refusal fault. fault ≡ load_refused refusal };
 
     fn from(refusal: LoadRefusal) -> RunFault {
-        let fault = refusal.fault;
-        match refusal.part {
-            Some(part) => RunFault::RefusedIn { fault, part },
-            None => RunFault::from(fault),
+        match refusal {
+            LoadRefusal::Judged(refusal) => RunFault::RefusedIn(refusal),
+            LoadRefusal::NotJudged(fault) => RunFault::from(fault),
         }
     }
 }

@@ -1,8 +1,6 @@
 //! Bytes from hexadecimal text.
-ghost use Rattle.std.specs.Prelude.{◌≡◌, ◌≤◌, ◌++◌, ◌∷◌, [], ℕ, List, length};
-ghost use Rattle.std.specs.Prelude.{IfOk, IfErr, OnOk, OnErr};
-ghost use Rattle.hunk_commands.specs.HexText.{AppendsSpelled, SpellsHex, is_blank};
-ghost use Rattle.hunk_commands.specs.HexText.{ReadsHex, ReadsNoHex, RefusesHex};
+ghost use Rattle.std.specs.Prelude.{◌≡◌, ◌≤◌, ◌++◌, ◌∷◌, [], ℕ, List, length, IfOk, IfErr, OnOk, OnErr};
+ghost use Rattle.hunk_commands.specs.HexText.{AppendsSpelled, SpellsHex, is_blank, ReadsHex, ReadsNoHex, RefusesHex};
 ghost use Rattle.hunk_scatter.specs.LoadOutcomes.{GivesAtMost};
 ghost use Rattle.hunk_commands.specs.Inputs.{TellsReading};
 

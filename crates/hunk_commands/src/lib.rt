@@ -5,7 +5,6 @@
 mod fault;
 mod hex_text;
 mod input;
-mod refusing;
 mod relocating;
 mod rewriting;
 mod showing;

@@ -3,8 +3,7 @@ ghost use Rattle.std.specs.Prelude.{◌≡◌, ◌⊎◌, ℕ, false, IfErr, IsE
 ghost use Rattle.hunk_words.specs.Puts.{PutsText};
 ghost use Rattle.hunk_words.specs.declared.reason.Reason.TheVariants.{Budget};
 ghost use Rattle.hunk_commands.specs.declared.fault.RunFault.TheVariants.{Memory, Refused};
-ghost use Rattle.hunk_scatter.specs.LoadOutcomes.{HasFileWithin, PassesBudget};
-ghost use Rattle.hunk_scatter.specs.LoadOutcomes.{StopsAfterFile, StopsAfterHeader};
+ghost use Rattle.hunk_scatter.specs.LoadOutcomes.{HasFileWithin, PassesBudget, StopsAfterFile, StopsAfterHeader};
 ghost use Rattle.hunk_scatter.specs.Placing.{packed_from};
 ghost use Rattle.hunk_commands.specs.Inputs.{TellsReading};
 ghost use Rattle.hunk_commands.specs.Relocating.{Relocates, image_listing};

@@ -9,7 +9,6 @@ ghost use Rattle.hunk_commands.specs.Rewritten.{IsRewritten, stripped_where};
 
 use crate::fault::RunFault;
 use crate::input::read_all;
-use crate::refusing::refused_in;
 use hunk_files::FileView;
 use hunk_words::{LongWriter, Printer, Sink, Source, WriteFault};
 use std::alloc::Global;
@@ -34,8 +33,7 @@ pub struct Rewritten {
 ///
 /// - `Refused` with `FileLimit`, at `file_bytes`, where that many bytes were read, before an end is
 ///   looked for.
-/// - `RefusedIn` with the fault that `FileView::read` answers for the input, at the same place, in
-///   the part that `part_at` answers.
+/// - `RefusedIn` with the refusal that `FileView::read` answers for the input.
 /// - `Read` where the source failed, at the number of bytes read.
 /// - `Memory` where memory is refused for the bytes of the input, and never once they are read.
 /// - `Write` where the writer failed: just the first `written` bytes of all that was ever put, the
@@ -64,8 +62,8 @@ pub fn rewrite<R: Source, W: Sink>(
 ///
 /// # Errors
 ///
-/// - `RefusedIn` with the fault that `FileView::read` answers, at the same place, in the part that
-///   `part_at` answers. Nothing was written then, and the writer is as it was.
+/// - `RefusedIn` with the refusal that `FileView::read` answers. Nothing was written then, and the
+///   writer is as it was.
 /// - `Write` where the writer failed: just the first `written` bytes of all that was ever put, the
 ///   file last, have gone out.
 pub fn rewrite_bytes<W: Sink>(
@@ -79,7 +77,7 @@ pub fn rewrite_bytes<W: Sink>(
 {
     let file = match FileView::read(bytes) {
         Ok(file) => file,
-        Err(fault) => return Err(refused_in(bytes, fault)),
+        Err(refusal) => return Err(RunFault::RefusedIn(refusal)),
     };
     let rest = file.rest();
     put_file(w, &file, bytes, strip)?;

@@ -4,7 +4,6 @@ ghost use Rattle.hunk_commands.specs.Validated.{IsValidated};
 
 use crate::fault::RunFault;
 use crate::input::read_all;
-use crate::refusing::refused_in;
 use hunk_files::FileView;
 use hunk_listing::{print_load_summary, print_object_report};
 use hunk_words::{LongWriter, Printer, Sink, Source};
@@ -19,8 +18,7 @@ use std::alloc::Global;
 ///
 /// - `Refused` with `FileLimit`, at `file_bytes`, where that many bytes were read, before an end is
 ///   looked for.
-/// - `RefusedIn` with the fault that `FileView::read` answers for the input, at the same place, in
-///   the part that `part_at` answers.
+/// - `RefusedIn` with the refusal that `FileView::read` answers for the input.
 /// - `Read` where the source failed, at the number of bytes read.
 /// - `Memory` where memory is refused for the bytes of the input, and never once they are read.
 /// - `Write` where the writer failed: just the first `written` bytes of all that was ever put, the
@@ -47,8 +45,8 @@ pub fn validate<R: Source, W: Sink>(
 ///
 /// # Errors
 ///
-/// - `RefusedIn` with the fault that `FileView::read` answers, at the same place, in the part that
-///   `part_at` answers. Nothing was written then, and the writer is as it was.
+/// - `RefusedIn` with the refusal that `FileView::read` answers. Nothing was written then, and the
+///   writer is as it was.
 /// - `Write` where the writer failed: just the first `written` bytes of all that was ever put, the
 ///   report last, have gone out.
 #[inline(never)]
@@ -58,7 +56,7 @@ pub fn validate_bytes<W: Sink>(bytes: &[u8], w: &mut LongWriter<W>) -> Result<u6
 {
     let file = match FileView::read(bytes) {
         Ok(file) => file,
-        Err(fault) => return Err(refused_in(bytes, fault)),
+        Err(refusal) => return Err(RunFault::RefusedIn(refusal)),
     };
     let mut page = Printer::new(w);
     let count = match &file {

@@ -2,7 +2,7 @@
 use Rattle.std.proofs.Common.{rules, arith, ◌<◌, ◌^◌}
 use Rattle.std.specs.Prelude.{◌≡◌, ℕ, List, [], ◌∷◌, map, Option, Some, None, true, false, refl}
 use Rattle.hunk_blocks.specs.Values.{IsGroup, RelocGroup, BlockBody, BlockValue, Code, Data, Bss, Reloc, End}
-use Rattle.hunk_blocks.specs.Parts.{Part as parts}
+use Rattle.hunk_grammar.specs.BlockParts.{Part as parts}
 use Rattle.hunk_files.specs.{LoadFile.{IsLoadFile, LoadFileValue, HunkValue}, LoadText.{text, labelled}, Image.image}
 use Rattle.hunk_words.specs.{declared.reason.Reason.Reason, Longs.{longs, bytes_of}, Bits.kind}
 use Rattle.hunk_words.specs.declared.reason.Reason.TheVariants as reasons

@@ -13,7 +13,7 @@ use Rattle.hunk_files.specs.ObjectFile.{ObjectFileValue, object_text}
 use Rattle.hunk_files.specs.HunkFile.{AreFile, AreObjectFile, EndsFilePart, IsFileOf, IsMemory}
 use Rattle.hunk_files.specs.{Lacks.{EndsAt, EndsLoadPart, EndsObjectPart}, declared.hunk_file.HunkFile.HunkFile}
 use Rattle.hunk_files.specs.declared.hunk_file.HunkFile.TheVariants as files
-use Rattle.hunk_files.proofs.TextParts.{after_first, first_split}
+use Rattle.hunk_files.proofs.cuts.TextParts.{after_first, first_split}
 
 -- ---- a file that was decoded
 
@@ -59,7 +59,7 @@ not_object P sniffs.Load other load library none = load
 not_object P sniffs.Library other load library none = library
 not_object P sniffs.Other other load library none = none
 
-pub no_object : {T : Type 0} (bytes : List ℕ) (result : Result T Fault) → sniffed (longs bytes) ≡ sniffs.Object → IfErr result (λ fault. AreObjectFile bytes → ⊥) → IfErr result (λ fault. AreFile bytes → ⊥)
+pub no_object : {T E : Type 0} (bytes : List ℕ) (result : Result T E) → sniffed (longs bytes) ≡ sniffs.Object → IfErr result (λ fault. AreObjectFile bytes → ⊥) → IfErr result (λ fault. AreFile bytes → ⊥)
 no_object bytes (Ok file) kind none = tt
 no_object bytes (Err fault) kind none = go
   where
@@ -67,7 +67,7 @@ no_object bytes (Err fault) kind none = go
     go (inl load) = let e = load_announced bytes load in cc
     go (inr object) = none object
 
-pub no_load : {T : Type 0} (bytes : List ℕ) (result : Result T Fault) → sniffed (longs bytes) ≢ sniffs.Object → IfErr result (λ fault. BeginsWithLoadFile bytes → ⊥) → IfErr result (λ fault. AreFile bytes → ⊥)
+pub no_load : {T E : Type 0} (bytes : List ℕ) (result : Result T E) → sniffed (longs bytes) ≢ sniffs.Object → IfErr result (λ fault. BeginsWithLoadFile bytes → ⊥) → IfErr result (λ fault. AreFile bytes → ⊥)
 no_load bytes (Ok file) kind none = tt
 no_load bytes (Err fault) kind none = go
   where

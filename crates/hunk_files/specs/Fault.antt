@@ -5,7 +5,7 @@ use Rattle.std.specs.List.{AllByRecursion}
 use Rattle.hunk_words.specs.declared.reason.Reason.{Reason}
 use Rattle.hunk_words.specs.declared.reason.Reason.TheVariants as reasons
 use Rattle.hunk_words.specs.Longs.{longs, bytes_of}
-use Rattle.hunk_blocks.specs.Parts.{Part as parts}
+use Rattle.hunk_grammar.specs.BlockParts.{Part as parts}
 use Rattle.hunk_blocks.specs.Faults.{Grammar, Expects as ExpectsOf, HasRefusal as RefusalOf, IsFront, words}
 use Rattle.hunk_files.specs.LoadFile.{LoadFileValue, IsLoadFile}
 use Rattle.hunk_grammar.specs.Roles.{Role, Role as roles, InBlock, refuse}

@@ -1,5 +1,5 @@
 -- The part of a file that a longword is of, by the longwords before it.
-use Rattle.std.specs.Prelude.{◌≡◌, ℕ, ◌<◌, ◌/◌, List, [], ◌∷◌, ◌++◌, length, take, Some, None, codes}
+use Rattle.std.specs.Prelude.{◌≡◌, ℕ, zero, suc, ◌<◌, ◌-◌, ◌/◌, List, [], ◌∷◌, ◌++◌, length, take, Some, None, codes}
 use Rattle.std.specs.Fmt.{decimal}
 use Rattle.std.specs.List.{AllByRecursion}
 use Rattle.hunk_words.specs.Limits.{name_limit}
@@ -10,9 +10,13 @@ use Rattle.hunk_blocks.specs.Faults.{Expects}
 use Rattle.hunk_blocks.specs.Values.{IsPayload}
 use Rattle.hunk_grammar.specs.declared.file_kind.Sniff.{Sniff}
 use Rattle.hunk_grammar.specs.declared.file_kind.Sniff.TheVariants as sniffs
+use Rattle.hunk_grammar.specs.declared.object_position.ObjectPosition.{ObjectPosition}
+use Rattle.hunk_grammar.specs.declared.object_position.ObjectPosition.TheVariants as positions
 use Rattle.hunk_files.specs.Hunks.{block_texts}
 use Rattle.hunk_files.specs.LoadFile.{HunkValue, LoadFileValue, IsLoadFile}
-use Rattle.hunk_files.specs.ObjectFault.{ObjectRole, BetweenHunks, blocks_from}
+use Rattle.hunk_grammar.specs.ObjectRoles.{ObjectRole}
+use Rattle.hunk_grammar.specs.declared.object_position.WordPlace.TheVariants.{BetweenHunks}
+use Rattle.hunk_files.specs.ObjectFault.{blocks_from}
 use Rattle.hunk_files.specs.ObjectFile.{UnitValue, ObjectFileValue, IsUnit, unit_header, unit_text, object_text}
 use Rattle.hunk_files.specs.Tables.{header_text, hunk_texts}
 use Rattle.hunk_files.specs.declared.part.Part.{Part}
@@ -47,6 +51,17 @@ pub data IsLoadPart (before : List ℕ) : Part → Type 0 where
   of_hunk : (hunk : ℕ) → IsInLoadHunk before hunk → IsLoadPart before (parts.Hunk hunk)
 
 -- ---- object files
+
+-- How many units began, and how many parts of the last are whole, its name and hunks, where a longword led here.
+abbrev pub counted : ObjectPosition → ℕ × ℕ → ℕ × ℕ
+counted positions.UnitCount counts = (suc counts.0, 0)
+counted (positions.Word BetweenHunks) counts = (counts.0, suc counts.1)
+counted position counts = counts
+
+-- The part by these numbers: none is whole before the end of the unit's name.
+abbrev pub part_by : ℕ → ℕ → Part
+part_by begun zero = parts.Unit (begun - 1) None
+part_by begun (suc whole) = parts.Unit (begun - 1) (Some whole)
 
 -- Whole units, and of the next its header, but not all of it: after a unit, at least the word.
 pub record IsInHeader (before : List ℕ) (unit : ℕ) : Type 0 where

@@ -2,7 +2,7 @@
 use Rattle.std.specs.Prelude.{◌≡◌, ℕ, zero, suc, Bool, true, false, List, [], ◌∷◌, ◌++◌}
 use Rattle.hunk_words.specs.Bits.{size_longs, has_both_bits, kind}
 use Rattle.hunk_blocks.specs.Values.{BlockBody, BlockValue}
-use Rattle.hunk_blocks.specs.Parts.{Part as parts}
+use Rattle.hunk_grammar.specs.BlockParts.{Part as parts}
 use Rattle.hunk_files.specs.LoadFile.{TableEntry, HunkValue, LoadFileValue, standing}
 use Rattle.hunk_grammar.specs.Standings.{BlockStanding, Beside, Content, Relocating, Ending}
 use Rattle.hunk_grammar.specs.Roles.{Place, Role, InBlock, Role as roles}

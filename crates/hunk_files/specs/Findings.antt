@@ -4,8 +4,8 @@ use Rattle.std.specs.List.{flat_map, sum_by}
 use Rattle.hunk_words.specs.declared.block_word.Kind.{Kind}
 use Rattle.hunk_words.specs.declared.block_word.Kind.TheVariants as kinds
 use Rattle.hunk_words.specs.Bits.{kind}
-use Rattle.hunk_blocks.specs.declared.ext_kind.ExtKind.{ExtKind}
-use Rattle.hunk_blocks.specs.ExtKinds.{ext_kind, ext_width}
+use Rattle.hunk_grammar.specs.declared.ext_kind.ExtKind.{ExtKind}
+use Rattle.hunk_grammar.specs.ExtKinds.{ext_kind, ext_width}
 use Rattle.hunk_blocks.specs.Values.{RelocGroup, ExtEntry, BlockBody, Reloc, Ext, content_bytes, ext_type}
 use Rattle.hunk_files.specs.declared.object.check.Finding.{Finding}
 use Rattle.hunk_files.specs.declared.object.check.FindingKind.{FindingKind}

@@ -20,16 +20,6 @@ GivesPart text old (Some part) new =
     (old ≡ record { place = part.place; value = part.value ∷ new.value })
     × (new.place ≡ part.place + 4 * length (text part.value))
 
--- Of parts that are still to come this is the first, where one is left, with the byte of the input at which its text begins.
-abbrev pub IsFirstPart : {A : Type 0} → Placed (List A) → Option (Placed A) → Type 0
-IsFirstPart parts None = parts.value ≡ []
-IsFirstPart parts (Some part) = parts ≡ record { place = part.place; value = part.value ∷ drop 1 parts.value }
-
--- From this byte on parts are still to come, and the text of the first ends at that.
-abbrev pub FirstEndsAt : {A : Type 0} → (A → List ℕ) → ℕ → List A → ℕ → Type 0
-FirstEndsAt text start [] end = ⊥
-FirstEndsAt text start (part ∷ rest) end = end ≡ start + 4 * length (text part)
-
 -- From this byte on stand the texts of these parts, and then the rest.
 pub record StandAt {A : Type 0} (Is : A → Type 0) (text : A → List ℕ) (bytes : List ℕ) (start : ℕ) (parts : List A) (rest : List ℕ) : Type 0 where
   pub each : AllByRecursion Is parts

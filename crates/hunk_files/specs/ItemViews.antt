@@ -1,6 +1,5 @@
 -- The items of a file that are read where they lie.
 use Rattle.std.specs.Prelude.{ℕ, Bool, true, List, [], Option, Some, None, if◌then◌else◌}
-use Rattle.hunk_words.specs.Longs.{longs}
 use Rattle.hunk_blocks.specs.Placed.{Placed}
 use Rattle.hunk_files.specs.InPlace.{GivesPart}
 use Rattle.hunk_files.specs.Items.{ItemValue, UnitItem, HunkItem, BlockItem, item_text}
@@ -10,8 +9,8 @@ use Rattle.hunk_files.specs.declared.items.Item.TheVariants as items
 
 -- the value of an item, with the byte at which it begins
 abbrev pub item_seen : Item → Placed ItemValue
-item_seen (items.Unit place number name) = record { place = place; value = UnitItem number (longs name) }
-item_seen (items.Hunk place unit number) = record { place = place; value = HunkItem unit number }
+item_seen (items.Unit number view) = record { place = view.place; value = UnitItem number view.value }
+item_seen (items.Hunk unit number view) = record { place = view.place; value = HunkItem unit number view.value }
 item_seen (items.Block unit hunk view) = record { place = view.place; value = BlockItem unit hunk view.value }
 
 -- Of items that are still to come the first was given, where one was left.

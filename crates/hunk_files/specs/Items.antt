@@ -11,17 +11,17 @@ use Rattle.hunk_files.specs.ObjectFile.{ObjectHunk, ObjectFileValue, UnitValue, 
 use Rattle.hunk_files.specs.ObjectViews.{HunksAt, UnitsAt, hunks_at, units_at}
 use Rattle.hunk_files.specs.Tables.{header_text}
 
--- A unit, with its number and the name in its header; a hunk, with the number of its unit and its own in that; or a block,
--- with the numbers of its unit and hunk.
+-- A unit, with its number; a hunk, with the number of its unit and its own in that; or a block, with the numbers of its unit
+-- and hunk.
 pub data ItemValue : Type 0 where
-  UnitItem : ℕ → List ℕ → ItemValue
-  HunkItem : ℕ → ℕ → ItemValue
+  UnitItem : ℕ → UnitValue → ItemValue
+  HunkItem : ℕ → ℕ → ObjectHunk → ItemValue
   BlockItem : ℕ → ℕ → BlockValue → ItemValue
 
--- the longwords that are the item's own
+-- the longwords that are the item's own: of a unit its header, of a hunk none
 abbrev pub item_text : ItemValue → List ℕ
-item_text (UnitItem number name) = unit_header name
-item_text (HunkItem unit number) = []
+item_text (UnitItem number u) = unit_header u.name
+item_text (HunkItem unit number h) = []
 item_text (BlockItem unit hunk b) = block_text b
 
 -- ---- the items of a file
@@ -32,12 +32,12 @@ blocks_items unit hunk blocks = map (BlockItem unit hunk) blocks
 -- hunks of a unit, from the one with this number on
 abbrev pub hunks_items : ℕ → ℕ → List ObjectHunk → List ItemValue
 hunks_items unit number [] = []
-hunks_items unit number (h ∷ rest) = HunkItem unit number ∷ (blocks_items unit number h ++ hunks_items unit (number + 1) rest)
+hunks_items unit number (h ∷ rest) = HunkItem unit number h ∷ (blocks_items unit number h ++ hunks_items unit (number + 1) rest)
 
 -- units, from the one with this number on
 abbrev pub units_items : ℕ → List UnitValue → List ItemValue
 units_items number [] = []
-units_items number (u ∷ rest) = UnitItem number u.name ∷ (hunks_items number 0 u.hunks ++ units_items (number + 1) rest)
+units_items number (u ∷ rest) = UnitItem number u ∷ (hunks_items number 0 u.hunks ++ units_items (number + 1) rest)
 
 -- those of a load file, which is one unit; its header is before them
 abbrev pub load_items : LoadFileValue → Placed (List ItemValue)

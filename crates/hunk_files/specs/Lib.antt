@@ -20,14 +20,13 @@ pub mod LoadText
 pub mod Machines
 pub mod ObjectFault
 pub mod ObjectFile
-pub mod ObjectSteps
 pub mod ObjectViews
 pub mod OpenSegment
 pub mod Overlap
 pub mod Passing
 pub mod PlacedFindings
-pub mod ReadFiles
 pub mod ReaderPosition
+pub mod ReadFiles
 pub mod StandingBlocks
 pub mod Strip
 pub mod SumImage

@@ -1,17 +1,18 @@
 -- The machines of positions, as they go along the texts of files.
 use Rattle.std.specs.Prelude.{◌≡◌, ℕ, suc, Bool, true, false, List, [], ◌∷◌, ◌++◌, if◌then◌else◌, Option}
 use Rattle.hunk_words.specs.declared.reason.Reason.{Reason}
-use Rattle.hunk_blocks.specs.Parts.{Part, Part as parts}
+use Rattle.hunk_grammar.specs.BlockParts.{Part, Part as parts}
 use Rattle.hunk_grammar.specs.declared.position.Position.{Position}
 use Rattle.hunk_grammar.specs.declared.position.Position.TheVariants as positions
 use Rattle.hunk_grammar.specs.Positions as load
 use Rattle.hunk_grammar.specs.Roles.{Role, InBlock, refuse}
 use Rattle.hunk_files.specs.LoadFile.{HunkValue, LoadFileValue}
 use Rattle.hunk_files.specs.Tables.{header_text, hunk_texts}
-use Rattle.hunk_files.specs.declared.object.position.ObjectPosition.{ObjectPosition}
-use Rattle.hunk_files.specs.declared.object.position.ObjectPosition.TheVariants as places
-use Rattle.hunk_files.specs.ObjectFault.{BeforeUnits, ObjectRole, UnitName, Within, refuse_object}
-use Rattle.hunk_files.specs.ObjectSteps as object
+use Rattle.hunk_grammar.specs.declared.object_position.ObjectPosition.{ObjectPosition}
+use Rattle.hunk_grammar.specs.declared.object_position.ObjectPosition.TheVariants as places
+use Rattle.hunk_grammar.specs.declared.object_position.WordPlace.TheVariants.{BeforeUnits}
+use Rattle.hunk_grammar.specs.ObjectRoles.{ObjectRole, UnitName, Within, refuse_object}
+use Rattle.hunk_grammar.specs.ObjectPositions as object
 
 -- the longs that the hunk of the longword declares
 abbrev pub longs_of : Role → ℕ

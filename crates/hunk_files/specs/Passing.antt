@@ -1,11 +1,11 @@
 -- What of a load file is passed over at once.
 use Rattle.std.specs.Prelude.{◌≡◌, ℕ, suc, ◌+◌, ◌-◌, ◌*◌, ◌<◌, ◌≤◌, Bool, true, List, length, slice_index, Some, None}
 use Rattle.hunk_words.specs.Bits.{entry_longs, kind, name_longs, size_longs}
-use Rattle.hunk_blocks.specs.Parts.{Part as parts}
-use Rattle.hunk_blocks.specs.PhaseSteps.{begin, part_at}
-use Rattle.hunk_blocks.specs.declared.phase.Phase.{Phase}
-use Rattle.hunk_blocks.specs.declared.phase.Phase.TheVariants as phases
-use Rattle.hunk_grammar.specs.declared.phase.OpenHunk.{OpenHunk}
+use Rattle.hunk_grammar.specs.BlockParts.{Part as parts}
+use Rattle.hunk_grammar.specs.PhaseSteps.{begin, part_at}
+use Rattle.hunk_grammar.specs.declared.phase.Phase.{Phase}
+use Rattle.hunk_grammar.specs.declared.phase.Phase.TheVariants as phases
+use Rattle.hunk_grammar.specs.declared.position.OpenHunk.{OpenHunk}
 use Rattle.hunk_grammar.specs.declared.position.Position.{Position}
 use Rattle.hunk_grammar.specs.declared.position.Position.TheVariants as positions
 use Rattle.hunk_grammar.specs.Positions.{EndsWithin}

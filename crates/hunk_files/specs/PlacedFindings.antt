@@ -81,6 +81,8 @@ units_findings_at number place (u ∷ rest) =
 abbrev pub placed_findings : ObjectFileValue → List PlacedFinding
 placed_findings o = units_findings_at 0 0 o
 
+-- ---- item by item
+
 -- At its place in these longwords stands its offset.
 pub record StandsInPlace (words : List ℕ) (f : PlacedFinding) : Type 0 where
   pub before : List ℕ

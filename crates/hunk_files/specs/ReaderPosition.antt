@@ -1,16 +1,18 @@
 -- What was read of a load file, in numbers alone: the position of its reader.
-use Rattle.std.specs.Prelude.{◌≡◌, ℕ, true, List, [], ◌∷◌, ◌++◌, length}
+use Rattle.std.specs.Prelude.{◌≡◌, ℕ, ◌+◌, ◌-◌, true, List, [], ◌∷◌, ◌++◌, length}
 use Rattle.hunk_words.specs.Bits.{size_longs}
 use Rattle.hunk_blocks.specs.Values.{BlockValue}
 use Rattle.hunk_blocks.specs.ReaderPhase.{phase_of}
-use Rattle.hunk_grammar.specs.declared.phase.OpenHunk as numbers
-use Rattle.hunk_blocks.specs.declared.phase.Phase.{Phase}
-use Rattle.hunk_blocks.specs.declared.phase.Phase.TheVariants as phases
+use Rattle.hunk_grammar.specs.declared.position.OpenHunk as numbers
+use Rattle.hunk_grammar.specs.declared.phase.Phase.{Phase}
+use Rattle.hunk_grammar.specs.declared.phase.Phase.TheVariants as phases
 use Rattle.hunk_grammar.specs.declared.position.Position.{Position}
 use Rattle.hunk_grammar.specs.declared.position.Position.TheVariants as positions
 use Rattle.hunk_grammar.specs.Positions.{is_after_header}
 use Rattle.hunk_files.specs.LoadFile.{TableEntry}
 use Rattle.hunk_files.specs.LoadText.{table}
+use Rattle.hunk_files.specs.declared.part.Part.{Part}
+use Rattle.hunk_files.specs.declared.part.Part.TheVariants as parts
 use Rattle.hunk_files.specs.FileSteps.{HunkSoFar, Progress, AtFirst, AtResident, AtTableSize, AtFirstHunk, AtLastHunk, AtSizeWord, AtAttributes, AtBlock, InBody, Next, More, Finished}
 
 abbrev pub open_of : HunkSoFar → numbers.OpenHunk
@@ -61,3 +63,8 @@ table_of _ = []
 -- the header was read
 abbrev pub IsAfterHeader : Next → Type 0
 IsAfterHeader n = is_after_header (position_of n) ≡ true
+
+-- The part that the next longword is of: the header, or the open hunk.
+abbrev pub part_in : Position → Part
+part_in (positions.Body o phase) = parts.Hunk (o.hunks - (o.ahead + 1))
+part_in p = parts.Header

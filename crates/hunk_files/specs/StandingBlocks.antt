@@ -3,7 +3,8 @@ use Rattle.std.specs.Prelude.{ℕ, ◌+◌, ◌*◌, List, [], ◌∷◌, length
 use Rattle.hunk_blocks.specs.Parts.{block_text}
 use Rattle.hunk_blocks.specs.Placed.{Placed}
 use Rattle.hunk_blocks.specs.Values.{BlockValue}
-use Rattle.hunk_files.specs.Items.{ItemValue, UnitItem, HunkItem, BlockItem, item_text, load_items, object_items}
+use Rattle.hunk_files.specs.Items.{ItemValue, UnitItem, HunkItem, BlockItem, load_items, object_items}
+use Rattle.hunk_files.specs.ObjectFile.{unit_header}
 use Rattle.hunk_files.specs.declared.hunk_file.HunkFile.{HunkFile}
 use Rattle.hunk_files.specs.declared.hunk_file.HunkFile.TheVariants as files
 
@@ -21,8 +22,8 @@ file_items (files.Object units) = object_items units
 -- the blocks among items, from this byte of the file on
 abbrev pub items_blocks : ℕ → List ItemValue → List StandingBlock
 items_blocks place [] = []
-items_blocks place (UnitItem number name ∷ rest) = items_blocks (place + 4 * length (item_text (UnitItem number name))) rest
-items_blocks place (HunkItem unit number ∷ rest) = items_blocks place rest
+items_blocks place (UnitItem number u ∷ rest) = items_blocks (place + 4 * length (unit_header u.name)) rest
+items_blocks place (HunkItem unit number h ∷ rest) = items_blocks place rest
 items_blocks place (BlockItem unit hunk b ∷ rest) =
     record { unit = unit; hunk = hunk; block = record { place = place; value = b } }
     ∷ items_blocks (place + 4 * length (block_text b)) rest

@@ -7,6 +7,7 @@ ghost use Rattle.hunk_words.specs.Prints.{Prints};
 ghost use Rattle.hunk_blocks.specs.Parts.{block_text};
 ghost use Rattle.hunk_files.specs.Hunks.{HunkAt, block_texts};
 ghost use Rattle.hunk_files.specs.InPlace.{GivesPart};
+ghost use Rattle.hunk_files.specs.Items.{end_of_blocks};
 ghost use Rattle.hunk_files.specs.Lacks.{EndsAt, EndsHunkPart};
 
 use crate::out_of_memory::out_of_memory;
@@ -70,6 +71,14 @@ impl<'a> BlockViews<'a> {
     {
         self.at as u64
     }
+
+    /// The byte after these blocks, which are passed over.
+    pub(crate) fn end(mut self) -> usize
+        ensures { result ≡ end_of_blocks self.entry }
+    {
+        'passing: while let Some(_) = self.next() {}
+        self.at
+    }
 }
 
 impl<'a> Iterator for BlockViews<'a> {
@@ -98,7 +107,7 @@ impl<'a> Iterator for BlockViews<'a> {
 /// # Errors
 ///
 /// `OutOfMemory` at the last longword of the group, entry or block for which no memory was found.
-#[tactic(auto, using(crate::proofs::BlockPlaces::item_lacks))]
+#[tactic(auto, using(crate::proofs::keeping::BlockPlaces::item_lacks))]
 pub(crate) fn keep_blocks<'a>(
     alloc: Global,
     blocks: &mut BlockViews<'a>,

@@ -3,10 +3,9 @@ ghost use Rattle.std.specs.Prelude.{◌≡◌, ◌≢◌, IfErr, IfOk};
 ghost use Rattle.hunk_words.specs.Longs.{longs};
 ghost use Rattle.hunk_words.specs.declared.reason.Reason.TheVariants as reasons;
 ghost use Rattle.hunk_grammar.specs.FileKind.{sniffed};
+ghost use Rattle.hunk_files.specs.FileParts.{IsPartAt};
 ghost use Rattle.hunk_files.specs.FileView.{file_of};
-ghost use Rattle.hunk_files.specs.HunkFile.{AreFile, IsFileOf, IsRefusal};
-ghost use Rattle.hunk_files.specs.HunkFile.{EndsFilePart, bytes_after};
-ghost use Rattle.hunk_files.specs.HunkFile.{file_bytes, stripped};
+ghost use Rattle.hunk_files.specs.HunkFile.{AreFile, IsFileOf, IsRefusal, EndsFilePart, bytes_after, file_bytes, stripped};
 ghost use Rattle.hunk_files.specs.Lacks.{EndsAt};
 ghost use Rattle.hunk_files.specs.StandingBlocks.{file_items};
 
@@ -15,6 +14,7 @@ use crate::items::Items;
 use crate::load::LoadView;
 use crate::object::ObjectView;
 use crate::ranges::TakesBytes;
+use crate::refusal::Refusal;
 use hunk_grammar::Sniff;
 use hunk_words::{FileFault, HEADER_WORD, LIBRARY_WORD, UNIT_WORD, word_at};
 use std::alloc::Global;
@@ -37,14 +37,16 @@ impl<'a> FileView<'a> {
     ///
     /// # Errors
     ///
-    /// The fault that `ObjectView::read` or `LoadView::read` answers, with its place in bytes from
-    /// the start of the input.
-    pub fn read(bytes: &'a [u8]) -> Result<FileView<'a>, FileFault>
+    /// The refusal that `ObjectView::read` or `LoadView::read` answers, with its place in bytes
+    /// from the start of the input.
+    pub fn read(bytes: &'a [u8]) -> Result<FileView<'a>, Refusal>
         ensures file { IfOk result (λ file. IsFileOf bytes.entry.now (file_of file)) }
-        ensures none { IfErr result (λ fault. AreFile bytes.entry.now → ⊥) }
-        ensures refused { IfErr result
-            (IsRefusal (sniffed (longs bytes.entry.now)) bytes.entry.now) }
-        ensures memory { IfErr result (λ fault. fault.reason ≢ reasons.OutOfMemory) }
+        ensures none { IfErr result (λ r. AreFile bytes.entry.now → ⊥) }
+        ensures refused { IfErr result (λ r.
+            IsRefusal (sniffed (longs bytes.entry.now)) bytes.entry.now r.fault) }
+        ensures part { IfErr result (λ r.
+            IsPartAt (sniffed (longs bytes.entry.now)) bytes.entry.now r.fault.place r.part) }
+        ensures memory { IfErr result (λ r. r.fault.reason ≢ reasons.OutOfMemory) }
     {
         match sniff(bytes) {
             Sniff::Object => {

@@ -4,8 +4,7 @@ ghost use Rattle.hunk_words.specs.Longs.{longs};
 ghost use Rattle.hunk_words.specs.Puts.{PutsText};
 ghost use Rattle.hunk_words.specs.declared.reason.Reason.TheVariants as reasons;
 ghost use Rattle.hunk_grammar.specs.FileKind.{sniffed};
-ghost use Rattle.hunk_files.specs.HunkFile.{AreFile, IsFileOf, IsMemory, IsRefusal, bytes_after};
-ghost use Rattle.hunk_files.specs.HunkFile.{file_bytes, stripped};
+ghost use Rattle.hunk_files.specs.HunkFile.{AreFile, IsFileOf, IsMemory, IsRefusal, bytes_after, file_bytes, stripped};
 
 use crate::file_view::FileView;
 use crate::load::LoadFile;

@@ -5,32 +5,29 @@ ghost use Rattle.hunk_files.specs.ItemViews.{GivesItem, item_seen, stays};
 ghost use Rattle.hunk_files.specs.Items.{ItemsAt, items_at};
 
 use crate::blocks::BlockViews;
-use crate::kept;
-use crate::object::{ends_unit, read_header};
-use hunk_blocks::{BlockView, Payload};
+use crate::object::{HunkView, UnitView, ends_unit, read_header};
+use hunk_blocks::{BlockView, BodyView};
 use std::marker::Model;
 
 /// A thing that stands in a file. Units and hunks are counted from 0, hunks in their unit; a load
 /// file is one unit, which has no header.
 #[derive(Drop)]
 pub enum Item<'a> {
-    /// A unit of an object file begins, with this header.
+    /// A unit of an object file begins with its header: its hunks come next.
     Unit {
-        /// The byte of the input at which it begins.
-        place: u64,
         /// Which one it is.
         number: u64,
-        /// The name in its header, padded with zero bytes to whole longwords.
-        name: Payload<'a>,
+        /// The unit, which knows its byte and its name.
+        view: UnitView<'a>,
     },
     /// A hunk begins: its blocks come next, up to its END.
     Hunk {
-        /// The byte of the input at which its first block begins.
-        place: u64,
         /// Its unit.
         unit: u64,
         /// Which one of the unit it is.
         number: u64,
+        /// The hunk, which knows its byte and how many bytes it has.
+        view: HunkView<'a>,
     },
     /// A block.
     Block {
@@ -50,8 +47,8 @@ impl Item<'_> {
         ensures { result ≡ (item_seen self.now).place }
     {
         match self {
-            Item::Unit { place, .. } => *place,
-            Item::Hunk { place, .. } => *place,
+            Item::Unit { view, .. } => view.place(),
+            Item::Hunk { view, .. } => view.place(),
             Item::Block { view, .. } => view.place(),
         }
     }
@@ -62,7 +59,10 @@ impl Item<'_> {
         ensures { result ≡ stays (item_seen self.now).value }
     {
         match self {
-            Item::Block { view, .. } => kept::stays(view),
+            Item::Block { view, .. } => !matches!(
+                view.body(),
+                BodyView::Name(_) | BodyView::Symbol(_) | BodyView::Debug(_) | BodyView::Advisory(_)
+            ),
             _ => true,
         }
     }
@@ -141,27 +141,27 @@ impl<'a> Iterator for Items<'a> {
         let bytes = self.bytes;
         let at = self.blocks.place() as usize;
         if !ends_unit(&bytes[at..]) {
+            let view = HunkView::at(bytes, at);
             self.hunk = self.hunks;
             self.hunks += 1;
             self.blocks = BlockViews::at(bytes, at);
             return Some(Item::Hunk {
-                place: at as u64,
                 unit: self.unit,
                 number: self.hunk,
+                view,
             });
         }
         if at >= bytes.len() {
             return None;
         }
-        let (name, hunks) = read_header(bytes, at);
+        let (_, hunks) = read_header(bytes, at);
         self.unit = self.units;
         self.units += 1;
         self.hunks = 0;
         self.blocks = BlockViews::none(hunks);
         Some(Item::Unit {
-            place: at as u64,
             number: self.unit,
-            name,
+            view: UnitView::at(bytes, at),
         })
     }
 }

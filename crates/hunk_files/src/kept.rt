@@ -1,8 +1,8 @@
-//! What stands where in a hunk.
+//! The blocks that a stripped file keeps.
 ghost use Rattle.std.specs.Prelude.{◌≡◌};
 ghost use Rattle.hunk_files.specs.Strip.{is_kept};
 
-use hunk_blocks::{Block, BlockView, Body, BodyView};
+use hunk_blocks::{Block, Body};
 
 /// Whether the block says what the hunk is, rather than names, describes or comments it.
 pub(crate) fn is_kept(block: &Block<'_>) -> bool
@@ -11,16 +11,5 @@ pub(crate) fn is_kept(block: &Block<'_>) -> bool
     !matches!(
         block.body(),
         Body::Name(_) | Body::Symbol(_) | Body::Debug(_) | Body::Advisory(_)
-    )
-}
-
-/// The same of a block that is read where it lies.
-#[inline(always)]
-pub(crate) fn stays(block: &BlockView<'_>) -> bool
-    ensures { result ≡ is_kept block.now.value.body }
-{
-    !matches!(
-        block.body(),
-        BodyView::Name(_) | BodyView::Symbol(_) | BodyView::Debug(_) | BodyView::Advisory(_)
     )
 }

@@ -1,37 +1,34 @@
 //! Laws over the definitions alone: each function does nothing, and its contract is the law.
-ghost use Rattle.std.specs.Prelude.{◌≡◌, ◌≤◌, ℕ, List, [], ◌∷◌, ◌++◌, length, map, true, IsTrue};
-ghost use Rattle.std.specs.Prelude.{Some, None, ◌⊎◌, ◌↔◌};
+ghost use Rattle.std.specs.Prelude.{◌≡◌, ◌≤◌, ℕ, List, [], ◌∷◌, ◌++◌, length, map, true, IsTrue, Some, None, ◌⊎◌, ◌↔◌};
 ghost use Rattle.std.specs.List.{AllByRecursion};
 ghost use Rattle.hunk_words.specs.Longs.{IsLong, IsBytes, longs, bytes_of};
 ghost use Rattle.hunk_words.specs.declared.reason.Reason.{Reason};
 ghost use Rattle.hunk_files.specs.LoadFile.{HunkValue, LoadFileValue, IsHunk, IsLoadFile};
 ghost use Rattle.hunk_grammar.specs.Roles.{Role, refuse};
 ghost use Rattle.hunk_files.specs.LoadText.{labelled, table, text};
-ghost use Rattle.hunk_files.specs.Fault.{Expects, IsCompleted, BeginsWithLoadFile, HasRefusal};
-ghost use Rattle.hunk_files.specs.Fault.{IsTruncated, HasFault, is_word_refusal};
+ghost use Rattle.hunk_files.specs.Fault.{Expects, IsCompleted, BeginsWithLoadFile, HasRefusal, IsTruncated, HasFault, is_word_refusal};
 ghost use Rattle.hunk_files.specs.Image.{content, relocations, offsets, image};
 ghost use Rattle.hunk_files.specs.Overlap.{AreApart};
 ghost use Rattle.hunk_files.specs.SumImage.{IsSumImage};
 ghost use Rattle.hunk_files.specs.ObjectFile.{ObjectFileValue, IsNoObjectFile, IsObjectFile, object_text};
-ghost use Rattle.hunk_files.specs.ObjectFault.{HasObjectFault, IsTruncatedObject, ObjectRole, objects, refuse_object};
-ghost use Rattle.hunk_blocks.specs.Faults.{Expects as ExpectsOf, HasRefusal as RefusalOf, IsFront};
-ghost use Rattle.hunk_blocks.specs.Faults.{words};
+ghost use Rattle.hunk_files.specs.ObjectFault.{HasObjectFault, IsTruncatedObject, objects, units_labelled};
+ghost use Rattle.hunk_grammar.specs.ObjectRoles.{ObjectRole, refuse_object};
+ghost use Rattle.hunk_blocks.specs.Faults.{Expects as ExpectsOf, HasRefusal as RefusalOf, IsFront, words};
 ghost use Rattle.hunk_files.specs.Findings.{findings};
 ghost use Rattle.hunk_files.specs.PlacedFindings.{StandsInPlace, placed_findings};
 ghost use Rattle.hunk_files.specs.Strip.{strip_file, strip_object};
 ghost use Rattle.hunk_blocks.specs.AlongText.{GoesAlong};
-ghost use Rattle.hunk_files.specs.Machines.{EndsHunk, is_free, is_free_in_object, leading};
-ghost use Rattle.hunk_files.specs.Machines.{leads_to, load_at, object_at};
+ghost use Rattle.hunk_files.specs.Machines.{EndsHunk, is_free, is_free_in_object, leading, leads_to, load_at, object_at};
 ghost use Rattle.hunk_files.specs.Machines.{refuse_in_load, refuse_in_object};
 ghost use Rattle.hunk_files.specs.Tables.{header_text};
 ghost use Rattle.hunk_files.specs.FileParts.{IsPartAt};
 ghost use Rattle.hunk_files.specs.FileSteps.{Finished, More, Next, Progress, role_of};
 ghost use Rattle.hunk_files.specs.ReadFiles.{IsOf, words_of};
 ghost use Rattle.hunk_files.specs.WordsRead.{HasRead};
-ghost use Rattle.hunk_files.specs.ObjectFault.{BeforeUnits, BetweenHunks, units_labelled};
-ghost use Rattle.hunk_files.specs.ObjectSteps as object;
-ghost use Rattle.hunk_files.specs.declared.object.position.ObjectPosition.{ObjectPosition};
-ghost use Rattle.hunk_files.specs.declared.object.position.ObjectPosition.TheVariants as places;
+ghost use Rattle.hunk_grammar.specs.declared.object_position.WordPlace.TheVariants.{BeforeUnits, BetweenHunks};
+ghost use Rattle.hunk_grammar.specs.ObjectPositions as object;
+ghost use Rattle.hunk_grammar.specs.declared.object_position.ObjectPosition.{ObjectPosition};
+ghost use Rattle.hunk_grammar.specs.declared.object_position.ObjectPosition.TheVariants as places;
 ghost use Rattle.hunk_files.specs.declared.part.Part.{Part};
 ghost use Rattle.hunk_grammar.specs.Positions as load;
 ghost use Rattle.hunk_grammar.specs.declared.file_kind.Sniff.{Sniff};
@@ -40,7 +37,7 @@ ghost use Rattle.hunk_grammar.specs.declared.position.Position.TheVariants as po
 
 /// No load text is a proper prefix of another, one text has one value, and the longwords before a
 /// place determine its role.
-#[tactic(auto, using(crate::proofs::Scan::one_value))]
+#[tactic(auto, using(crate::proofs::walk::Scan::one_value))]
 pub fn load_prefix()
     ensures one_value { (a b : LoadFileValue) (more : List ℕ) → IsLoadFile a → IsLoadFile b →
         text a ++ more ≡ text b → (a ≡ b) × (more ≡ []) }
@@ -56,7 +53,7 @@ pub fn complete()
 {}
 
 /// No longword of a load text is refused.
-#[tactic(auto, using(crate::proofs::Scan::none_refused))]
+#[tactic(auto, using(crate::proofs::walk::Scan::none_refused))]
 pub fn no_refusal()
     ensures { (v : LoadFileValue) → IsLoadFile v →
         AllByRecursion (λ l. refuse l.0 l.1 ≡ None) (labelled v) }
@@ -64,7 +61,7 @@ pub fn no_refusal()
 
 /// Of every list of bytes just one of three holds: it begins with a load text, a longword of it is
 /// refused, or it ends too soon. The fault is one, and the first.
-#[tactic(auto, using(crate::proofs::Scan::some_outcome))]
+#[tactic(auto, using(crate::proofs::walk::Scan::some_outcome))]
 pub fn one_outcome()
     ensures some { (bytes : List ℕ) → IsBytes bytes →
         BeginsWithLoadFile bytes ⊎ ((at : ℕ) × (reason : Reason) × HasFault bytes at reason) }
@@ -92,7 +89,7 @@ pub fn sum_image()
 
 /// What is stripped is a load file with the same table, content and relocations, and so with the
 /// same memory wherever the hunks lie.
-#[tactic(auto, using(crate::proofs::StripLaws::file_kept, crate::proofs::StripLaws::table_kept, crate::proofs::StripLaws::contents_kept, crate::proofs::StripLaws::all_relocations_kept, crate::proofs::StripLaws::images_kept))]
+#[tactic(auto, using(crate::proofs::strip::StripLaws::file_kept, crate::proofs::strip::StripLaws::table_kept, crate::proofs::strip::StripLaws::contents_kept, crate::proofs::strip::StripLaws::all_relocations_kept, crate::proofs::strip::StripLaws::images_kept))]
 pub fn strip_image()
     ensures valid { (v : LoadFileValue) → IsLoadFile v → IsLoadFile (strip_file v) }
     ensures table { (v : LoadFileValue) → table (strip_file v) ≡ table v }
@@ -103,21 +100,21 @@ pub fn strip_image()
 {}
 
 /// One object text has one value.
-#[tactic(auto, using(crate::proofs::UnitCutLaws::object_value))]
+#[tactic(auto, using(crate::proofs::cuts::UnitCutLaws::object_value))]
 pub fn object_value()
     ensures { (a b : ObjectFileValue) → IsObjectFile a → IsObjectFile b →
         object_text a ≡ object_text b → a ≡ b }
 {}
 
 /// What is stripped is an object file with the same findings.
-#[tactic(auto, using(crate::proofs::StripLaws::findings_kept))]
+#[tactic(auto, using(crate::proofs::strip::StripLaws::findings_kept))]
 pub fn strip_findings()
     ensures valid { (o : ObjectFileValue) → IsObjectFile o → IsObjectFile (strip_object o) }
     ensures findings { (o : ObjectFileValue) → findings (strip_object o) ≡ findings o }
 {}
 
 /// Without their places, placed findings are the findings; at the place of each stands its offset.
-#[tactic(auto, using(crate::proofs::PlacedFindingLaws::findings_placed, crate::proofs::PlacedOffsets::findings_stand))]
+#[tactic(auto, using(crate::proofs::findings::PlacedFindingLaws::findings_placed, crate::proofs::findings::PlacedOffsets::findings_stand))]
 pub fn finding_places()
     ensures findings { (o : ObjectFileValue) → map (λ f. f.value) (placed_findings o) ≡ findings o }
     ensures offsets { (o : ObjectFileValue) → IsObjectFile o →
@@ -127,7 +124,7 @@ pub fn finding_places()
 /// Of every list of bytes just one of three holds: it is the text of an object file, all of it, a
 /// longword of it is refused, or it ends too soon. The fault is one, and the first. A longword that
 /// is not refused goes on to an object file, and one that is refused to none.
-#[tactic(auto, using(crate::proofs::ObjectOutcome::some_outcome))]
+#[tactic(auto, using(crate::proofs::object_walk::ObjectOutcome::some_outcome))]
 pub fn object_fault()
     ensures some { (bytes : List ℕ) → IsBytes bytes →
         ((o : ObjectFileValue) × IsObjectFile o × (bytes ≡ bytes_of (object_text o)))
@@ -149,7 +146,7 @@ pub fn object_fault()
 
 /// The machines of positions are those of the formats: along the text of each file the test is that
 /// of each longword's role, the steps lead on, and the end is where a file may end.
-#[tactic(auto, using(crate::proofs::Machines::load_along, crate::proofs::Machines::object_along))]
+#[tactic(auto, using(crate::proofs::walk::Machines::load_along, crate::proofs::walk::Machines::object_along))]
 pub fn machines()
     ensures load { (v : LoadFileValue) → IsLoadFile v →
         GoesAlong refuse_in_load refuse load.step positions.FirstLong (labelled v) positions.Done }
@@ -212,5 +209,5 @@ pub fn object_places()
     ensures free { (role : ObjectRole) (word : ℕ) → is_free_in_object role ≡ true →
         refuse_object role word ≡ None }
     ensures after { (p : ObjectPosition) (ws : List ℕ) → length ws ≡ object.run p →
-        leads_to object.step p ws ≡ object.after p }
+        leads_to object.step p ws ≡ object.pass_run p }
 {}

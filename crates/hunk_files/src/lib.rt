@@ -13,6 +13,7 @@ mod object;
 mod out_of_memory;
 mod part;
 mod ranges;
+mod refusal;
 mod row;
 mod takes;
 
@@ -23,11 +24,12 @@ pub use crate::hunk_file::HunkFile;
 pub use crate::items::{Item, Items};
 pub use crate::load::{ImageFault, LoadFile, LoadHunkView, LoadHunkViews, LoadView, TableIter};
 pub use crate::object::{
-    Finding, FindingKind, Findings, Hunk, HunkView, HunkViews, ObjectFile, ObjectView,
-    PlacedFinding, Unit, UnitView, UnitViews, reference_width, relocation_width, walk_object,
+    Finding, FindingKind, Findings, Hunk, HunkView, ObjectFile, ObjectView, PlacedFinding, Unit,
+    UnitView, reference_width, relocation_width,
 };
-pub use crate::part::{Part, part_at};
+pub use crate::part::Part;
 pub use crate::ranges::TakesBytes;
+pub use crate::refusal::Refusal;
 pub use crate::row::Row;
 pub use crate::takes::Takes;
 pub use hunk_grammar::Sniff;

@@ -1,13 +1,11 @@
 -- A block word of a load file is refused wherever its block stands, or else for its place in the hunk.
 use Rattle.std.proofs.Common.{◌≡◌, ℕ, Bool, true, false, refl, Some, if◌then◌else◌}
-use Rattle.hunk_words.specs.declared.block_word.Kind.{Kind}
+use Rattle.hunk_words.specs.{declared.block_word.Kind.Kind, Bits.{has_both_bits, is_advisory, kind}}
 use Rattle.hunk_words.specs.declared.block_word.Kind.TheVariants as kinds
 use Rattle.hunk_words.specs.declared.reason.Reason.TheVariants as reasons
-use Rattle.hunk_words.specs.Bits.{has_both_bits, is_advisory, kind}
-use Rattle.hunk_blocks.specs.declared.mode.Mode.TheVariants as modes
-use Rattle.hunk_blocks.specs.Modes.{refuse_alone_kind, refuse_alone_word}
-use Rattle.hunk_grammar.specs.Roles.{refuse_kind, refuse_word}
-use Rattle.hunk_grammar.specs.Standings.{first_of, refuse_standing, standing_of_kind}
+use Rattle.hunk_grammar.specs.declared.mode.Mode.TheVariants as modes
+use Rattle.hunk_grammar.specs.Modes.{refuse_alone_kind, refuse_alone_word}
+use Rattle.hunk_grammar.specs.{Roles.{refuse_kind, refuse_word}, Standings.{first_of, refuse_standing, standing_of_kind}}
 
 pub kind_split : (has_content advisory : Bool) (k : Kind) →
     refuse_kind has_content advisory k ≡ first_of (refuse_alone_kind modes.Load advisory k) (refuse_standing has_content (standing_of_kind k))

@@ -1,2 +1,3 @@
 pub mod BlockWords
+pub mod ObjectWords
 pub mod OffsetRuns

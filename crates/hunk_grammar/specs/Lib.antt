@@ -1,4 +1,10 @@
+pub mod BlockParts
+pub mod ExtKinds
 pub mod FileKind
+pub mod Modes
+pub mod ObjectPositions
+pub mod ObjectRoles
+pub mod PhaseSteps
 pub mod Positions
 pub mod Roles
 pub mod Standings

@@ -6,7 +6,7 @@ use Rattle.hunk_words.specs.declared.block_word.Kind.TheVariants as kinds
 use Rattle.hunk_words.specs.declared.reason.Reason.{Reason}
 use Rattle.hunk_words.specs.declared.reason.Reason.TheVariants as reasons
 use Rattle.hunk_words.specs.Bits.{size_longs, has_both_bits, is_advisory, is_relocation, kind, header_word, unit_word, library_word}
-use Rattle.hunk_blocks.specs.Parts.{Part, Part as parts}
+use Rattle.hunk_grammar.specs.BlockParts.{Part, Part as parts}
 
 -- What is known of the file and the hunk where a longword of a block stands: the number of hunks, the
 -- declared longs of the hunk, and whether it has its content block.

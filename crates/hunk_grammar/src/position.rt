@@ -1,11 +1,9 @@
 //! Positions in a load file.
 ghost use Rattle.std.specs.Prelude.{◌≡◌, ◌≤◌, ◌<◌, ◌^◌, false};
 ghost use Rattle.hunk_grammar.specs.Positions as positions;
-ghost use Rattle.hunk_grammar.specs.Positions.{step, run, pass, least_longs};
-ghost use Rattle.hunk_grammar.specs.Positions.{is_done, is_after_header, is_between_hunks};
+ghost use Rattle.hunk_grammar.specs.Positions.{step, run, pass, least_longs, is_done, is_after_header, is_between_hunks};
 
-use crate::phase::OpenHunk;
-use hunk_blocks::Phase;
+use crate::phase::Phase;
 use hunk_words::SizeWord;
 
 /// The longword of the header, counted from 0, that has the number of hunks.
@@ -19,6 +17,17 @@ pub const TABLE_SIZE_AT: usize = 2;
 ///
 /// Source: The AmigaDOS Manual.
 pub const TABLE_AT: usize = 5;
+
+/// The hunk that is open, without its size.
+#[derive(Clone, Copy, Debug, PartialEq, Eq)]
+pub struct OpenHunk {
+    /// The number of hunks of the file.
+    pub hunks: u32,
+    /// How many hunks come after it.
+    pub ahead: u32,
+    /// Whether its content block came.
+    pub has_content: bool,
+}
 
 /// What the next longword of a load file is for.
 ///

@@ -4,8 +4,9 @@ ghost use Rattle.hunk_grammar.specs.Roles.{refuse};
 ghost use Rattle.hunk_grammar.specs.Positions.{role_at};
 ghost use Rattle.hunk_grammar.specs.Standings.{refuse_standing, standing_of_kind};
 
+use crate::mode::Mode;
+use crate::phase::Phase;
 use crate::position::Position;
-use hunk_blocks::{Mode, Phase};
 use hunk_words::{
     BlockWord, HEADER_WORD, Kind, LIBRARY_WORD, MOST_HUNKS, NAME_LIMIT, Reason, SizeWord, UNIT_WORD,
 };

@@ -5,7 +5,8 @@ use Rattle.std.proofs.lemmas.List.{length-map}
 use Rattle.std.proofs.lemmas.List.Sums.{sum_by-cons}
 use Rattle.hunk_words.specs.Longs.{bytes_of}
 use Rattle.hunk_words.proofs.LongLaws.{length-bytes_of}
-use Rattle.hunk_blocks.specs.Parts.{Part, Offset, block_text, body_parts, body_text, ext_parts, group_parts, symbol_parts}
+use Rattle.hunk_grammar.specs.BlockParts.{Part, Offset}
+use Rattle.hunk_blocks.specs.Parts.{block_text, body_parts, body_text, ext_parts, group_parts, symbol_parts}
 use Rattle.hunk_blocks.specs.Values.{RelocGroup, ExtEntry, SymbolEntry, BlockBody, Reloc, Ext, Symbol, BlockValue, offset_count}
 
 -- ---- the offsets of groups

@@ -2,7 +2,6 @@
 use Rattle.std.proofs.Common.{◌≡◌, ℕ, suc, List, [], ◌∷◌, length, Option, Some, None, sym, ap, ◌∙◌, arith}
 use Rattle.std.specs.Iterator.{Drains}
 use Rattle.hunk_blocks.specs.Placed.{Placed, GivesFirst}
-use Rattle.hunk_files.specs.InPlace.{GivesPart}
 
 -- Of items that are given one by one, as many are given as were left.
 given_all : {S T A : Type 0} (gives : S → Option T → S → Type 0) (left : S → List A) → ((s t : S) → gives s None t → left s ≡ []) →
@@ -15,8 +14,3 @@ given_all gives left ends goes (x ∷ given) s drained =
 -- the groups or entries of a list
 pub items_given : {T A : Type 0} (view : T → A) (text : A → List ℕ) (given : List T) (items : Placed (List A)) → Drains (GivesFirst view text) items given → length given ≡ length items.value
 items_given view text given items drained = given_all (GivesFirst view text) (λ s. s.value) (λ s t none. none.0) (λ s t x some. ap length some.0) given items drained
-
--- the parts of a file
-pub parts_given : {A : Type 0} (text : A → List ℕ) (given : List (Placed A)) (parts : Placed (List A)) → Drains (GivesPart text) parts given → length given ≡ length parts.value
-parts_given {A} text given parts drained =
-    given_all (GivesPart text) (λ s. s.value) (λ s t none. none.0) (λ s t x some. ap (λ (p : Placed (List A)). length p.value) some.0) given parts drained

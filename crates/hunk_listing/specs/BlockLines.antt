@@ -2,10 +2,10 @@
 use Rattle.std.specs.Prelude.{ℕ, ◌*◌, ◌%◌, ◌^◌, List, [], ◌++◌, length, codes, decimal, Option, Some, None}
 use Rattle.std.specs.List.{flat_map}
 use Rattle.hunk_words.specs.Bits.{kind, size_longs}
-use Rattle.hunk_blocks.specs.declared.ext_kind.ExtKind.{ExtKind}
-use Rattle.hunk_blocks.specs.declared.ext_shape.ExtShape.{ExtShape}
-use Rattle.hunk_blocks.specs.declared.ext_shape.ExtShape.TheVariants.{Definition, Common, References}
-use Rattle.hunk_blocks.specs.ExtKinds.{ext_kind, ext_name, shape_of_kind}
+use Rattle.hunk_grammar.specs.declared.ext_kind.ExtKind.{ExtKind}
+use Rattle.hunk_grammar.specs.declared.ext_shape.ExtShape.{ExtShape}
+use Rattle.hunk_grammar.specs.declared.ext_shape.ExtShape.TheVariants.{Definition, Common, References}
+use Rattle.hunk_grammar.specs.ExtKinds.{ext_kind, ext_name, shape_of_kind}
 use Rattle.hunk_blocks.specs.Values.{RelocGroup, ExtEntry, SymbolEntry, BlockBody, Name, Code, Data, Bss, Reloc, Ext, Symbol, Debug, Advisory, End, BlockValue, ext_type, offset_count}
 use Rattle.hunk_listing.specs.Printed.{hexadecimal, name_text}
 use Rattle.hunk_listing.specs.BlockNames.{block_flags, kind_name, memory_flags}

@@ -7,7 +7,8 @@ use Rattle.hunk_words.specs.declared.size_word.Memory.TheVariants as memories
 use Rattle.hunk_files.specs.LoadFile.{HunkValue, LoadFileValue, TableEntry}
 use Rattle.hunk_files.specs.LoadText.{table}
 use Rattle.hunk_files.specs.Image.{declared_bytes}
-use Rattle.hunk_files.specs.ObjectFile.{ObjectFileValue, ObjectHunk, UnitValue}
+use Rattle.hunk_files.specs.Items.{ItemValue, UnitItem, HunkItem, BlockItem, object_items}
+use Rattle.hunk_files.specs.ObjectFile.{ObjectFileValue}
 use Rattle.hunk_files.specs.Findings.{hunk_bytes}
 use Rattle.hunk_listing.specs.Printed.{hexadecimal, name_text}
 use Rattle.hunk_listing.specs.BlockLines.{block_lines}
@@ -66,11 +67,11 @@ unit_line number name = codes "unit " ++ decimal number ++ codes " " ++ name_tex
 unfoldable pub object_hunk_line : ℕ → ℕ → List ℕ
 object_hunk_line number bytes = codes "hunk " ++ decimal number ++ codes " " ++ decimal bytes ++ codes " bytes\n"
 
-abbrev pub object_hunk_lines : ℕ → ObjectHunk → List ℕ
-object_hunk_lines number hunk = object_hunk_line number (hunk_bytes hunk) ++ flat_map block_lines hunk
+abbrev pub item_lines : ItemValue → List ℕ
+item_lines (UnitItem number u) = unit_line number u.name
+item_lines (HunkItem unit number h) = object_hunk_line number (hunk_bytes h)
+item_lines (BlockItem unit hunk b) = block_lines b
 
-abbrev pub unit_lines : ℕ → UnitValue → List ℕ
-unit_lines number unit = unit_line number unit.name ++ numbered object_hunk_lines 0 unit.hunks
-
+-- of the file, and of what stands in it, in file order
 abbrev pub object_listing : ObjectFileValue → List ℕ
-object_listing file = object_line (length file) ++ numbered unit_lines 0 file
+object_listing file = object_line (length file) ++ flat_map item_lines (object_items file).value

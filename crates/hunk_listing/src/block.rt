@@ -1,21 +1,18 @@
 //! The lines of a block.
-ghost use Rattle.std.specs.Prelude.{◌≡◌, ◌*◌, ◌%◌, ◌^◌, ◌<◌, ◌≤◌, ◌+◌, ◌++◌, length};
-ghost use Rattle.std.specs.Prelude.{codes, decimal};
-ghost use Rattle.std.specs.List.{flat_map};
+ghost use Rattle.std.specs.Prelude.{◌≡◌, ◌*◌, ◌%◌, ◌^◌, ◌<◌, ◌≤◌, ◌+◌, ◌++◌, length, codes, decimal};
 ghost use Rattle.hunk_words.specs.Prints.{Prints};
 ghost use Rattle.hunk_words.specs.Longs.{longs};
 ghost use Rattle.hunk_blocks.specs.Values.{Ext, Reloc, Symbol, offset_count};
 ghost use Rattle.hunk_blocks.specs.Views.{group_of, symbol_of};
-ghost use Rattle.hunk_files.specs.Hunks.{block_texts};
-ghost use Rattle.hunk_listing.specs.BlockLines.{advisory_line, block_lines, body_lines, group_lines};
-ghost use Rattle.hunk_listing.specs.BlockLines.{head, name_line, symbol_line};
+ghost use Rattle.hunk_listing.specs.BlockLines.{advisory_line, block_lines, body_lines, group_lines, head, name_line, symbol_line};
 ghost use Rattle.hunk_listing.specs.BlockNames.{memory_flags};
 
 use crate::entry::print_entry;
 use crate::line::{LINE, Line};
 use crate::text::print_named;
-use hunk_blocks::{BodyView, EntriesIter, Group, GroupsIter, Payload, SymbolView, SymbolsIter};
-use hunk_files::BlockViews;
+use hunk_blocks::{
+    BlockView, BodyView, EntriesIter, Group, GroupsIter, Payload, SymbolView, SymbolsIter,
+};
 use hunk_words::{BlockWord, Printer, Sink, SizeWord};
 
 /// The flags of a block word, as `BlockWord::flags` gives them.
@@ -25,41 +22,37 @@ const CHIP: u8 = 2;
 
 const FAST: u8 = 4;
 
-/// Prints the lines of the blocks of a hunk, which leaves none of them to come.
+/// Prints the lines of a block.
 #[tactic(auto, unfolding(crate::specs::BlockLines::end_line))]
-pub(crate) fn print_blocks<W: Sink>(page: &mut Printer<'_, W>, blocks: &mut BlockViews<'_>)
-    ensures prints { Prints page.old page.new (flat_map block_lines blocks.old.value) }
-    ensures end { blocks.new.place
-        ≡ blocks.old.place + 4 * length (block_texts blocks.old.value) }
+pub(crate) fn print_block<W: Sink>(page: &mut Printer<'_, W>, block: &BlockView<'_>)
+    ensures { Prints page.old page.new (block_lines block.now.value) }
 {
-    'lines: while let Some(block) = blocks.next() {
-        let word = block.word();
-        // The text has a longword for each offset, so their number fits.
-        let _size = block.encoded_len();
-        match block.body() {
-            BodyView::Name(name) => print_name_line(page, word, name),
-            BodyView::Code { payload, .. }
-            | BodyView::Data { payload, .. }
-            | BodyView::Debug(payload) => {
-                print_number(page, word, payload.byte_count(), b" bytes\n");
-            }
-            BodyView::Bss { size } => {
-                let size = SizeWord {
-                    word: *size,
-                    extra: 0,
-                };
-                print_number(page, word, size.bytes(), b" bytes\n");
-            }
-            BodyView::Reloc(groups) => print_relocations(page, word, groups),
-            BodyView::Ext(entries) => print_entries(page, word, entries),
-            BodyView::Symbol(symbols) => print_symbols(page, word, symbols),
-            BodyView::End => {
-                let mut line = begin_line(word);
-                line.put(b"\n");
-                line.print(page);
-            }
-            BodyView::Advisory(payload) => print_advisory(page, word, payload),
+    let word = block.word();
+    // The text has a longword for each offset, so their number fits.
+    let _size = block.encoded_len();
+    match block.body() {
+        BodyView::Name(name) => print_name_line(page, word, name),
+        BodyView::Code { payload, .. }
+        | BodyView::Data { payload, .. }
+        | BodyView::Debug(payload) => {
+            print_number(page, word, payload.byte_count(), b" bytes\n");
         }
+        BodyView::Bss { size } => {
+            let size = SizeWord {
+                word: *size,
+                extra: 0,
+            };
+            print_number(page, word, size.bytes(), b" bytes\n");
+        }
+        BodyView::Reloc(groups) => print_relocations(page, word, groups),
+        BodyView::Ext(entries) => print_entries(page, word, entries),
+        BodyView::Symbol(symbols) => print_symbols(page, word, symbols),
+        BodyView::End => {
+            let mut line = begin_line(word);
+            line.put(b"\n");
+            line.print(page);
+        }
+        BodyView::Advisory(payload) => print_advisory(page, word, payload),
     }
 }
 
@@ -106,13 +99,8 @@ fn print_name_line<W: Sink>(page: &mut Printer<'_, W>, word: BlockWord, name: &P
 }
 
 /// Prints the line of a block whose name and flags a number follows, up to `end`.
-fn print_number<W: Sink, const END: usize>(
-    page: &mut Printer<'_, W>,
-    word: BlockWord,
-    number: u64,
-    end: &[u8; END],
-)
-    requires { END ≤ 7 }
+fn print_number<W: Sink>(page: &mut Printer<'_, W>, word: BlockWord, number: u64, end: &[u8])
+    requires { length end.now ≤ 7 }
     ensures { Prints page.old page.new (head word ++ codes " " ++ decimal number ++ end.now) }
 {
     let mut line = begin_line(word);

@@ -1,12 +1,13 @@
 //! The lines of a load file.
 ghost use Rattle.hunk_words.specs.Prints.{Prints};
 ghost use Rattle.hunk_files.specs.LoadHunks.{hunk_seen};
-ghost use Rattle.hunk_listing.specs.FileLines.{hunk_lines, load_head, load_listing, rest_line};
+ghost use Rattle.hunk_files.specs.Tables.{size_entry};
+ghost use Rattle.hunk_listing.specs.FileLines.{hunk_line, hunk_lines, load_head, load_listing, rest_line};
 
-use crate::block::print_blocks;
+use crate::block::print_block;
 use crate::line::Line;
 use hunk_files::{LoadHunkView, LoadView};
-use hunk_words::{Memory, Printer, Sink};
+use hunk_words::{Memory, Printer, Sink, SizeWord};
 
 /// Lists the hunks and blocks of a load file that `rest` bytes follow.
 pub fn print_load_file<W: Sink>(page: &mut Printer<'_, W>, file: &LoadView<'_>, rest: u64)
@@ -39,11 +40,20 @@ pub(crate) fn print_load_head<W: Sink>(page: &mut Printer<'_, W>, file: &LoadVie
 }
 
 /// Prints the lines of the hunk.
-#[tactic(auto, unfolding(crate::specs::FileLines::hunk_line))]
-fn print_hunk<W: Sink>(page: &mut Printer<'_, W>, number: u64, mut hunk: LoadHunkView<'_>)
+fn print_hunk<W: Sink>(page: &mut Printer<'_, W>, number: u64, hunk: LoadHunkView<'_>)
     ensures { Prints page.old page.new (hunk_lines number (hunk_seen hunk.entry)) }
 {
-    let (bytes, memory) = (hunk.size.bytes(), hunk.size.memory());
+    print_hunk_line(page, number, hunk.size);
+    'lines: for block in hunk.blocks {
+        print_block(page, &block);
+    }
+}
+
+#[tactic(auto, unfolding(crate::specs::FileLines::hunk_line))]
+fn print_hunk_line<W: Sink>(page: &mut Printer<'_, W>, number: u64, size: SizeWord)
+    ensures { Prints page.old page.new (hunk_line number (size_entry size)) }
+{
+    let (bytes, memory) = (size.bytes(), size.memory());
     let mut line = Line::new();
     line.put(b"hunk ");
     line.put_decimal(number);
@@ -61,7 +71,6 @@ fn print_hunk<W: Sink>(page: &mut Printer<'_, W>, number: u64, mut hunk: LoadHun
     }
     line.put(b"\n");
     line.print(page);
-    print_blocks(page, &mut hunk.blocks);
 }
 
 /// Prints the line that says how many bytes follow the file.

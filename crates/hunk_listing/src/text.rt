@@ -1,6 +1,5 @@
 //! Names, printed.
-ghost use Rattle.std.specs.Prelude.{◌≡◌, ◌≤◌, ◌<◌, ◌++◌, false, length, take, drop};
-ghost use Rattle.std.specs.Prelude.{codes, slice_index};
+ghost use Rattle.std.specs.Prelude.{◌≡◌, ◌≤◌, ◌<◌, ◌++◌, false, length, take, drop, codes, slice_index};
 ghost use Rattle.hunk_words.specs.Prints.{Prints};
 ghost use Rattle.hunk_words.specs.Longs.{longs};
 ghost use Rattle.hunk_listing.specs.Printed.{character, characters, is_plain, name_text};

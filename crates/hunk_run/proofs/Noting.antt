@@ -34,14 +34,14 @@ tells_noted outlet old new status (Some (Fault fault name cause untouched)) (is,
 tells_noted outlet old new status (Some (Output cause)) notes = inr (inr (inr (inl notes)))
 tells_noted outlet old new status (Some (LeftOut name stripped rest)) notes = inl notes
 
--- no status is above 4
-few_status : (fault : RunFault) → status_of fault ≤ 4
-few_status Memory = omega arith
-few_status HexText = omega arith
-few_status (Read place) = omega arith
-few_status (Write written) = omega arith
-few_status (Refused refusal) = omega arith
-few_status (RefusedIn refusal part) = omega arith
+-- a fault has no status of a run that has done what it was to do, and none is above 4
+fault_status : (fault : RunFault) → (0 < status_of fault) × (status_of fault ≤ 4)
+fault_status Memory = (omega arith, omega arith)
+fault_status HexText = (omega arith, omega arith)
+fault_status (Read place) = (omega arith, omega arith)
+fault_status (Write written) = (omega arith, omega arith)
+fault_status (Refused refusal) = (omega arith, omega arith)
+fault_status (RefusedIn refusal) = (omega arith, omega arith)
 
 pub bound_noted : {W : Type 0} (outlet : W → Outlet) (old new : Writing W) (status : ℕ) (note : Option Note) →
     Notes outlet old new status note → status ≤ 4
@@ -49,18 +49,16 @@ bound_noted outlet old new status None (inl done) = omega (arith, done)
 bound_noted outlet old new status None (inr (bytes, text, is, found, takes)) = omega (arith, is)
 bound_noted outlet old new status (Some (Line why)) (is, takes) = omega (arith, is)
 bound_noted outlet old new status (Some NotText) (is, takes) = omega (arith, is)
-bound_noted outlet old new status (Some (Fault fault name cause untouched)) (is, takes) = omega (arith, few_status fault, is)
+bound_noted outlet old new status (Some (Fault fault name cause untouched)) (is, takes) = omega (arith, (fault_status fault).1, is)
 bound_noted outlet old new status (Some (Output cause)) (is, broken) = omega (arith, is)
 bound_noted outlet old new status (Some (LeftOut name stripped rest)) is = omega (arith, is)
 
--- a fault has no status of a run that has done what it was to do
-some_status : (fault : RunFault) → 0 < status_of fault
-some_status Memory = omega arith
-some_status HexText = omega arith
-some_status (Read place) = omega arith
-some_status (Write written) = omega arith
-some_status (Refused refusal) = omega arith
-some_status (RefusedIn refusal part) = omega arith
+-- what holds of each note of what was left out
+pub of_left_out : (Holds : Option Note → Type 0) (stripped rest : ℕ) (name : List ℕ) → Holds None → ((s r : ℕ) → Holds (Some (LeftOut name s r))) →
+    Holds (left_out_note stripped rest name)
+of_left_out Holds zero zero name none some = none
+of_left_out Holds zero (suc more) name none some = some zero (suc more)
+of_left_out Holds (suc more) rest name none some = some (suc more) rest
 
 module _ {W : Type 0} (outlet : W → Outlet) (old new : Writing W) where
   -- a text that is printed where the run ends so
@@ -85,15 +83,16 @@ module _ {W : Type 0} (outlet : W → Outlet) (old new : Writing W) where
   ends_listing HexText name cause result other ends = ends
   ends_listing (Read place) name cause result other ends = ends
   ends_listing (Refused refusal) name cause result other ends = ends
-  ends_listing (RefusedIn refusal part) name cause result other ends = ends
+  ends_listing (RefusedIn refusal) name cause result other ends = ends
   ends_listing (Write written) name cause result other ends = absurd (other written refl)
+
+  some_ended : (text : List ℕ) (ended result : Ended) → EndsOrFails outlet old new text ended result → 0 < ended.status → result.status ≡ 0 → ⊥
+  some_ended text ended result (inl (is, takes)) some none = let same = ap (λ (e : Ended). e.status) is in omega (arith, some, same, none)
+  some_ended text ended result (inr (is, broken)) some none = let same = ap (λ (e : Ended). e.status) is in omega (arith, same, none)
 
   pub not_done : (fault : RunFault) (name : Option (List ℕ)) (cause : Option Error) (untouched : Option (List ℕ)) (result : Ended) →
       EndsByFault outlet old new fault name cause untouched result → result.status ≡ 0 → ⊥
-  not_done fault name cause untouched result (inl (is, takes)) none =
-      let same = ap (λ (e : Ended). e.status) is in omega (arith, some_status fault, same, none)
-  not_done fault name cause untouched result (inr (is, broken)) none =
-      let same = ap (λ (e : Ended). e.status) is in omega (arith, same, none)
+  not_done fault name cause untouched result ends = some_ended _ (fault_ended fault name cause untouched) result ends (fault_status fault).0
 
   -- words that are no order
   pub notes_refusal : (fault : OrderFault) (result : Ended) → EndsOrFails outlet old new (refusal_text fault) (refusal_ended fault) result →
@@ -103,10 +102,6 @@ module _ {W : Type 0} (outlet : W → Outlet) (old new : Writing W) where
   notes_refusal (words.Help text) result ends = notes_ended _ (refusal_ended (words.Help text)) result ends (λ takes. inl refl)
   notes_refusal words.Version result ends = notes_ended _ (refusal_ended words.Version) result ends (λ takes. inl refl)
   notes_refusal words.Memory result ends = notes_ended _ (refusal_ended words.Memory) result ends (λ takes. (refl, takes))
-
-  some_ended : (text : List ℕ) (ended result : Ended) → EndsOrFails outlet old new text ended result → 0 < ended.status → result.status ≡ 0 → ⊥
-  some_ended text ended result (inl (is, takes)) some none = let same = ap (λ (e : Ended). e.status) is in omega (arith, some, same, none)
-  some_ended text ended result (inr (is, broken)) some none = let same = ap (λ (e : Ended). e.status) is in omega (arith, same, none)
 
   pub unheard : (fault : OrderFault) (result : Ended) → EndsOrFails outlet old new (refusal_text fault) (refusal_ended fault) result →
       (IsHelp fault → ⊥) → (fault ≡ words.Version → ⊥) → result.status ≡ 0 → ⊥
@@ -160,13 +155,7 @@ module _ {W : Type 0} (outlet : W → Outlet) (old new : Writing W) where
       EndsByFault outlet old new fault name cause untouched result → NamesFiles order (Some (Fault fault name cause untouched)) → NamesFiles order result.note
   names_fault order fault name cause untouched result ends names = noted_ended (NamesFiles order) _ (fault_ended fault name cause untouched) result ends names tt
 
-  -- a run that was to rewrite a file
-  names_left_out : (strip : Bool) (stripped rest : ℕ) (input output : List ℕ) → NamesFiles (orders.Rewrite strip input output) (left_out_note stripped rest input)
-  names_left_out strip zero zero input output = tt
-  names_left_out strip zero (suc more) input output = refl
-  names_left_out strip (suc more) rest input output = refl
-
-  -- a fault of it: whose name is said, and which file was not touched
+  -- a run that was to rewrite a file: whose name is said, and which file was not touched
   pub rewriting_fault : (strip : Bool) (fault : RunFault) (input output : List ℕ) (cause : Option Error) (result : Ended) →
       EndsRewriting outlet old new (Err fault) input output cause result →
       (name : Option (List ℕ)) × (untouched : Option (List ℕ)) × EndsByFault outlet old new fault name cause untouched result
@@ -176,26 +165,21 @@ module _ {W : Type 0} (outlet : W → Outlet) (old new : Writing W) where
   rewriting_fault strip HexText input output cause result ends = (Some input, Some output, ends, (refl, refl))
   rewriting_fault strip (Read place) input output cause result ends = (Some input, Some output, ends, (refl, refl))
   rewriting_fault strip (Refused refusal) input output cause result ends = (Some input, Some output, ends, (refl, refl))
-  rewriting_fault strip (RefusedIn refusal part) input output cause result ends = (Some input, Some output, ends, (refl, refl))
+  rewriting_fault strip (RefusedIn refusal) input output cause result ends = (Some input, Some output, ends, (refl, refl))
 
   pub names_rewriting : (strip : Bool) (answer : Result Rewritten RunFault) (input output : List ℕ) (cause : Option Error) (result : Ended) →
       EndsRewriting outlet old new answer input output cause result → NamesFiles (orders.Rewrite strip input output) result.note
   names_rewriting strip (Ok done) input output cause result ends =
       noted_ended (NamesFiles (orders.Rewrite strip input output)) _ (rewritten_ended done input) result ends
-      (names_left_out strip (done.read - done.written) done.rest input output) tt
+      (of_left_out (NamesFiles (orders.Rewrite strip input output)) (done.read - done.written) done.rest input tt (λ s r. refl)) tt
   names_rewriting strip (Err fault) input output cause result ends =
       let (name, untouched, by, names) = rewriting_fault strip fault input output cause result ends in
       names_fault (orders.Rewrite strip input output) fault name cause untouched result by names
 
-  notes_left_out : (stripped rest : ℕ) (name : List ℕ) → Notes outlet old new 0 (left_out_note stripped rest name)
-  notes_left_out zero zero name = inl refl
-  notes_left_out zero (suc more) name = refl
-  notes_left_out (suc more) rest name = refl
-
   pub notes_rewriting : (answer : Result Rewritten RunFault) (input output : List ℕ) (cause : Option Error) (result : Ended) →
       EndsRewriting outlet old new answer input output cause result → Notes outlet old new result.status result.note
   notes_rewriting (Ok done) input output cause result ends =
-      notes_ended _ (rewritten_ended done input) result ends (λ takes. notes_left_out (done.read - done.written) done.rest input)
+      notes_ended _ (rewritten_ended done input) result ends (λ takes. of_left_out (Notes outlet old new 0) (done.read - done.written) done.rest input (inl refl) (λ s r. refl))
   notes_rewriting (Err fault) input output cause result ends =
       let (name, untouched, by, names) = rewriting_fault false fault input output cause result ends in notes_fault fault name cause untouched result by
 
@@ -229,7 +213,7 @@ module _ {W : Type 0} (outlet : W → Outlet) (old mid new : Writing W) (name : 
   notes_listing (Err HexText) outcome ends = notes_since HexText (outcome.fails.untouched (λ is. is)) ends
   notes_listing (Err (Read place)) outcome ends = notes_since (Read place) (outcome.fails.untouched (λ is. is)) ends
   notes_listing (Err (Refused refusal)) outcome ends = notes_since (Refused refusal) (outcome.fails.untouched (λ is. is)) ends
-  notes_listing (Err (RefusedIn refusal part)) outcome ends = notes_since (RefusedIn refusal part) (outcome.fails.untouched (λ is. is)) ends
+  notes_listing (Err (RefusedIn refusal)) outcome ends = notes_since (RefusedIn refusal) (outcome.fails.untouched (λ is. is)) ends
 
   -- where the status is 0 no more was printed, and nothing is said
   pub listing_done : (answer : Result ℕ RunFault) → EndsListing outlet mid new answer name cause result → result.status ≡ 0 →
@@ -240,7 +224,7 @@ module _ {W : Type 0} (outlet : W → Outlet) (old mid new : Writing W) (name : 
   listing_done (Err HexText) ends none = absurd (not_done outlet mid new HexText name cause None result ends none)
   listing_done (Err (Read place)) ends none = absurd (not_done outlet mid new (Read place) name cause None result ends none)
   listing_done (Err (Refused refusal)) ends none = absurd (not_done outlet mid new (Refused refusal) name cause None result ends none)
-  listing_done (Err (RefusedIn refusal part)) ends none = absurd (not_done outlet mid new (RefusedIn refusal part) name cause None result ends none)
+  listing_done (Err (RefusedIn refusal)) ends none = absurd (not_done outlet mid new (RefusedIn refusal) name cause None result ends none)
 
   pub done_where : (Done : Writing W → Type 0) (answer : Result ℕ RunFault) → IfOk answer (λ status. status ≡ 0 → Done mid) →
       EndsListing outlet mid new answer name cause result → result.status ≡ 0 → Done new
@@ -257,4 +241,4 @@ module _ {W : Type 0} (outlet : W → Outlet) (old mid new : Writing W) (name : 
   names_listing order (Err HexText) ends names none = names_fault outlet mid new order HexText name cause None result ends (names, sym none)
   names_listing order (Err (Read place)) ends names none = names_fault outlet mid new order (Read place) name cause None result ends (names, sym none)
   names_listing order (Err (Refused refusal)) ends names none = names_fault outlet mid new order (Refused refusal) name cause None result ends (names, sym none)
-  names_listing order (Err (RefusedIn refusal part)) ends names none = names_fault outlet mid new order (RefusedIn refusal part) name cause None result ends (names, sym none)
+  names_listing order (Err (RefusedIn refusal)) ends names none = names_fault outlet mid new order (RefusedIn refusal) name cause None result ends (names, sym none)

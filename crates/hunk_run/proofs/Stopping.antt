@@ -1,23 +1,28 @@
 -- Which fault a run tells of, and which file it makes.
-use Rattle.std.proofs.Common.{◌≡◌, ◌∙◌, ◌⊎◌, ◌-◌, ℕ, zero, suc, Bool, false, true, List, Option, Some, None, inl, inr, ap, refl, subst, sym}
+use Rattle.std.proofs.Common.{◌≡◌, ◌∙◌, ◌⊎◌, ◌-◌, ℕ, Bool, false, true, List, Option, Some, None, inl, inr, ap, refl, subst, sym}
 use Rattle.std.specs.Prelude.{◌↔◌, Result, Ok, Err, IfErr, IfOk, IsErrAnd, is_some}
 use Rattle.std.specs.declared.io.Error.{Error}
 use Rattle.hunk_words.specs.Carriers.{Outlet, Writing}
+use Rattle.hunk_command_line.specs.Asked.{RefusesOrder}
 use Rattle.hunk_command_line.specs.declared.asked.Order.{Order}
 use Rattle.hunk_command_line.specs.declared.asked.Order.TheVariants as orders
+use Rattle.hunk_command_line.specs.declared.asked.OrderFault.{OrderFault}
 use Rattle.hunk_commands.specs.Faults.{IsWrite}
+use Rattle.hunk_commands.specs.Inputs.{HasFile}
 use Rattle.hunk_commands.specs.Output.{StopsOutput}
 use Rattle.hunk_commands.specs.declared.fault.RunFault.{RunFault}
 use Rattle.hunk_commands.specs.declared.fault.RunFault.TheVariants.{HexText, Memory, Read, Refused, RefusedIn, Write}
 use Rattle.hunk_commands.specs.declared.rewriting.Rewritten.{Rewritten}
-use Rattle.hunk_run.specs.Notes.{EndsByFault, EndsListing, EndsRewriting, fault_ended, left_out_note, rewritten_ended}
-use Rattle.hunk_run.specs.Orders.{LacksMemory, MakesOut, RewritesFirst, RewritesInput, RewritesTo, StopsOrder, TellsFault}
+use Rattle.hunk_run.specs.Inputs.{unread}
+use Rattle.hunk_run.specs.Notes.{EndsByFault, EndsListing, EndsOrFails, EndsRewriting, NamesFiles, fault_ended, input_of, output_of, refusal_ended, refusal_text, rewritten_ended}
+use Rattle.hunk_run.specs.Orders.{EndsOrder, HasOrdered, IsOrderDone, LacksMemory, MakesOut, RewritesFirst, RewritesInput, RewritesTo, SaysLeftOut, StopsOrder, TellsFault}
 use Rattle.hunk_run.specs.Refusals.{IsOfSystem, IsRead}
 use Rattle.hunk_run.specs.Stores.{MadeFile, MakesAtMost, MakesFile}
 use Rattle.hunk_run.specs.declared.note.Ended.{Ended}
+use Rattle.hunk_run.specs.declared.note.Note.{Note}
 use Rattle.hunk_run.specs.declared.note.Note.TheVariants.{Fault}
 use Rattle.hunk_run.specs.Status.{TellsOutcome}
-use Rattle.hunk_run.proofs.Noting.{noted_ended, rewriting_fault}
+use Rattle.hunk_run.proofs.Noting.{done_where, listing_done, names_listing, names_rewriting, noted_ended, noted_memory, of_left_out, rewriting_fault, says_left_out, unordered}
 
 module _ (first made : Option MadeFile) (most : ℕ) (known : Option (List ℕ)) where
   -- memory may always run out
@@ -37,7 +42,7 @@ module _ (first made : Option MadeFile) (most : ℕ) (known : Option (List ℕ))
   told order HexText name cause untouched other stops reads same = (stops, reads, same)
   told order (Read place) name cause untouched other stops reads same = (stops, reads, same)
   told order (Refused refusal) name cause untouched other stops reads same = (stops, reads, same)
-  told order (RefusedIn refusal part) name cause untouched other stops reads same = (stops, reads, same)
+  told order (RefusedIn refusal) name cause untouched other stops reads same = (stops, reads, same)
   told order (Write written) name cause untouched other stops reads same = absurd (other tt)
 
   module _ {W : Type 0} (outlet : W → Outlet) (old new : Writing W) (order : Order) (cause : Option Error) (result : Ended) where
@@ -58,15 +63,10 @@ module _ (first made : Option MadeFile) (most : ℕ) (known : Option (List ℕ))
     tells_listing (Err HexText) name ends stops reads same = tells HexText name None (λ is. is) ends (stops (λ is. is)) reads same
     tells_listing (Err (Read place)) name ends stops reads same = tells (Read place) name None (λ is. is) ends (stops (λ is. is)) reads same
     tells_listing (Err (Refused refusal)) name ends stops reads same = tells (Refused refusal) name None (λ is. is) ends (stops (λ is. is)) reads same
-    tells_listing (Err (RefusedIn refusal part)) name ends stops reads same = tells (RefusedIn refusal part) name None (λ is. is) ends (stops (λ is. is)) reads same
+    tells_listing (Err (RefusedIn refusal)) name ends stops reads same = tells (RefusedIn refusal) name None (λ is. is) ends (stops (λ is. is)) reads same
 
   -- a rewriting
   module _ {W : Type 0} (outlet : W → Outlet) (old new : Writing W) (strip : Bool) (input output : List ℕ) (cause : Option Error) (result : Ended) where
-    left_out_told : (stripped rest : ℕ) → TellsFault first made most known (orders.Rewrite strip input output) (left_out_note stripped rest input)
-    left_out_told zero zero = tt
-    left_out_told zero (suc more) = tt
-    left_out_told (suc more) rest = tt
-
     read_alone : (fault : RunFault) → ¬ IsWrite fault → is_some cause ≡ true ↔ IsOfSystem fault → is_some cause ≡ true ↔ IsRead fault
     read_alone fault other of_system = (λ some. elim (of_system.0 some) [ inl read ↦ read | inr write ↦ absurd (other write) ], λ read. of_system.1 (inl read))
 
@@ -83,7 +83,7 @@ module _ (first made : Option MadeFile) (most : ℕ) (known : Option (List ℕ))
         is_some cause ≡ true ↔ IsErrAnd answer IsOfSystem → TellsFault first made most known (orders.Rewrite strip input output) result.note
     tells_rewriting (Ok done) ends writes same stops of_system =
         noted_ended outlet old new (TellsFault first made most known (orders.Rewrite strip input output)) _ (rewritten_ended done input) result ends
-        (left_out_told (done.read - done.written) done.rest) tt
+        (of_left_out (TellsFault first made most known (orders.Rewrite strip input output)) (done.read - done.written) done.rest input tt (λ s r. tt)) tt
     tells_rewriting (Err (Write written)) ends writes same stops of_system =
         noted_ended outlet old new (TellsFault first made most known (orders.Rewrite strip input output)) _ (fault_ended (Write written) (Some output) cause None) result ends
         (writes written refl, of_system.1 (inr tt)) tt
@@ -91,7 +91,7 @@ module _ (first made : Option MadeFile) (most : ℕ) (known : Option (List ℕ))
     tells_rewriting (Err HexText) ends writes same stops of_system = by_other HexText (λ is. is) ends same stops of_system
     tells_rewriting (Err (Read place)) ends writes same stops of_system = by_other (Read place) (λ is. is) ends same stops of_system
     tells_rewriting (Err (Refused refusal)) ends writes same stops of_system = by_other (Refused refusal) (λ is. is) ends same stops of_system
-    tells_rewriting (Err (RefusedIn refusal part)) ends writes same stops of_system = by_other (RefusedIn refusal part) (λ is. is) ends same stops of_system
+    tells_rewriting (Err (RefusedIn refusal)) ends writes same stops of_system = by_other (RefusedIn refusal) (λ is. is) ends same stops of_system
 
 -- the file that a rewriting makes
 module _ (first made : Option MadeFile) (most : ℕ) (known : Option (List ℕ)) (strip : Bool) (output : List ℕ) where
@@ -111,7 +111,7 @@ module _ (first made : Option MadeFile) (most : ℕ) (known : Option (List ℕ))
   made_by (Err HexText) rewrites writes same = inl (same (λ is. is))
   made_by (Err (Read place)) rewrites writes same = inl (same (λ is. is))
   made_by (Err (Refused refusal)) rewrites writes same = inl (same (λ is. is))
-  made_by (Err (RefusedIn refusal part)) rewrites writes same = inl (same (λ is. is))
+  made_by (Err (RefusedIn refusal)) rewrites writes same = inl (same (λ is. is))
 
   pub makes_out : (wanted : Option Order) (input : List ℕ) (answer : Result Rewritten RunFault) → wanted ≡ Some (orders.Rewrite strip input output) →
       IfOk answer (λ done. RewritesInput known (RewritesTo first made output strip done) most) →
@@ -146,18 +146,68 @@ module _ {W : Type 0} (outlet : W → Outlet) (old mid new : Writing W) (cause :
   lacks_listing (Err HexText) name outcome memory ends = lacks_since HexText name (λ is. is) outcome.fails memory ends
   lacks_listing (Err (Read place)) name outcome memory ends = lacks_since (Read place) name (λ is. is) outcome.fails memory ends
   lacks_listing (Err (Refused refusal)) name outcome memory ends = lacks_since (Refused refusal) name (λ is. is) outcome.fails memory ends
-  lacks_listing (Err (RefusedIn refusal part)) name outcome memory ends = lacks_since (RefusedIn refusal part) name (λ is. is) outcome.fails memory ends
+  lacks_listing (Err (RefusedIn refusal)) name outcome memory ends = lacks_since (RefusedIn refusal) name (λ is. is) outcome.fails memory ends
 
 module _ {W : Type 0} (outlet : W → Outlet) (old new : Writing W) (input output : List ℕ) (cause : Option Error) (result : Ended) where
-  lacks_left_out : (stripped rest : ℕ) → LacksMemory (left_out_note stripped rest input)
-  lacks_left_out zero zero = tt
-  lacks_left_out zero (suc more) = tt
-  lacks_left_out (suc more) rest = tt
-
   pub lacks_rewriting : (answer : Result Rewritten RunFault) → (cause ≡ None → IfErr answer (λ fault. fault ≡ Memory)) →
       EndsRewriting outlet old new answer input output cause result → LacksMemory result.note
   lacks_rewriting (Ok done) memory ends =
-      noted_ended outlet old new LacksMemory _ (rewritten_ended done input) result ends (lacks_left_out (done.read - done.written) done.rest) tt
+      noted_ended outlet old new LacksMemory _ (rewritten_ended done input) result ends (of_left_out LacksMemory (done.read - done.written) done.rest input tt (λ s r. tt)) tt
   lacks_rewriting (Err fault) memory ends =
       let (name, untouched, by, names) = rewriting_fault outlet old new true fault input output cause result ends in
       noted_ended outlet old new LacksMemory _ (fault_ended fault name cause untouched) result by (lacks fault name cause untouched memory) tt
+
+-- ---- how a run ends that has an order
+
+-- what is known of the order where its input, of this name, was listed
+abbrev pub ListsOrder : {W : Type 0} → (W → Outlet) → Writing W → Writing W → Option MadeFile → ℕ → Option (List ℕ) → Order → Result ℕ RunFault → Option (List ℕ) → Option Error → Type 0
+ListsOrder outlet old mid first most known order answer name cause =
+    (name ≡ input_of order)
+    × IfOk answer (λ status. status ≡ 0 → IsOrderDone outlet old mid first first most known order)
+    × IfErr answer (λ fault. ¬ IsWrite fault → StopsOrder most known order fault)
+    × (HasOrdered most known order → cause ≡ None → (outlet mid.sink).failed ≡ false → IfErr answer (λ fault. fault ≡ Memory))
+
+-- it was to list an input; the output is mid after what was listed
+pub listing_ends : {W : Type 0} (outlet : W → Outlet) (old mid new : Writing W) (first : Option MadeFile) (most : ℕ) (known : Option (List ℕ)) (order : Order)
+    (answer : Result ℕ RunFault) (name : Option (List ℕ)) (cause : Option Error) (result : Ended) → TellsOutcome outlet old mid answer →
+    EndsListing outlet mid new answer name cause result → is_some cause ≡ true ↔ IsErrAnd answer IsRead → output_of order ≡ None →
+    SaysLeftOut outlet old new first first most known order None → ListsOrder outlet old mid first most known order answer name cause →
+    EndsOrder outlet old new first first most known order result
+listing_ends outlet old mid new first most known order answer name cause result outcome ends reads none unsaid (named, done, stops, memory) = record {
+  done = λ zero. done_where outlet old mid new name cause result (λ (w : Writing _). IsOrderDone outlet old w first first most known order) answer done ends zero;
+  left_out = λ zero.
+      let (ok, same, quiet) = listing_done outlet mid mid new name cause result answer ends zero in
+      subst (λ (note : Option Note). SaysLeftOut outlet old new first first most known order note) (sym quiet) unsaid;
+  names = names_listing outlet old mid new name cause result order answer ends named none;
+  stops = tells_listing first first most known outlet mid new order cause result answer name ends stops reads refl;
+  succeeds = λ has sound. lacks_listing outlet old mid new cause result sound answer name outcome (memory has) ends;
+}
+
+-- it was to rewrite a file
+pub rewriting_ends : {W : Type 0} (outlet : W → Outlet) (old new : Writing W) (first made : Option MadeFile) (most : ℕ) (known : Option (List ℕ)) (strip : Bool)
+    (answer : Result Rewritten RunFault) (input output : List ℕ) (cause : Option Error) (result : Ended) → EndsRewriting outlet old new answer input output cause result →
+    IfOk answer (λ done. RewritesInput known (RewritesTo first made output strip done) most) →
+    IfErr answer (λ fault. (written : ℕ) → fault ≡ Write written → RewritesInput known (RewritesFirst first made output strip written) most) →
+    IfErr answer (λ fault. ¬ IsWrite fault → made ≡ first) →
+    IfErr answer (λ fault. ¬ IsWrite fault → StopsOrder most known (orders.Rewrite strip input output) fault) →
+    is_some cause ≡ true ↔ IsErrAnd answer IsOfSystem → (HasFile (unread known) most → cause ≡ None → IfErr answer (λ fault. fault ≡ Memory)) →
+    EndsOrder outlet old new first made most known (orders.Rewrite strip input output) result
+rewriting_ends outlet old new first made most known strip answer input output cause result ends rewrites writes same stops of_system memory = record {
+  done = λ zero. (says_left_out outlet old new first made most known strip answer input output cause result rewrites ends zero).0;
+  left_out = says_left_out outlet old new first made most known strip answer input output cause result rewrites ends;
+  names = names_rewriting outlet old new strip answer input output cause result ends;
+  stops = tells_rewriting first made most known outlet old new strip input output cause result answer ends writes same stops of_system;
+  succeeds = λ has sound. lacks_rewriting outlet old new input output cause result answer (memory has) ends;
+}
+
+-- the words were refused, for want of memory
+pub refusal_ends : {W : Type 0} (outlet : W → Outlet) (old new : Writing W) (first : Option MadeFile) (most : ℕ) (known : Option (List ℕ)) (wanted : Option Order)
+    (order : Order) (fault : OrderFault) (result : Ended) → RefusesOrder wanted fault → wanted ≡ Some order →
+    EndsOrFails outlet old new (refusal_text fault) (refusal_ended fault) result → EndsOrder outlet old new first first most known order result
+refusal_ends outlet old new first most known wanted order fault result refuses is ends = record {
+  done = λ zero. absurd (unordered outlet old new wanted order fault result refuses is ends zero);
+  left_out = λ zero. absurd (unordered outlet old new wanted order fault result refuses is ends zero);
+  names = noted_memory outlet old new (NamesFiles order) wanted order fault result refuses is ends tt tt;
+  stops = noted_memory outlet old new (TellsFault first first most known order) wanted order fault result refuses is ends (memory_told first first most known order refl) tt;
+  succeeds = λ has sound. noted_memory outlet old new LacksMemory wanted order fault result refuses is ends refl tt;
+}

@@ -60,8 +60,8 @@ fault_note HexText name cause untouched = Some (said (shown_name name (codes "st
     (codes "no hexadecimal text: two digits a byte are wanted, and nothing else but spaces, tabs and line ends") untouched)
 fault_note (Refused refusal) name cause untouched =
     Some (said (shown_name name (codes "standard input")) (verdict_line (record { refusal = refusal; part = None })) untouched)
-fault_note (RefusedIn refusal part) name cause untouched =
-    Some (said (shown_name name (codes "standard input")) (verdict_line (record { refusal = refusal; part = Some part })) untouched)
+fault_note (RefusedIn refusal) name cause untouched =
+    Some (said (shown_name name (codes "standard input")) (verdict_line (record { refusal = refusal.fault; part = Some refusal.part })) untouched)
 fault_note (Read place) name (Some error) untouched = None
 fault_note (Read place) name None untouched = Some (said (shown_name name (codes "standard input")) (codes "reading failed") untouched)
 fault_note (Write written) name (Some error) untouched = None

@@ -1,5 +1,5 @@
 -- What an order comes to: its output is a writer that is old before it and new after it, and so is the file that its store makes.
-use Rattle.std.specs.Prelude.{◌≡◌, ◌⊎◌, ◌↔◌, ⊤, ℕ, Bool, true, List, Option, Some, None, is_some, length, ◌-◌}
+use Rattle.std.specs.Prelude.{◌≡◌, ◌⊎◌, ◌↔◌, ⊤, ℕ, Bool, false, true, List, Option, Some, None, is_some, length, ◌-◌}
 use Rattle.hunk_words.specs.Carriers.{Outlet, Writing, saturated}
 use Rattle.hunk_command_line.specs.declared.asked.Order.{Order}
 use Rattle.hunk_command_line.specs.declared.asked.Order.TheVariants as orders
@@ -11,11 +11,12 @@ use Rattle.hunk_commands.specs.declared.fault.RunFault.{RunFault}
 use Rattle.hunk_commands.specs.declared.fault.RunFault.TheVariants.{Memory, Write}
 use Rattle.hunk_commands.specs.declared.rewriting.Rewritten.{Rewritten}
 use Rattle.hunk_run.specs.Inputs.{HasInput, unread}
-use Rattle.hunk_run.specs.Notes.{left_out_note, output_of}
+use Rattle.hunk_run.specs.Notes.{NamesFiles, left_out_note, output_of}
 use Rattle.hunk_run.specs.Refusals.{FromInput, IsRead, StopsInput, StopsSource}
 use Rattle.hunk_run.specs.Runs.{ListsInput, rewritten_lines}
 use Rattle.hunk_run.specs.Stores.{MadeFile, MakesFile, MakesFirst, MakesWhole}
 use Rattle.hunk_run.specs.declared.listing.Listing.TheVariants as listings
+use Rattle.hunk_run.specs.declared.note.Ended.{Ended}
 use Rattle.hunk_run.specs.declared.note.Note.{Note}
 use Rattle.hunk_run.specs.declared.note.Note.TheVariants.{Fault}
 
@@ -96,3 +97,14 @@ HasOrdered most known (orders.Rewrite strip input output) = HasFile (unread know
 abbrev pub LacksMemory : Option Note → Type 0
 LacksMemory (Some (Fault fault name None untouched)) = fault ≡ Memory
 LacksMemory _ = ⊤
+
+-- ---- how a run ends
+
+-- The run has this order: where the status is 0 it is done, and what it has left out is said. The note names its files, and says why it is not done.
+pub record EndsOrder {W : Type 0} (outlet : W → Outlet) (old new : Writing W) (first made : Option MadeFile) (most : ℕ) (known : Option (List ℕ))
+    (order : Order) (ended : Ended) : Type 0 where
+  pub done : ended.status ≡ 0 → IsOrderDone outlet old new first made most known order
+  pub left_out : ended.status ≡ 0 → SaysLeftOut outlet old new first made most known order ended.note
+  pub names : NamesFiles order ended.note
+  pub stops : TellsFault first made most known order ended.note
+  pub succeeds : HasOrdered most known order → (outlet old.sink).failed ≡ false → LacksMemory ended.note

@@ -1,6 +1,6 @@
 -- Why nothing is printed or written of an input.
-use Rattle.std.specs.Prelude.{◌≡◌, ◌⊎◌, ◌+◌, ℕ, Bool, true, false, List, Option}
-use Rattle.hunk_words.specs.Carriers.{Supply}
+use Rattle.std.specs.Prelude.{◌≡◌, ◌⊎◌, ◌+◌, ℕ, Bool, true, false, List, Option, Result, IfErr, IfOk}
+use Rattle.hunk_words.specs.Carriers.{Outlet, Supply, Writing}
 use Rattle.hunk_scatter.specs.LoadOutcomes.{Gives}
 use Rattle.hunk_commands.specs.declared.fault.RunFault.{RunFault}
 use Rattle.hunk_commands.specs.declared.fault.RunFault.TheVariants.{Memory, Read}
@@ -10,8 +10,10 @@ use Rattle.hunk_commands.specs.Engine.{ReadsNoFile}
 use Rattle.hunk_commands.specs.Faults.{IsWrite}
 use Rattle.hunk_commands.specs.HexText.{ReadsHex}
 use Rattle.hunk_commands.specs.Relocating.{StopsLoading}
-use Rattle.hunk_run.specs.Inputs.{slice, unread}
-use Rattle.hunk_run.specs.Runs.{ReadsNoText}
+use Rattle.hunk_commands.specs.Inputs.{TellsReading}
+use Rattle.hunk_run.specs.Inputs.{HasInput, slice, unread}
+use Rattle.hunk_run.specs.Runs.{ListsSource, ReadsNoText}
+use Rattle.hunk_run.specs.Status.{TellsOutcome}
 use Rattle.hunk_run.specs.Stores.{Leaves}
 
 -- it was not read, or its bytes are refused, of which at most this many are read
@@ -56,3 +58,14 @@ IsRead fault = (place : ℕ) × (fault ≡ Read place)
 -- It is one of reading or writing.
 abbrev pub IsOfSystem : RunFault → Type 0
 IsOfSystem fault = IsRead fault ⊎ IsWrite fault
+
+-- ---- what comes of listing what a source has, or where `hex` is set what its text spells
+
+pub record ListsSupply {W : Type 0} (outlet : W → Outlet) (hex : Bool) (listing : Listing) (before after : Supply) (most : ℕ) (old new : Writing W)
+    (result : Result ℕ RunFault) : Type 0 where
+  pub outcome : TellsOutcome outlet old new result
+  pub done : IfOk result (λ status. status ≡ 0 → ListsSource outlet hex listing before after old new)
+  -- with such an input only memory can run out, where nothing has failed
+  pub succeeds : HasInput hex listing before most → after.failed ≡ false → (outlet new.sink).failed ≡ false → IfErr result (λ fault. fault ≡ Memory)
+  pub tells_read : TellsReading before after result
+  pub stops : IfErr result (λ fault. ¬ IsWrite fault → StopsSource hex listing before after most fault)

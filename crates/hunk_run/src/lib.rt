@@ -1,7 +1,7 @@
 //! A run of the program hunkinfo: the words are read, what they ask for is done, and one text is printed, once.
 #![tactic(auto)]
 
-ghost use Rattle.std.specs.Prelude.{◌≡◌, ◌≤◌, map, false, true, Some, None};
+ghost use Rattle.std.specs.Prelude.{◌≡◌, ◌≤◌, map, true, Some, None};
 ghost use Rattle.std.specs.String.{string_bytes};
 ghost use Rattle.clap.specs.Words.{takes};
 ghost use Rattle.clap.specs.Kinds.{IsAmong};
@@ -9,10 +9,8 @@ ghost use Rattle.clap.specs.Faults.{fault_of};
 ghost use Rattle.clap.specs.declared.error.kind.ErrorKind.TheVariants.{DisplayHelp, DisplayVersion};
 ghost use Rattle.hunk_command_line.specs.declared.asked.Order.{Order};
 ghost use Rattle.hunk_run.specs.Status.{TellsStatus};
-ghost use Rattle.hunk_run.specs.Notes.{EndsByFault, EndsListing, EndsOrFails, EndsRewriting};
-ghost use Rattle.hunk_run.specs.Notes.{NamesFiles, Notes, input_of, refusal_ended, refusal_text};
-ghost use Rattle.hunk_run.specs.Orders.{HasOrdered, IsOrderDone, LacksMemory, MakesOut};
-ghost use Rattle.hunk_run.specs.Orders.{SaysLeftOut, TellsFault};
+ghost use Rattle.hunk_run.specs.Notes.{EndsByFault, EndsListing, EndsOrFails, EndsRewriting, Notes, input_of, refusal_ended, refusal_text};
+ghost use Rattle.hunk_run.specs.Orders.{EndsOrder, IsOrderDone, MakesOut};
 ghost use Rattle.hunk_command_line.specs.Command.{hunkinfo};
 ghost use Rattle.hunk_command_line.specs.Line.{order_of, words_read};
 ghost use Rattle.hunk_run.specs.Runs.{PrintsNoHelp};
@@ -70,12 +68,12 @@ pub fn run<S: Store, W: Sink>(
     ensures bound { result.0.status ≤ 4 }
     ensures tells { TellsStatus W.outlet out.old out.new result.0.status }
 
-    // Where clap takes the words: they are an order, which is done where the status is 0, or they
-    // are refused.
-    ensures done { (order : Order) → takes hunkinfo (words_read (map string_bytes words.now)) ≡ true
-        → order_of (map string_bytes words.now) ≡ Some order → result.0.status ≡ 0
-        → IsOrderDone W.outlet out.old out.new (S.made store) (S.made result.1) FILE_BYTES
-        (bytes_of_input (S.holdings store) (S.made store) (input_of order)) order }
+    // Where clap takes the words: they are an order, and the run ends as it asks, or they are
+    // refused.
+    ensures ordered { (order : Order) → takes hunkinfo (words_read (map string_bytes words.now)) ≡ true
+        → order_of (map string_bytes words.now) ≡ Some order
+        → EndsOrder W.outlet out.old out.new (S.made store) (S.made result.1) FILE_BYTES
+        (bytes_of_input (S.holdings store) (S.made store) (input_of order)) order result.0 }
     ensures refused { takes hunkinfo (words_read (map string_bytes words.now)) ≡ true
         → order_of (map string_bytes words.now) ≡ None
         → PrintsNoHelp W.outlet out.old out.new result.0.status }
@@ -96,24 +94,8 @@ pub fn run<S: Store, W: Sink>(
         (order_of (map string_bytes words.now)) }
     ensures holds { S.holdings result.1 ≡ S.holdings store }
 
-    // What is said on standard error, and of which file.
+    // What is said on standard error.
     ensures notes { Notes W.outlet out.old out.new result.0.status result.0.note }
-    ensures names { (order : Order) → takes hunkinfo (words_read (map string_bytes words.now)) ≡ true
-        → order_of (map string_bytes words.now) ≡ Some order → NamesFiles order result.0.note }
-    ensures stops { (order : Order) → takes hunkinfo (words_read (map string_bytes words.now)) ≡ true
-        → order_of (map string_bytes words.now) ≡ Some order
-        → TellsFault (S.made store) (S.made result.1) FILE_BYTES
-        (bytes_of_input (S.holdings store) (S.made store) (input_of order)) order result.0.note }
-    ensures succeeds { (order : Order)
-        → takes hunkinfo (words_read (map string_bytes words.now)) ≡ true
-        → order_of (map string_bytes words.now) ≡ Some order → HasOrdered FILE_BYTES
-        (bytes_of_input (S.holdings store) (S.made store) (input_of order)) order
-        → (W.outlet out.old.sink).failed ≡ false → LacksMemory result.0.note }
-    ensures left_out { (order : Order)
-        → takes hunkinfo (words_read (map string_bytes words.now)) ≡ true
-        → order_of (map string_bytes words.now) ≡ Some order → result.0.status ≡ 0
-        → SaysLeftOut W.outlet out.old out.new (S.made store) (S.made result.1) FILE_BYTES
-        (bytes_of_input (S.holdings store) (S.made store) (input_of order)) order result.0.note }
 {
     let order = match order(alloc, words) {
         Ok(order) => order,

@@ -4,11 +4,10 @@ ghost use Rattle.hunk_commands.specs.declared.fault.RunFault.TheVariants.{Memory
 ghost use Rattle.hunk_commands.specs.Faults.{IsWrite};
 ghost use Rattle.hunk_commands.specs.HexText.{ReadsHex};
 ghost use Rattle.hunk_commands.specs.Inputs.{TellsReading};
-ghost use Rattle.hunk_run.specs.Inputs.{HasInput, HasListed, HasText, unread};
+ghost use Rattle.hunk_run.specs.Inputs.{HasInput, unread};
 ghost use Rattle.hunk_run.specs.Status.{TellsOutcome};
-ghost use Rattle.hunk_run.specs.Refusals.{FromReader, IsRead, StopsInput, StopsListing};
-ghost use Rattle.hunk_run.specs.Refusals.{StopsSource, StopsText};
-ghost use Rattle.hunk_run.specs.Runs.{ListsInput, ListsRead, ListsSource, ReadsNoText};
+ghost use Rattle.hunk_run.specs.Refusals.{FromReader, IsRead, ListsSupply, StopsInput, StopsSource};
+ghost use Rattle.hunk_run.specs.Runs.{ListsInput, ListsRead, ReadsNoText};
 ghost use Rattle.hunk_run.specs.Stores.{bytes_of_input};
 
 use crate::store::Store;
@@ -108,17 +107,8 @@ fn list_source<R: Source, W: Sink>(
     hex: bool,
     out: &mut LongWriter<W>,
 ) -> Result<u8, RunFault>
-    ensures outcome { TellsOutcome W.outlet out.old out.new result }
-    ensures done { IfOk result
-        (λ status. status ≡ 0
-        → ListsSource W.outlet hex listing (R.supply source.old) (R.supply source.new)
-        out.old out.new) }
-    ensures succeeds { HasInput hex listing (R.supply source.old) FILE_BYTES
-        → (R.supply source.new).failed ≡ false → (W.outlet out.new.sink).failed ≡ false
-        → IfErr result (λ fault. fault ≡ Memory) }
-    ensures tells_read { TellsReading (R.supply source.old) (R.supply source.new) result }
-    ensures stops { IfErr result (λ fault. ¬ IsWrite fault → StopsSource hex listing
-        (R.supply source.old) (R.supply source.new) FILE_BYTES fault) }
+    ensures { ListsSupply W.outlet hex listing (R.supply source.old) (R.supply source.new) FILE_BYTES
+        out.old out.new result }
 {
     if hex {
         list_text(alloc, listing, source, out)
@@ -134,17 +124,8 @@ fn list_text<R: Source, W: Sink>(
     source: &mut R,
     out: &mut LongWriter<W>,
 ) -> Result<u8, RunFault>
-    ensures outcome { TellsOutcome W.outlet out.old out.new result }
-    ensures done { IfOk result
-        (λ status. status ≡ 0
-        → ListsSource W.outlet true listing (R.supply source.old) (R.supply source.new)
-        out.old out.new) }
-    ensures succeeds { HasText listing (R.supply source.old) FILE_BYTES
-        → (R.supply source.new).failed ≡ false → (W.outlet out.new.sink).failed ≡ false
-        → IfErr result (λ fault. fault ≡ Memory) }
-    ensures tells_read { TellsReading (R.supply source.old) (R.supply source.new) result }
-    ensures stops { IfErr result (λ fault. ¬ IsWrite fault
-        → StopsText listing (R.supply source.old) (R.supply source.new) FILE_BYTES fault) }
+    ensures { ListsSupply W.outlet true listing (R.supply source.old) (R.supply source.new) FILE_BYTES
+        out.old out.new result }
 {
     let bytes = spelled_bytes(alloc, source)?;
     list_bytes(alloc, listing, &mut FromSlice::new(bytes.as_slice()), out)
@@ -175,17 +156,8 @@ fn list_bytes<R: Source, W: Sink>(
     source: &mut R,
     out: &mut LongWriter<W>,
 ) -> Result<u8, RunFault>
-    ensures outcome { TellsOutcome W.outlet out.old out.new result }
-    ensures done { IfOk result
-        (λ status. status ≡ 0
-        → ListsSource W.outlet false listing (R.supply source.old) (R.supply source.new)
-        out.old out.new) }
-    ensures succeeds { HasListed listing (R.supply source.old) FILE_BYTES
-        → (R.supply source.new).failed ≡ false → (W.outlet out.new.sink).failed ≡ false
-        → IfErr result (λ fault. fault ≡ Memory) }
-    ensures tells_read { TellsReading (R.supply source.old) (R.supply source.new) result }
-    ensures stops { IfErr result (λ fault. ¬ IsWrite fault
-        → StopsListing listing (R.supply source.old) (R.supply source.new) FILE_BYTES fault) }
+    ensures { ListsSupply W.outlet false listing (R.supply source.old) (R.supply source.new) FILE_BYTES
+        out.old out.new result }
 {
     match listing {
         Listing::Show => {

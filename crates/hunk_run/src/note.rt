@@ -1,8 +1,7 @@
 //! What a run says on standard error.
 ghost use Rattle.std.specs.Prelude.{◌≡◌, Some};
 ghost use Rattle.std.specs.Fmt.{DisplaysOnOk};
-ghost use Rattle.hunk_run.specs.Notes.{fault_note, note_text, output_failed, shown_name};
-ghost use Rattle.hunk_run.specs.Notes.{note_with, untouched_end};
+ghost use Rattle.hunk_run.specs.Notes.{fault_note, note_text, output_failed, shown_name, note_with, untouched_end};
 ghost use Rattle.hunk_run.specs.declared.note.Note.TheVariants.{LeftOut};
 
 use crate::verdict::Verdict;
@@ -195,10 +194,10 @@ fn write_fault<W: fmt::Write>(
             };
             write!(f, "hunkinfo: {input}: {verdict}{end}\n")
         }
-        (RunFault::RefusedIn { fault, part }, _) => {
+        (RunFault::RefusedIn(refusal), _) => {
             let verdict = Verdict {
-                refusal: fault,
-                part: Some(part),
+                refusal: refusal.fault,
+                part: Some(refusal.part),
             };
             write!(f, "hunkinfo: {input}: {verdict}{end}\n")
         }

@@ -1,6 +1,5 @@
 //! The command `rewrite`, from one file to another.
-ghost use Rattle.std.specs.Prelude.{◌≡◌, ◌↔◌, ◌-◌, ℕ, false, is_some, true};
-ghost use Rattle.std.specs.Prelude.{IfErr, IfOk, IsErrAnd, None, Some};
+ghost use Rattle.std.specs.Prelude.{◌≡◌, ◌↔◌, ◌-◌, ℕ, false, is_some, true, IfErr, IfOk, IsErrAnd, None, Some};
 ghost use Rattle.hunk_commands.specs.declared.fault.RunFault.TheVariants.{Memory, Write};
 ghost use Rattle.hunk_commands.specs.Engine.{ReadsNoFile};
 ghost use Rattle.hunk_commands.specs.Faults.{IsWrite};

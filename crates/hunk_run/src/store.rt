@@ -1,7 +1,6 @@
 //! Where a run finds its files, and makes one.
 ghost use Rattle.std.specs.Prelude.{◌≡◌, ◌≤◌, Option, Some, IfOk, OnErr, OnOk, length};
-ghost use Rattle.hunk_run.specs.Stores.{Holdings, Leaves, MadeFile, Makes, asked_to_keep};
-ghost use Rattle.hunk_run.specs.Stores.{bytes_of_input, written_to};
+ghost use Rattle.hunk_run.specs.Stores.{Holdings, Leaves, MadeFile, Makes, asked_to_keep, bytes_of_input, written_to};
 
 use std::io;
 use std::io::Read;

@@ -1,27 +1,24 @@
 -- What is known where a loader of a body stands after bytes.
-use Rattle.std.proofs.Common.{rules, ◌≡◌, ℕ, ◌+◌, ◌*◌, ◌/◌, ◌≤◌, ◌<◌, Bool, true, false, List, [], ◌∷◌, ◌++◌, length, map, take, drop, refl, sym, ap, ap₂, subst, ◌∙◌, append_assoc, append-nil, arith, length-append, is_some, Option, None, Some}
+use Rattle.std.proofs.Common.{rules, ◌≡◌, ℕ, ◌+◌, ◌*◌, ◌/◌, ◌≤◌, ◌<◌, Bool, true, false, List, [], ◌∷◌, ◌++◌, length, map, take, drop, refl, sym, ap, ap₂, subst, ◌∙◌, append_assoc, append-nil, arith, length-append, is_some, Option, None}
 use Rattle.std.proofs.lemmas.Grind.{common_steps}
 use Rattle.std.specs.List.{AllByRecursion}
 use Rattle.std.proofs.lemmas.List.{map-append, take_at, drop_at}
-use Rattle.hunk_words.specs.{declared.fault.Fault.Fault, Bits.size_longs, Carriers.saturated, Longs.{bytes_of, longs, AreLongs}}
-use Rattle.hunk_words.specs.PendingBytes.{pending_of}
-use Rattle.hunk_blocks.specs.{Faults.words, declared.phase.Phase.Phase}
+use Rattle.hunk_words.specs.{declared.fault.Fault.Fault, Carriers.saturated, Longs.{bytes_of, longs, AreLongs}, PendingBytes.pending_of}
+use Rattle.hunk_blocks.specs.Faults.{words}
+use Rattle.hunk_grammar.specs.declared.phase.Phase.{Phase}
 use Rattle.hunk_files.specs.{Fault.IsTruncated, Image.{image, images}, LoadFile.{HunkValue, LoadFileValue, IsLoadFile}}
-use Rattle.hunk_files.specs.{LoadText.{text, table}, FileSteps.{Progress, AtBlock, InBody, Next, More, Finished, Leads}}
-use Rattle.hunk_files.specs.{WordsRead.{HasRead, Labelled}, declared.row.Row.Row}
-use Rattle.hunk_files.specs.ReaderPosition.{position_of, IsAfterHeader}
-use Rattle.hunk_grammar.specs.{Roles.Role, declared.phase.OpenHunk.OpenHunk, declared.position.Position.Position}
-use Rattle.hunk_grammar.specs.Positions.{is_done, least_longs, run}
+use Rattle.hunk_files.specs.{LoadText.{text, table}, FileSteps.{Progress, Next, More, Finished, Leads}}
+use Rattle.hunk_files.specs.{WordsRead.{HasRead, Labelled}, declared.row.Row.Row, ReaderPosition.{position_of, IsAfterHeader}}
+use Rattle.hunk_grammar.specs.{Roles.Role, declared.position.OpenHunk.OpenHunk, declared.position.Position.Position, Positions.{is_done, least_longs, run}}
 use Rattle.hunk_scatter.specs.{LoadOutcomes.GoesPastNoFile, Owing.{BytesToCome, FileOwes, run_of}}
 use Rattle.hunk_scatter.specs.{declared.store.BodyState.BodyState, StoreContent.HasSizedImage, BodyLoaderFields.{IsFed, StandsAfter}}
-use Rattle.hunk_scatter.specs.declared.stream.Standing.{Standing}
-use Rattle.hunk_scatter.specs.LoaderValues.{IsWholeFile, IsImageOf, HasNoRefusal, segments_in}
+use Rattle.hunk_scatter.specs.{declared.stream.Standing.Standing, LoaderValues.{IsWholeFile, IsImageOf, HasNoRefusal, segments_in}}
 use Rattle.hunk_scatter.specs.{BodyReader.{sizes_of, state_of}, BodySteps.IsInStore, Rows.{words_of, bases_of}}
 use Rattle.hunk_scatter.proofs.{Owed.{to_come, to_come_least}, FileLeast.file_ends}
 use Rattle.hunk_scatter.proofs.{Outcomes.{longs_are, read_clean, read_truncated}, ReadWords.{read_longs, text_longs}}
 use Rattle.hunk_scatter.proofs.{Runs.none_over, OneByte.{Going, going, room, file_read, sizes_are}}
 use Rattle.hunk_words.proofs.LongLaws.{longs-bytes_of, longs-few, length-bytes_of}
-use Rattle.hunk_files.proofs.{Least.owes_least, Reading.{rest_read, file_read as text_read}}
+use Rattle.hunk_files.proofs.{walk.Least.owes_least, walk.Reading.{rest_read, file_read as text_read}}
 use Rattle.hunk_grammar.specs.declared.position.Position.TheVariants as positions
 
 -- ---- words
@@ -31,8 +28,7 @@ pub written : {A : Type 0} (items new : List A) (len : ℕ) → len ≡ length i
 written {A} items new len e d = grind (arith, common_steps)
 
 pub none_of : (o : Option Fault) → is_some o ≡ false → o ≡ None
-none_of None e = refl
-none_of (Some f) e = absurd cc
+none_of o e = search rules
 
 -- A load text that another begins with is that one.
 none_after : (u v : LoadFileValue) → IsLoadFile u → IsLoadFile v → (more : List ℕ) → text u ≡ text v ++ more → more ≡ []
@@ -46,14 +42,10 @@ none_after u v is in_front more e =
 
 cut_images : (bases : List ℕ) (v : List HunkValue) → AllByRecursion (HasSizedImage bases) v → segments_in (sizes_of (table v)) (images bases v) ≡ map (image bases) v
 cut_images bases [] h = refl
-cut_images bases (x ∷ v) h =
-    ap₂ (λ (s : List ℕ) (ss : List (List ℕ)). s ∷ ss) (take_at (image bases x) (images bases v) (4 * size_longs x.entry.word) h.0)
-    (ap (λ (s : List ℕ). segments_in (sizes_of (table v)) s) (drop_at (image bases x) (images bases v) (4 * size_longs x.entry.word) h.0) ∙ cut_images bases v h.1)
+cut_images bases (x ∷ v) h = search (rules, take_at, drop_at, cut_images bases v h.1)
 
 state_position : (p : Progress) → IsAfterHeader (More p) → least_longs (state_of (More p)).position ≡ least_longs (position_of (More p))
-state_position (AtBlock o) b = refl
-state_position (InBody o word x) b = refl
-state_position _ b = absurd cc
+state_position p b = search rules
 
 longs_left : (xs ys : List ℕ) → AreLongs (xs ++ ys) → AreLongs xs
 longs_left [] ys h = tt
@@ -82,8 +74,7 @@ words_same ws pending fed e few are p h =
     )
 
 done_least : (p : Position) → is_done p ≡ true → least_longs p ≡ 0
-done_least positions.Done e = refl
-done_least _ e = absurd cc
+done_least p e = search rules
 
 -- ---- a loader after bytes
 
@@ -202,10 +193,7 @@ module _ (rows : List Row) (store : List ℕ) (s : Standing) (fed : List ℕ) (h
   done_if_whole w = search (rules, not_whole)
 
   at_least : (n : Next) → IsAfterHeader n → state_of n ≡ s.state → least_longs (position_of n) ≡ least_longs s.state.position
-  at_least (More (AtBlock o)) b e = ap (λ (x : BodyState). least_longs x.position) e
-  at_least (More (InBody o word x)) b e = ap (λ (x : BodyState). least_longs x.position) e
-  at_least (Finished v) b e = ap (λ (x : BodyState). least_longs x.position) e
-  at_least _ b e = absurd cc
+  at_least n b e = search rules
 
   -- What is owed of the file.
   module _ (owed : ℕ) (is : owed + length pending ≡ 4 * least_longs s.state.position) where

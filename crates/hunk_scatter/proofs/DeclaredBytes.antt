@@ -1,5 +1,5 @@
 -- The declared bytes of a table, and of a front of it.
-use Rattle.std.proofs.Common.{◌≡◌, ℕ, zero, suc, ◌+◌, ◌-◌, ◌*◌, ◌/◌, ◌^◌, ◌<◌, ◌≤◌, min, slice_index, List, [], ◌∷◌, ◌++◌, length, take, drop, get_or, Some, refl, sym, ap, ◌∙◌, arith}
+use Rattle.std.proofs.Common.{rules, ◌≡◌, ℕ, zero, suc, ◌+◌, ◌-◌, ◌*◌, ◌/◌, ◌^◌, ◌<◌, ◌≤◌, min, slice_index, List, [], ◌∷◌, ◌++◌, length, take, drop, get_or, Some, refl, sym, arith}
 use Rattle.std.proofs.Math.Seq.{take-add}
 use Rattle.std.specs.List.{slice_get, sum_by}
 use Rattle.std.proofs.lemmas.List.{drop-drop, length-drop, length-map, length-take, map-append, take_min, drop_min}
@@ -14,9 +14,6 @@ declared-cons e table = sum_by-cons (λ (x : TableEntry). 4 * size_longs x.word)
 pub declared-append : (a b : List TableEntry) → declared_bytes (a ++ b) ≡ declared_bytes a + declared_bytes b
 declared-append a b = sum_by-append (λ (x : TableEntry). 4 * size_longs x.word) a b
 
-pub declared-one : (e : TableEntry) → declared_bytes (e ∷ []) ≡ 4 * size_longs e.word
-declared-one e = omega (arith, declared-cons e [])
-
 -- each entry declares less than 2 ^ 32 bytes
 pub declared_limit : (table : List TableEntry) → declared_bytes table ≤ 2 ^ 32 * length table
 declared_limit [] = omega arith
@@ -28,30 +25,19 @@ pub declared_take : (rows : List Row) (i : ℕ) (d : Row) → i < length rows �
     declared_bytes (entries_of (take (suc i) rows)) ≡ declared_bytes (entries_of (take i rows)) + 4 * size_longs (get_or rows i d).word
 declared_take [] i d h = absurd (omega arith)
 declared_take (r ∷ rows) zero d h = omega (arith, declared-cons (row_entry r) [])
-declared_take (r ∷ rows) (suc i) d h =
-    omega (
-      arith,
-      declared-cons (row_entry r) (entries_of (take (suc i) rows)),
-      declared-cons (row_entry r) (entries_of (take i rows)),
-      declared_take rows i d (omega arith),
-    )
+declared_take (r ∷ rows) (suc i) d h = omega (arith, declared-cons, declared_take rows i d (omega arith))
 
 pub declared_front : (rows : List Row) (i : ℕ) → declared_bytes (entries_of (take i rows)) ≤ declared_bytes (entries_of rows)
 declared_front rows zero = omega arith
 declared_front [] (suc i) = omega arith
-declared_front (r ∷ rows) (suc i) =
-    omega (arith, declared-cons (row_entry r) (entries_of (take i rows)), declared-cons (row_entry r) (entries_of rows), declared_front rows i)
+declared_front (r ∷ rows) (suc i) = omega (arith, declared-cons, declared_front rows i)
 
 -- The segment of a hunk begins after those before it.
 pub cut_at : (rows : List Row) (store : List ℕ) (i : ℕ) (d : Row) → i < length rows →
     slice_get (segments_in (words_of rows) store) i ≡ Some (take (4 * size_longs (get_or rows i d).word) (drop (declared_bytes (entries_of (take i rows))) store))
 cut_at [] store i d h = absurd (omega arith)
 cut_at (r ∷ rows) store zero d h = refl
-cut_at (r ∷ rows) store (suc i) d h =
-    cut_at rows (drop (4 * size_longs r.word) store) i d (omega arith)
-    ∙ ap (λ (s : List ℕ). Some (take (4 * size_longs (get_or rows i d).word) s))
-    (drop-drop (declared_bytes (entries_of (take i rows))) (4 * size_longs r.word) store
-    ∙ ap (λ (n : ℕ). drop n store) (sym (declared-cons (row_entry r) (entries_of (take i rows)))))
+cut_at (r ∷ rows) store (suc i) d h = search (rules, drop-drop, sum_by-cons, cut_at rows (drop (4 * size_longs r.word) store) i d (omega arith))
 
 -- The segment of a hunk lies in the store.
 pub segment_within : (rows : List Row) (i start size : ℕ) (d : Row) → i < length rows → start ≡ declared_bytes (entries_of (take i rows)) → size ≡ 4 * size_longs (get_or rows i d).word →
@@ -63,40 +49,17 @@ table_fits rows few = omega (arith, declared_limit (entries_of rows), length-map
 
 -- the rows in front, and this many after them
 pub declared_range : (rows : List Row) (a n : ℕ) → declared_bytes (entries_of (take (a + n) rows)) ≡ declared_bytes (entries_of (take a rows)) + declared_bytes (entries_of (take n (drop a rows)))
-declared_range rows a n =
-    ap (λ (xs : List Row). declared_bytes (entries_of xs)) (take-add a n rows)
-    ∙ ap declared_bytes (map-append row_entry (take a rows) (take n (drop a rows)))
-    ∙ declared-append (entries_of (take a rows)) (entries_of (take n (drop a rows)))
+declared_range rows a n = search (rules, take-add, map-append, sum_by-append)
 
 -- Where the next segments begin, after this many rows more at most.
 pub next_rows : (rows rest front after : List Row) (a b m n total more : ℕ) → rest ≡ drop a rows → m ≡ min n (length rest) → front ≡ take m rest → after ≡ drop m rest → a + n ≡ b →
     total ≡ declared_bytes (entries_of (take a rows)) → more ≡ declared_bytes (entries_of front) → (after ≡ drop b rows) × (total + more ≡ declared_bytes (entries_of (take b rows)))
-next_rows rows rest front after a b m n total more e f g h s t u =
-    let taken : front ≡ take n (drop a rows) = g ∙ ap (λ (k : ℕ). take k rest) f ∙ take_min n rest ∙ ap (λ (xs : List Row). take n xs) e in
-    let left : after ≡ drop (a + n) rows = h ∙ ap (λ (k : ℕ). drop k rest) f ∙ drop_min n rest ∙ ap (λ (xs : List Row). drop n xs) e ∙ drop-drop n a rows in (
-      left ∙ ap (λ (k : ℕ). drop k rows) s,
-      omega (
-        arith,
-        t,
-        u ∙ ap (λ (xs : List Row). declared_bytes (entries_of xs)) taken,
-        declared_range rows a n,
-        ap (λ (k : ℕ). declared_bytes (entries_of (take k rows))) s,
-      ),
-    )
+next_rows rows rest front after a b m n total more e f g h s t u = search (rules, take_min, drop_min, drop-drop, declared_range)
 
 -- Where a segment begins, by the next start of the index before it.
 pub start_at : (rows : List Row) (starts : List ℕ) (i first more : ℕ) → AreStarts rows starts → i < 65536 → first ≡ 2048 * (i / 2048) →
     more ≡ declared_bytes (entries_of (take (i - first) (drop first rows))) → slice_index starts (i / 2048) + more ≡ declared_bytes (entries_of (take i rows))
-start_at rows starts i first more h few e u =
-    let d : first + (i - first) ≡ i = omega (arith, e) in
-    omega (
-      arith,
-      h.start (i / 2048) (omega (arith, few)),
-      ap (λ (k : ℕ). declared_bytes (entries_of (take k rows))) e,
-      u,
-      declared_range rows first (i - first),
-      ap (λ (k : ℕ). declared_bytes (entries_of (take k rows))) d,
-    )
+start_at rows starts i first more h few e u = search (rules, declared_range)
 
 -- the segments have the bytes of the store together
 pub cut_total : (rows : List Row) (store : List ℕ) → length store ≡ declared_bytes (entries_of rows) → sum_by length (segments_in (words_of rows) store) ≡ length store

@@ -1,12 +1,11 @@
 -- Faults of bytes that go on.
-use Rattle.std.proofs.Common.{◌≡◌, ℕ, ◌+◌, ◌-◌, ◌^◌, ◌<◌, ◌≤◌, List, [], ◌∷◌, ◌++◌, length, take, drop, length-append, length-drop, arith, refl, sym, ap, ap₂, subst, ◌∙◌, append_assoc, append-nil, take-append-drop, ◌⊎◌, inl, inr}
+use Rattle.std.proofs.Common.{rules, ◌≡◌, ℕ, ◌+◌, ◌-◌, ◌^◌, ◌<◌, ◌≤◌, List, [], ◌∷◌, ◌++◌, length, take, drop, length-append, length-drop, arith, refl, sym, ap, subst, ◌∙◌, append_assoc, append-nil, take-append-drop, ◌⊎◌, inl, inr}
 use Rattle.std.proofs.Math.Seq.{take-add}
-use Rattle.std.specs.Int.{w32, from_be_bytes}
 use Rattle.std.proofs.lemmas.List.{take_rest}
 use Rattle.hunk_words.specs.{declared.fault.Fault.Fault, declared.reason.Reason.Reason, Longs.{longs, bytes_of}}
 use Rattle.hunk_words.proofs.LongLaws.{length-longs}
 use Rattle.hunk_files.specs.{Fault.HasRefusal, LoadText.text}
-use Rattle.hunk_files.proofs.Scan.{no_fault}
+use Rattle.hunk_files.proofs.walk.Scan.{no_fault}
 use Rattle.hunk_scatter.specs.LoaderValues.{IsBodyRefusal, MayGoOnInFile}
 
 pub longs-more : (bytes more : List ℕ) → (rest : List ℕ) × (longs (bytes ++ more) ≡ longs bytes ++ rest)
@@ -14,9 +13,7 @@ longs-more [] more = (longs more, refl)
 longs-more (a ∷ []) more = (longs (a ∷ more), refl)
 longs-more (a ∷ b ∷ []) more = (longs (a ∷ b ∷ more), refl)
 longs-more (a ∷ b ∷ c ∷ []) more = (longs (a ∷ b ∷ c ∷ more), refl)
-longs-more (a ∷ b ∷ c ∷ d ∷ bytes) more =
-    let r = longs-more bytes more in
-    (r.0, ap (λ (xs : List ℕ). from_be_bytes w32 (a ∷ b ∷ c ∷ d ∷ []) ∷ xs) r.1)
+longs-more (a ∷ b ∷ c ∷ d ∷ bytes) more = search (rules, longs-more bytes more)
 
 -- A refusal stays one as bytes follow.
 pub refusal_more : (bytes more : List ℕ) (at : ℕ) (reason : Reason) → HasRefusal bytes at reason → HasRefusal (bytes ++ more) at reason
@@ -60,11 +57,7 @@ refusal_front fed piece n at reason h =
 
 -- So much of a piece, and so much of its rest.
 pub fed_on : (fed piece front after : List ℕ) (n m : ℕ) → front ≡ fed ++ take n piece → after ≡ front ++ take m (take (length piece - n) (drop n piece)) → after ≡ fed ++ take (n + m) piece
-fed_on fed piece front after n m e d =
-    d
-    ∙ ap₂ (λ (bs rest : List ℕ). bs ++ take m rest) e (take_rest piece n)
-    ∙ append_assoc fed (take n piece) (take m (drop n piece))
-    ∙ ap (λ (xs : List ℕ). fed ++ xs) (sym (take-add n m piece))
+fed_on fed piece front after n m e d = search (rules, take_rest, append_assoc, take-add)
 
 -- A part of the rest of a piece ends within it.
 pub rest_within : (piece : List ℕ) (n m : ℕ) → n ≤ length piece → m ≤ length (take (length piece - n) (drop n piece)) → n + m ≤ length piece

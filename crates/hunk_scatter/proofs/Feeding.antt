@@ -1,15 +1,12 @@
 -- What was wanted is consumed whole, and goes past no end.
 use Rattle.std.proofs.Common.{rules, ◌≡◌, ℕ, suc, ◌+◌, ◌<◌, ◌≤◌, List, [], ◌∷◌, ◌++◌, length, take, refl, sym, ap, subst, ◌∙◌, append_assoc, length-append, length-take, arith, ◌⊎◌, inl, inr}
-use Rattle.std.proofs.KnownBytes.{Consumes-trans}
-use Rattle.std.proofs.lemmas.List.{take_all, drop_all}
+use Rattle.std.proofs.lemmas.Grind.{common_steps}
+use Rattle.std.proofs.lemmas.List.{take_all}
 use Rattle.std.specs.Io.KnownBytes.{Consumes}
-use Rattle.hunk_words.specs.{Carriers.Supply, Longs.{bytes_of, IsBytes}, declared.fault.Fault.Fault}
-use Rattle.hunk_words.specs.declared.reason.Reason.{Reason}
+use Rattle.hunk_words.specs.{Carriers.Supply, Longs.{bytes_of, IsBytes}, declared.{fault.Fault.Fault, reason.Reason.Reason}}
 use Rattle.hunk_words.proofs.LongLaws.{length-bytes_of}
-use Rattle.hunk_files.specs.{Fault.IsTruncated, LoadFile.{TableEntry, LoadFileValue, IsLoadFile}, LoadText.text}
-use Rattle.hunk_files.specs.declared.row.Row.{Row}
-use Rattle.hunk_scatter.specs.HeaderBytes.{IsHeaderTable, IsHeader, header_bytes, IsHeaderFront}
-use Rattle.hunk_scatter.specs.LoadOutcomes.{Gives, GoesPastNoHeader, GoesPastNoFile}
+use Rattle.hunk_files.specs.{Fault.IsTruncated, LoadFile.{TableEntry, LoadFileValue, IsLoadFile}, LoadText.text, declared.row.Row.Row}
+use Rattle.hunk_scatter.specs.{HeaderBytes.{IsHeaderTable, IsHeader, header_bytes, IsHeaderFront}, LoadOutcomes.{Gives, GoesPastNoHeader, GoesPastNoFile}}
 use Rattle.hunk_scatter.specs.{HeaderFaults.{CompletesRow, IsHeaderFault, IsHeaderFaultBy}, LoaderValues.IsWholeFile}
 use Rattle.hunk_words.specs.declared.reason.Reason.TheVariants as reasons
 
@@ -33,9 +30,7 @@ fronts_of (x ∷ xs) cs (y ∷ ys) bs e =
 -- ---- a piece of a source
 
 pub gives_more : (a b c : Supply) (limit : ℕ) (fed piece after : List ℕ) → Gives a b limit fed → Consumes b.left c.left piece → length fed + length piece ≤ limit → after ≡ fed ++ piece → Gives a c limit after
-gives_more a b c limit fed piece after g k le e =
-    subst (Gives a c limit) (sym e)
-    (record { consumed = Consumes-trans a.left b.left c.left fed piece g.consumed k; within = omega (arith, le, length-append fed piece) })
+gives_more a b c limit fed piece after g k le e = grind (arith, common_steps)
 
 pub gives_none : (a b c : Supply) (limit : ℕ) (fed : List ℕ) → Gives a b limit fed → Consumes b.left c.left [] → Gives a c limit fed
 gives_none a b c limit fed g k = search rules
@@ -54,13 +49,7 @@ module _ (fed piece : List ℕ) (want : ℕ) (least : (t : List TableEntry) (mor
           omega (arith, length-take m piece, far)
 
   pub header_within_more : 0 < want → (IsHeader fed → want ≡ 0) → GoesPastNoHeader fed → GoesPastNoHeader (fed ++ piece)
-  header_within_more some over w t more ok e = go (fronts_of fed piece (header_bytes t) more e)
-    where
-      go : ((m : List ℕ) × (fed ≡ header_bytes t ++ m) × (m ++ piece ≡ more)) ⊎ ((m : List ℕ) × (header_bytes t ≡ fed ++ m) × (piece ≡ m ++ more)) → more ≡ []
-      go (inl (m, p, q)) = search rules
-      go (inr (m, p, q)) =
-          let far = least t m ok p in
-          drop_all 0 more (omega (arith, far, ap length q, length-append m more))
+  header_within_more some over w t more ok e = grind (arith, common_steps, fronts_of)
 
 -- ---- in a file
 
@@ -76,13 +65,7 @@ module _ (fed piece : List ℕ) (want : ℕ) (least : (v : LoadFileValue) (more 
           omega (arith, length-take m piece, far)
 
   pub file_within_more : (at : ℕ) → IsTruncated fed at → GoesPastNoFile (fed ++ piece)
-  file_within_more at short v more ok e = go (fronts_of fed piece (bytes_of (text v)) more e)
-    where
-      go : ((m : List ℕ) × (fed ≡ bytes_of (text v) ++ m) × (m ++ piece ≡ more)) ⊎ ((m : List ℕ) × (bytes_of (text v) ≡ fed ++ m) × (piece ≡ m ++ more)) → more ≡ []
-      go (inl (m, p, q)) = absurd (short.not_whole (record { value = v; is_load_file = ok; rest = m; split = p }))
-      go (inr (m, p, q)) =
-          let far = least v m ok p in
-          drop_all 0 more (omega (arith, far, ap length q, length-append m more))
+  file_within_more at short v more ok e = grind (arith, common_steps, fronts_of)
 
 -- ---- out of memory
 

@@ -1,40 +1,28 @@
 -- A load file begins with what was read, and ends in the least number of longwords.
-use Rattle.std.proofs.Common.{rules, ◌≡◌, ℕ, zero, suc, ◌+◌, ◌*◌, Bool, true, false, List, [], ◌∷◌, ◌++◌, length, refl, sym, ap, subst, ◌∙◌, append_assoc, append-nil, arith, if◌then◌else◌, None}
+use Rattle.std.proofs.Common.{rules, ◌≡◌, ℕ, suc, ◌+◌, ◌*◌, Bool, List, [], ◌∷◌, ◌++◌, length, refl, sym, ap, subst, ◌∙◌, append_assoc, append-nil, if◌then◌else◌, None}
 use Rattle.std.specs.List.{AllByRecursion}
 use Rattle.hunk_words.specs.Bits.{kind}
 use Rattle.hunk_blocks.specs.Values.{BlockValue}
 use Rattle.hunk_grammar.specs.Positions as scan
-use Rattle.hunk_grammar.specs.{Positions.{end_least, least_in, least_longs}, Roles.{Role, refuse}}
-use Rattle.hunk_grammar.specs.declared.phase.OpenHunk.{OpenHunk}
-use Rattle.hunk_files.specs.Fault.{completing}
-use Rattle.hunk_files.specs.FileSteps.{Progress, AtBlock, InBody, Next, More, Finished, role_of, step_file, Leads}
-use Rattle.hunk_files.specs.ReaderPosition.{IsAfterHeader, block_phase, open_of, position_of}
-use Rattle.hunk_files.specs.WordsRead.{HasRead, Labelled}
+use Rattle.hunk_grammar.specs.{Positions.{end_least, least_in, least_longs}, Roles.{Role, refuse}, declared.position.OpenHunk.OpenHunk}
+use Rattle.hunk_files.specs.{Fault.completing, FileSteps.{Progress, Next, More, Finished, role_of, step_file, Leads}}
+use Rattle.hunk_files.specs.{ReaderPosition.{IsAfterHeader, block_phase, position_of}, WordsRead.{HasRead, Labelled}}
 use Rattle.hunk_files.specs.{LoadFile.{LoadFileValue, IsLoadFile}, LoadText.text}
-use Rattle.hunk_files.proofs.{Completion.{IsOwed, completes}, FileProgress.ProgressFits, Positions.step_position}
-use Rattle.hunk_files.proofs.Reading.{read_ended, reads, step_read}
+use Rattle.hunk_files.proofs.{walk.Completion.{IsOwed, completes}, walk.FileProgress.ProgressFits, walk.Positions.step_position, walk.Reading.{read_ended, reads, step_read}}
 use Rattle.hunk_scatter.proofs.Forget.{step_after}
 
 -- ---- a longword that is owed takes one off
 
-next_least : (hunks ahead : ℕ) → least_longs (scan.open_next hunks ahead) ≡ 3 * ahead
-next_least hunks zero = refl
-next_least hunks (suc ahead) = omega arith
-
 module _ (o : OpenHunk) where
   word_least : (b : Bool) (w : ℕ) → o.has_content ≡ b → w ≡ (if b then 0x3F2 else 0x3EB) → end_least o.has_content + 3 * o.ahead ≡ suc (least_longs (scan.begin o (kind w)))
   unfolding kind
-  word_least true w e is = omega (arith, ap end_least e, next_least o.hunks o.ahead, ap (λ (x : ℕ). least_longs (scan.begin o (kind x))) is)
-  word_least false w e is = omega (arith, ap end_least e, ap (λ (x : ℕ). least_longs (scan.begin o (kind x))) is)
+  word_least b w e is = search rules
 
   block_least : (blocks : List BlockValue) (w : ℕ) → w ≡ (if o.has_content then 0x3F2 else 0x3EB) → least_in o (block_phase blocks) ≡ suc (least_longs (scan.step_in o (block_phase blocks) w))
-  block_least [] w is = word_least o.has_content w refl is
-  block_least (b ∷ blocks) w is = word_least o.has_content w refl is
+  block_least blocks w is = search (rules, word_least)
 
 one_least : (p : Progress) (w : ℕ) → IsAfterHeader (More p) → ProgressFits p → w ≡ completing (role_of p) → least_longs (position_of (More p)) ≡ suc (least_longs (position_of (step_file p w)))
-one_least (AtBlock o) w b f is = omega (arith, block_least (open_of o) o.blocks w is, ap least_longs (step_position (AtBlock o) w f))
-one_least (InBody o word x) w b f is = search rules
-one_least _ w b f is = absurd cc
+one_least p w b f is = search (rules, block_least, step_position)
 
 -- ---- the end
 
@@ -47,13 +35,7 @@ pub record EndsIn (ws : List ℕ) (n : ℕ) : Type 0 where
   pub count : length more ≡ n
 
 one_more : (ws : List ℕ) (w n : ℕ) → EndsIn (ws ++ w ∷ []) n → EndsIn ws (suc n)
-one_more ws w n e = record {
-  value = e.value;
-  is_load_file = e.is_load_file;
-  more = w ∷ e.more;
-  begins = e.begins ∙ append_assoc ws (w ∷ []) e.more;
-  count = ap suc e.count;
-}
+one_more ws w n e = search (rules, append_assoc)
 
 run_ends : (n : Next) (ws : List ℕ) (ls : Labelled) (v : LoadFileValue) → HasRead ws n → IsAfterHeader n → AllByRecursion IsOwed ls → Leads n ls (Finished v) → EndsIn ws (least_longs (position_of n))
 run_ends (Finished u) ws [] v h b ok run =

@@ -1,45 +1,33 @@
 -- The state of the loader is the reader of load files, without what was read.
-use Rattle.std.proofs.Common.{rules, ◌≡◌, ℕ, ◌+◌, ◌*◌, Bool, true, false, cond, List, [], ◌∷◌, ◌++◌, length, get_or, refl, sym, ap, ◌∙◌, append_assoc, arith}
+use Rattle.std.proofs.Common.{rules, ◌≡◌, ℕ, ◌+◌, ◌*◌, true, false, List, [], ◌∷◌, ◌++◌, length, get_or, refl, ap, ◌∙◌, append_assoc, arith}
+use Rattle.std.proofs.lemmas.Grind.{common_steps}
 use Rattle.std.proofs.lemmas.List.{length-map, length-append, map-append, get_or_at}
 use Rattle.std.proofs.lemmas.List.Sums.{sum_by-append, sum_by-cons}
-use Rattle.hunk_words.specs.Bits.{size_longs, kind}
-use Rattle.hunk_blocks.specs.{Values.BlockValue, BlockSteps.{BlockNext, Open, Whole, step_inside, begin_body}}
-use Rattle.hunk_files.specs.{Image.declared_bytes, LoadFile.{TableEntry, HunkValue, standing}, LoadText.table}
-use Rattle.hunk_files.specs.FileSteps.{hunk, block, HunkSoFar, Progress, AtBlock, InBody, Next, More, Finished, role_of, open_hunk, close_by, after, step_file}
+use Rattle.hunk_words.specs.Bits.{size_longs}
+use Rattle.hunk_blocks.specs.{Values.BlockValue, BlockSteps.BlockNext}
+use Rattle.hunk_files.specs.{Image.declared_bytes, LoadFile.{TableEntry, HunkValue}, LoadText.table}
+use Rattle.hunk_files.specs.FileSteps.{HunkSoFar, Progress, AtBlock, InBody, Next, More, Finished, role_of, open_hunk, after, step_file}
 use Rattle.hunk_files.specs.ReaderPosition.{position_of, open_of, block_phase, open_longs, opened, open_table, table_of, IsAfterHeader}
-use Rattle.hunk_grammar.specs.{Standings.{BlockStanding, Ending}, Roles.refuse, declared.position.Position.Position}
-use Rattle.hunk_grammar.specs.Positions.{is_between_hunks, role_at}
-use Rattle.hunk_files.proofs.FileProgress.{ProgressFits}
-use Rattle.hunk_files.proofs.Positions.{Moves, MovesTo, step_moves, step_position, refuse_same, inside_open}
+use Rattle.hunk_grammar.specs.{Roles.refuse, declared.position.Position.Position, Positions.is_between_hunks}
+use Rattle.hunk_files.proofs.{walk.FileProgress.ProgressFits, walk.Positions.{Moves, MovesTo, step_moves, step_position, inside_open}}
 use Rattle.hunk_blocks.proofs.Lists.{map-more}
 use Rattle.hunk_grammar.specs.declared.position.Position.TheVariants as positions
-use Rattle.hunk_scatter.specs.{declared.store.BodyState.BodyState, BodyReader.{sizes_of, before, state_at, state_of}}
+use Rattle.hunk_scatter.specs.BodyReader.{sizes_of, before, state_at, state_of}
 use Rattle.hunk_scatter.specs.BodySteps.{longs_at, refusal, move_to, step_body}
 
 -- ---- the table at the open hunk
 
 pub sizes-at : (finished : List HunkValue) (e : TableEntry) (ahead : List TableEntry) → get_or (sizes_of (table finished ++ e ∷ ahead)) (length finished) 0 ≡ e.word
-sizes-at finished e ahead =
-    ap (λ (xs : List ℕ). get_or xs (length finished) 0) (map-append (λ (x : TableEntry). x.word) (table finished) (e ∷ ahead))
-    ∙ get_or_at (sizes_of (table finished)) e.word (sizes_of ahead) 0 (length finished)
-    (length-map (table finished) (λ (x : TableEntry). x.word) ∙ length-map finished (λ (h : HunkValue). h.entry))
-
-pub sizes-length : (finished : List HunkValue) (e : TableEntry) (ahead : List TableEntry) → length (sizes_of (table finished ++ e ∷ ahead)) ≡ length finished + 1 + length ahead
-sizes-length finished e ahead =
-    length-map (table finished ++ e ∷ ahead) (λ (x : TableEntry). x.word) ∙ omega (arith, length-append (table finished) (e ∷ ahead), length-map finished (λ (h : HunkValue). h.entry))
+sizes-at finished e ahead = search (rules, map-append, get_or_at, length-map)
 
 -- ---- each step
 
 pub before_is : (hs : List HunkValue) → declared_bytes (table hs) ≡ before hs
 before_is [] = refl
-before_is (h ∷ hs) =
-    omega (arith, before_is hs, sum_by-cons (λ (e : TableEntry). 4 * size_longs e.word) h.entry (table hs), sum_by-cons (λ (x : HunkValue). 4 * size_longs x.entry.word) h hs)
-
-same_state : (h k s t : ℕ) (p : Position) → h ≡ k → s ≡ t → ◌≡◌ {A = BodyState} (record { hunk = h; start = s; position = p }) (record { hunk = k; start = t; position = p })
-same_state h k s t p e f = λ i. record { hunk = e i; start = f i; position = p }
+before_is (h ∷ hs) = omega (arith, sum_by-cons, before_is hs)
 
 last_bytes : (es : List TableEntry) (e : TableEntry) → declared_bytes (es ++ e ∷ []) ≡ declared_bytes es + 4 * size_longs e.word
-last_bytes es e = omega (arith, sum_by-append, sum_by-cons)
+last_bytes es e = omega (arith, sum_by-append)
 
 -- from the open hunk
 module _ (o : HunkSoFar) where
@@ -48,37 +36,12 @@ module _ (o : HunkSoFar) where
 
   -- the next opens, or the file is whole
   next_state : (hs : List HunkValue) (p : Position) → table hs ≡ table o.finished ++ o.entry ∷ [] → is_between_hunks p ≡ true → state_at hs p ≡ move_to (sizes_of (open_table o)) (state_at o.finished p) p
-  next_state hs p e b =
-      let hunks : length hs ≡ length o.finished + 1 =
-      omega (arith, ap length e, length-append (table o.finished) (o.entry ∷ []), length-map hs (λ (h : HunkValue). h.entry), length-map o.finished (λ (h : HunkValue). h.entry)) in
-      let bytes : before hs ≡ before o.finished + 4 * longs_at (sizes_of (open_table o)) (length o.finished) =
-      omega (arith, before_is hs, ap declared_bytes e, last_bytes (table o.finished) o.entry, before_is o.finished, declared) in
-      same_state _ _ _ _ p hunks bytes
-      ∙ ap (λ (t : Bool). cond t (state_next p) (state_at o.finished p)) (sym b)
-    where
-      state_next : Position → BodyState
-      state_next p = record { hunk = length o.finished + 1; start = before o.finished + 4 * longs_at (sizes_of (open_table o)) (length o.finished); position = p }
+  next_state hs p e b = search (rules, length-append, length-map, before_is, last_bytes, declared)
 
   -- the hunk stays
   same_hunk : (hs : List HunkValue) (e : TableEntry) (p : Position) → table hs ++ e ∷ [] ≡ table o.finished ++ o.entry ∷ [] → size_longs e.word ≡ size_longs o.entry.word → is_between_hunks p ≡ false →
       state_at hs p ≡ move_to (sizes_of (open_table o)) (state_at o.finished p) p
-  same_hunk hs e p same longs b =
-      let hunks : length hs ≡ length o.finished =
-      omega (
-        arith,
-        ap length same,
-        length-append (table o.finished) (o.entry ∷ []),
-        length-append (table hs) (e ∷ []),
-        length-map hs (λ (h : HunkValue). h.entry),
-        length-map o.finished (λ (h : HunkValue). h.entry),
-      ) in
-      let bytes : before hs ≡ before o.finished =
-      omega (arith, before_is hs, ap declared_bytes same, last_bytes (table o.finished) o.entry, last_bytes (table hs) e, before_is o.finished, longs) in
-      same_state _ _ _ _ p hunks bytes
-      ∙ ap (λ (t : Bool). cond t (state_next p) (state_at o.finished p)) (sym b)
-    where
-      state_next : Position → BodyState
-      state_next p = record { hunk = length o.finished + 1; start = before o.finished + 4 * longs_at (sizes_of (open_table o)) (length o.finished); position = p }
+  same_hunk hs e p same longs b = grind (arith, common_steps, before_is)
 
   module _ (p : Progress) (opened_is : opened p ≡ table o.finished ++ o.entry ∷ []) (longs_is : open_longs p ≡ size_longs o.entry.word) where
     block_state : (q : HunkSoFar) (blocks : List BlockValue) → MovesTo p q blocks →
@@ -100,24 +63,13 @@ Keeps table n = (table_of n ≡ table) × IsAfterHeader n
 
 open_keeps : (hunks : ℕ) (finished : List HunkValue) (x : HunkValue) (ahead : List TableEntry) →
     Keeps (table finished ++ x.entry ∷ ahead) (open_hunk hunks (finished ++ x ∷ []) ahead)
-open_keeps hunks finished x [] = (map-more (λ (h : HunkValue). h.entry) finished x, refl)
-open_keeps hunks finished x (e ∷ ahead) = (
-  ap (λ (es : List TableEntry). es ++ e ∷ ahead) (map-more (λ (h : HunkValue). h.entry) finished x) ∙ append_assoc (table finished) (x.entry ∷ []) (e ∷ ahead),
-  refl,
-)
+open_keeps hunks finished x ahead = search (rules, map-more, append_assoc)
 
 after_keeps : (o : HunkSoFar) (word : ℕ) (n : BlockNext) → Keeps (open_table o) (after o word n)
-after_keeps o word (Open x) = (refl, refl)
-after_keeps o word (Whole body) = go (standing body)
-  where
-    go : (s : BlockStanding) → Keeps (open_table o) (close_by o (block word body) s)
-    go Ending = open_keeps o.hunks o.finished (hunk o.entry (o.blocks ++ block word body ∷ [])) o.ahead
-    go _ = (refl, refl)
+after_keeps o word n = search (rules, open_keeps)
 
 step_keeps : (p : Progress) (w : ℕ) → IsAfterHeader (More p) → Keeps (table_of (More p)) (step_file p w)
-step_keeps (AtBlock o) w h = after_keeps o w (begin_body (kind w))
-step_keeps (InBody o word x) w h = after_keeps o word (step_inside x w)
-step_keeps _ w h = absurd cc
+step_keeps p w h = search (rules, after_keeps)
 
 pub step_table : (p : Progress) (w : ℕ) → IsAfterHeader (More p) → table_of (step_file p w) ≡ table_of (More p)
 step_table p w h = (step_keeps p w h).0
@@ -137,7 +89,4 @@ step_state _ w b f = absurd cc
 
 -- The state tells the refusal.
 pub refusal_same : (p : Progress) (w : ℕ) → IsAfterHeader (More p) → ProgressFits p → refuse (role_of p) w ≡ refusal (sizes_of (table_of (More p))) (state_of (More p)) w
-refusal_same (AtBlock o) w b f = search rules
-refusal_same (InBody o word x) w b f =
-    refuse_same (InBody o word x) w f ∙ ap (λ (n : ℕ). refuse (role_at n (position_of (More (InBody o word x)))) w) (sym (declared o))
-refusal_same _ w b f = absurd cc
+refusal_same p w b f = search (rules, declared)

@@ -1,5 +1,6 @@
 -- What the loader of a header has consumed goes past no end of a header.
-use Rattle.std.proofs.Common.{◌≡◌, ℕ, ◌≤◌, Bool, true, false, List, [], ◌∷◌, ◌++◌, length, refl, sym, ap, subst, ◌∙◌, append-nil, arith, length-append}
+use Rattle.std.proofs.Common.{◌≡◌, ℕ, ◌≤◌, Bool, true, false, List, [], ◌++◌, length, refl, sym, ap, subst, ◌∙◌, append-nil, arith, length-append}
+use Rattle.std.proofs.lemmas.Grind.{common_steps}
 use Rattle.hunk_words.specs.Longs.{longs}
 use Rattle.hunk_words.proofs.LongLaws.{longs-bytes_of}
 use Rattle.hunk_files.specs.{LoadFile.TableEntry, declared.row.Row.Row, FileSteps.{More, open_hunk}, WordsRead.HasRead}
@@ -11,8 +12,7 @@ use Rattle.hunk_scatter.proofs.{HeaderReads.{here, read_here, in_header}, Header
 use Rattle.hunk_scatter.proofs.{HeaderTexts.header_read, HeaderStops.header_longs, Outcomes.longs_are}
 
 none : (xs : List ℕ) → length xs ≤ 0 → xs ≡ []
-none [] le = refl
-none (x ∷ xs) le = absurd (omega (arith, le))
+none xs le = grind (arith, common_steps)
 
 module _ (budget : ℕ) (rows : List Row) (s : HeaderState) (pending fed : List ℕ) (r : HeaderReading budget rows s pending fed) where
   pub heading_ends : GoesPastNoHeader fed

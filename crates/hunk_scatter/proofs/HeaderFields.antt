@@ -3,25 +3,19 @@ use Rattle.std.proofs.Common.{rules, ◌≡◌, ℕ, ◌+◌, ◌-◌, ◌*◌, 
 use Rattle.std.proofs.lemmas.Grind.{common_steps}
 use Rattle.std.proofs.lemmas.{Bool.{ltb-true, ltb-false}, List.{length-map, take_all}}
 use Rattle.hunk_words.specs.{Longs.{longs, bytes_of, IsLong}, declared.fault.Fault.Fault, declared.reason.Reason.Reason}
-use Rattle.hunk_words.proofs.GatherLaws.{gathers-word}
-use Rattle.hunk_words.proofs.LongLaws.{bytes_of-nil, longs-bytes_of, length-bytes_of, longs-few, length-longs}
-use Rattle.hunk_files.specs.{declared.row.Row.Row, Fault.{IsTruncated, Expects}, Image.declared_bytes}
-use Rattle.hunk_files.specs.LoadFile.{TableEntry}
-use Rattle.hunk_files.specs.FileSteps.{Progress, AtAttributes, More, Finished, open_hunk, Next}
-use Rattle.hunk_files.specs.{ReaderPosition.table_of, WordsRead.HasRead, Tables.row_entry}
+use Rattle.hunk_words.proofs.{GatherLaws.gathers-word, LongLaws.{bytes_of-nil, longs-bytes_of, length-bytes_of, longs-few, length-longs}}
+use Rattle.hunk_files.specs.{declared.row.Row.Row, Fault.{IsTruncated, Expects}, Image.declared_bytes, LoadFile.TableEntry}
+use Rattle.hunk_files.specs.{FileSteps.{Progress, More, Finished, open_hunk, Next}, ReaderPosition.table_of, WordsRead.HasRead, Tables.row_entry}
 use Rattle.hunk_grammar.specs.{Roles.{refuse, Role as roles}, Positions.{role_at, step, is_after_header, least_longs}}
-use Rattle.hunk_files.proofs.Reading.{start_read, one_place}
+use Rattle.hunk_files.proofs.walk.Reading.{start_read, one_place}
 use Rattle.hunk_grammar.specs.declared.position.Position.TheVariants as positions
-use Rattle.hunk_scatter.specs.declared.header_state.HeaderState.{HeaderState}
-use Rattle.hunk_scatter.specs.HeaderBytes.{IsHeaderTable, IsHeader, header_words, header_bytes, entries_so_far}
-use Rattle.hunk_scatter.specs.HeaderFaults.{ExceedsBudget}
+use Rattle.hunk_scatter.specs.{declared.header_state.HeaderState.HeaderState, HeaderBytes.{IsHeaderTable, IsHeader, header_words, header_bytes, entries_so_far}}
+use Rattle.hunk_scatter.specs.{HeaderFaults.ExceedsBudget, LoaderValues.{HeaderLoaderValue, FeedsFront, HasNoRefusal}, Rows.{entries_of, row_of}}
 use Rattle.hunk_scatter.specs.HeaderLoaderFields.{adds, declares, declared_so_far, OpensFirst, StopsFor, HeaderReading, HeaderLoaderInvariant, DeclaredInvariant, HeaderStop, FeedsHeaderOrStops}
-use Rattle.hunk_scatter.specs.{LoaderValues.{HeaderLoaderValue, FeedsFront, HasNoRefusal}, Rows.{entries_of, row_of}}
 use Rattle.hunk_scatter.proofs.{After.{no_size_word, table_after}, DeclaredBytes.declared_limit}
-use Rattle.hunk_scatter.proofs.{HeaderLeast.{header_owes, least_is, opens}, HeaderSteps.rows_total}
-use Rattle.hunk_scatter.proofs.{HeaderReads.word_read, HeaderStops.header_longs}
+use Rattle.hunk_scatter.proofs.{HeaderLeast.{header_owes, least_is, opens}, HeaderSteps.rows_total, HeaderReads.word_read, HeaderStops.header_longs}
 use Rattle.hunk_scatter.proofs.HeaderTexts.{entries_most, header_read, header_done, rows_read, rows_few}
-use Rattle.hunk_scatter.proofs.{Outcomes.{longs_are, read_clean, read_truncated}, ReadWords.read_longs, Splits.fronts}
+use Rattle.hunk_scatter.proofs.{Outcomes.{longs_are, read_clean, read_truncated}, ReadWords.read_longs, ListCuts.fronts}
 
 -- where the reader goes on
 goes_further : (n : Next) (ws : List ℕ) → HasRead ws n → OpensFirst n → (p : Progress) × HasRead ws (More p)
@@ -31,10 +25,6 @@ goes_further (Finished v) ws h o = go (table_of (Finished v)) (o refl)
     go : (t : List TableEntry) → Finished v ≡ open_hunk (length t) [] t → (p : Progress) × HasRead ws (More p)
     go [] e = let some = (header_done ws [] (subst (λ (m : Next). HasRead ws m) e h)).0.some in absurd (omega (arith, some))
     go (x ∷ t) e = absurd cc
-
-total_limit : (n : Next) → declared_so_far n ≤ declared_bytes (table_of n) + 2 ^ 32
-total_limit (More (AtAttributes hunks done word owed)) = omega arith
-total_limit _ = omega arith
 
 pub header_spells : (t : List TableEntry) → IsHeaderTable t → longs (header_bytes t) ≡ header_words t
 header_spells t is = ap longs (sym (append-nil (header_bytes t))) ∙ longs-bytes_of (header_words t) [] (header_longs t is) ∙ append-nil (header_words t)
@@ -66,7 +56,7 @@ module _ (budget : ℕ) (rows : List Row) (s : HeaderState) (pending fed : List 
   heading_few few = omega (arith, heading_rows, entries_most (drop 5 (longs fed)), length-drop 5 (longs fed), length-longs fed)
 
   pub heading_room : length rows ≤ 65536 → s.total + 2 ^ 32 < 2 ^ 64
-  heading_room few = search (rules, total_limit, declared_limit, length-map)
+  heading_room few = search (rules, declared_limit, length-map)
 
   -- where the header is whole
   whole_next : is_after_header s.position ≡ true → r.has_read.next ≡ open_hunk (length (entries_of rows)) [] (entries_of rows)

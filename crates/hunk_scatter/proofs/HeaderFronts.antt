@@ -1,28 +1,23 @@
 -- The header in front of bytes: it is one, its size words keep to its declared bytes, and each load text begins with one.
-use Rattle.std.proofs.Common.{◌≡◌, ℕ, ◌+◌, ◌*◌, ◌≤◌, Bool, true, false, List, [], ◌∷◌, ◌++◌, length, refl, sym, ap, ◌∙◌, append_assoc, arith, subst, ◌⊎◌, inl, inr}
+use Rattle.std.proofs.Common.{rules, ◌≡◌, ℕ, ◌+◌, ◌*◌, ◌≤◌, Bool, true, false, List, [], ◌∷◌, ◌++◌, length, refl, sym, ap, ◌∙◌, append_assoc, arith, subst, ◌⊎◌, inl, inr}
 use Rattle.std.specs.List.{flat_map}
 use Rattle.std.proofs.lemmas.List.{length-map, map-append}
 use Rattle.hunk_words.specs.{Bits.size_longs, Longs.{longs, bytes_of}, declared.reason.Reason.Reason}
 use Rattle.hunk_words.proofs.LongLaws.{bytes_of-append, longs-bytes_of}
-use Rattle.hunk_grammar.specs.{Positions.is_after_header, Roles.{Role, Role as roles, refuse}}
+use Rattle.hunk_grammar.specs.{Positions.is_after_header, Roles.{Role, Role as roles}}
 use Rattle.hunk_blocks.proofs.FaultScan.{front_passes}
 use Rattle.hunk_blocks.specs.Faults.{words}
-use Rattle.hunk_files.specs.{Fault.{Expects, HasRefusal, load_files}, Image.declared_bytes}
-use Rattle.hunk_files.specs.LoadFile.{TableEntry, LoadFileValue, IsLoadFile}
+use Rattle.hunk_files.specs.{Fault.{Expects, HasRefusal, load_files}, Image.declared_bytes, LoadFile.{TableEntry, LoadFileValue, IsLoadFile}}
 use Rattle.hunk_files.specs.LoadText.{labelled, header_labelled, hunk_labelled, table, text}
 use Rattle.hunk_files.specs.FileSteps.{Progress, AtSizeWord, Next, More, Finished, open_hunk, role_of, step_file, Leads}
-use Rattle.hunk_files.specs.ReaderPosition.{position_of, table_of, IsAfterHeader}
-use Rattle.hunk_files.specs.WordsRead.{HasRead, Labelled, AreAccepted}
-use Rattle.hunk_files.proofs.{FileProgress.{ProgressFits, NextFits, step_keeps}, FileText.entries_fit}
-use Rattle.hunk_files.proofs.{Reading.{reads, rest_read}, Scan.{expected_place, load_reader, load_reads}}
-use Rattle.hunk_scatter.specs.HeaderBytes.{IsHeaderTable, header_words, header_bytes, entries_so_far}
-use Rattle.hunk_scatter.specs.HeaderFaults.{IsWithinBudget, ExceedsBudget}
-use Rattle.hunk_scatter.specs.HeaderLoaderFields.{declares, declared_so_far, OpensFirst}
-use Rattle.hunk_scatter.specs.LoadOutcomes.{GoesPastNoHeader, GoesPastNoFile}
-use Rattle.hunk_scatter.proofs.{After.{table_after, no_size_word}, Faults.longs-more, Feeding.fronts_of}
-use Rattle.hunk_scatter.proofs.Forget.{step_after, step_table}
-use Rattle.hunk_scatter.proofs.HeaderSteps.{IsInHeader, step_opens, step_declares, rows_total}
-use Rattle.hunk_scatter.proofs.{HeaderStops.header_longs, HeaderTexts.{header_read, rows_read}, Splits.fronts}
+use Rattle.hunk_files.specs.{ReaderPosition.{position_of, table_of, IsAfterHeader}, WordsRead.{HasRead, Labelled, AreAccepted}}
+use Rattle.hunk_files.proofs.{walk.FileProgress.{ProgressFits, NextFits, step_keeps}, walk.FileText.entries_fit}
+use Rattle.hunk_files.proofs.{walk.Reading.{reads, rest_read}, walk.Scan.{expected_place, load_reader, load_reads}}
+use Rattle.hunk_scatter.specs.{HeaderBytes.{IsHeaderTable, header_words, header_bytes, entries_so_far}, HeaderFaults.{IsWithinBudget, ExceedsBudget}}
+use Rattle.hunk_scatter.specs.{HeaderLoaderFields.{declares, declared_so_far, OpensFirst}, LoadOutcomes.{GoesPastNoHeader, GoesPastNoFile}}
+use Rattle.hunk_scatter.proofs.{After.{table_after, no_size_word}, Faults.longs-more, Feeding.fronts_of, Forget.{step_after, step_table}}
+use Rattle.hunk_scatter.proofs.HeaderSteps.{IsInHeader, step_declares, rows_total}
+use Rattle.hunk_scatter.proofs.{HeaderStops.header_longs, HeaderTexts.{header_read, rows_read}, ListCuts.fronts}
 
 -- ---- one header
 
@@ -32,8 +27,7 @@ after_table (More q) c b (l ∷ ls) run = after_table (step_file q l.1) c (step_
 after_table (Finished v) c b (l ∷ ls) run = absurd run
 
 opened : (t : List TableEntry) → IsHeaderTable t → table_of (open_hunk (length t) [] t) ≡ t
-opened [] is = absurd (let some = is.some in omega (arith, some))
-opened (e ∷ t) is = refl
+opened t is = search rules
 
 longer : (t u : List TableEntry) (m : List ℕ) → IsHeaderTable t → IsHeaderTable u → header_words u ≡ header_words t ++ m → u ≡ t
 longer t u m is ok e =
@@ -87,16 +81,10 @@ module _ (t : List TableEntry) (is : IsHeaderTable t) where
 
   word_total : (p : Progress) (l : Role × ℕ) (ls : Labelled) → TotalsTo (step_file p l.1) ls → ProgressFits p → AreAccepted (l ∷ ls) → Leads (More p) (l ∷ ls) (open_hunk (length t) [] t) → IsInHeader p →
       declared_so_far (More p) + declares (position_of (More p)) l.1 ≤ declared_bytes t
-  word_total p l ls rest f ok run e =
-      let pass = ap (λ (r : Role). refuse r l.1) run.0 ∙ ok.0.1 in
-      let less = rest (step_keeps p l.1 f ok.0.0 pass).0 (step_opens p l.1 e f) ok.1 run.1 in
-      omega (arith, less, step_declares p l.1 e)
+  word_total p l ls rest f ok run e = search (rules, step_keeps, step_declares)
 
   past_total : (p : Progress) (ls : Labelled) → OpensFirst (More p) → is_after_header (position_of (More p)) ≡ true → Leads (More p) ls (open_hunk (length t) [] t) → declared_so_far (More p) ≤ declared_bytes t
-  past_total p ls o e run =
-      let table : ℕ = length (table_of (More p)) in
-      let same : table_of (More p) ≡ t = sym (after_table (More p) (open_hunk (length t) [] t) e ls run) ∙ opened t is in
-      omega (arith, ap declared_so_far (o e), rows_total table (table_of (More p)) 0, ap declared_bytes same)
+  past_total p ls o e run = search (rules, after_table)
 
   run_total : (ls : Labelled) (n : Next) → TotalsTo n ls
   run_total [] n f o ok run = omega (arith, ap declared_so_far run, rows_total (length t) t 0)

@@ -1,17 +1,14 @@
 -- Whatever longwords follow in a table, a header has them.
-use Rattle.std.proofs.Common.{◌≡◌, ℕ, zero, suc, ◌+◌, ◌-◌, ◌*◌, ◌%◌, ◌<◌, ◌≤◌, Bool, true, false, List, [], ◌∷◌, ◌++◌, length, replicate, get_or, refl, sym, ap, subst, ◌∙◌, append_assoc, append-nil, arith, length-append, None}
+use Rattle.std.proofs.Common.{rules, ◌≡◌, ℕ, zero, suc, ◌+◌, ◌-◌, ◌*◌, ◌%◌, ◌<◌, ◌≤◌, Bool, List, [], ◌∷◌, ◌++◌, length, replicate, get_or, refl, sym, ap, subst, ◌∙◌, append_assoc, append-nil, arith, length-append, None}
 use Rattle.std.proofs.lemmas.List.{length-replicate}
 use Rattle.hunk_words.specs.{Bits.has_both_bits, Longs.{longs, bytes_of, IsLong, AreLongs, IsBytes}}
 use Rattle.hunk_words.proofs.LongLaws.{spelled, longs_fit, length-bytes_of, bytes_of-append}
 use Rattle.hunk_grammar.specs.Roles.{refuse}
-use Rattle.hunk_files.specs.LoadFile.{TableEntry}
+use Rattle.hunk_files.specs.{LoadFile.TableEntry, ReaderPosition.position_of, WordsRead.HasRead}
 use Rattle.hunk_files.specs.FileSteps.{table_entry, Progress, AtFirst, AtResident, AtTableSize, AtFirstHunk, AtLastHunk, AtSizeWord, AtAttributes, AtBlock, InBody, Next, More, Finished, role_of, rows, sized_row, step_file}
-use Rattle.hunk_files.specs.{ReaderPosition.position_of, WordsRead.HasRead}
-use Rattle.hunk_files.proofs.Reading.{reads, step_read}
-use Rattle.hunk_scatter.specs.HeaderBytes.{IsHeaderTable, header_bytes, IsHeaderFront}
-use Rattle.hunk_scatter.specs.HeaderLoaderFields.{adds, OpensFirst}
-use Rattle.hunk_scatter.proofs.HeaderLeast.{header_least, header_ends, header_falls}
-use Rattle.hunk_scatter.proofs.HeaderSteps.{IsInHeader, step_opens}
+use Rattle.hunk_files.proofs.walk.Reading.{reads, step_read}
+use Rattle.hunk_scatter.specs.{HeaderBytes.{IsHeaderTable, header_bytes, IsHeaderFront}, HeaderLoaderFields.{adds, OpensFirst}}
+use Rattle.hunk_scatter.proofs.{HeaderLeast.{header_least, header_ends, header_falls}, HeaderSteps.{IsInHeader, step_opens}}
 
 -- ---- longwords of the table
 
@@ -24,19 +21,14 @@ IsInTable (More (AtLastHunk hunks)) = ⊥
 IsInTable n = Unit {0}
 
 rows_in_table : (hunks : ℕ) (done : List TableEntry) (owed : ℕ) → IsInTable (rows hunks done owed)
-rows_in_table hunks [] zero = tt
-rows_in_table hunks (e ∷ done) zero = tt
-rows_in_table hunks done (suc owed) = tt
+rows_in_table hunks done owed = search rules
 
 sized_in_table : (hunks : ℕ) (done : List TableEntry) (w owed : ℕ) (b : Bool) → IsInTable (sized_row hunks done w owed b)
-sized_in_table hunks done w owed true = tt
-sized_in_table hunks done w owed false = rows_in_table hunks (done ++ table_entry w 0 ∷ []) owed
+sized_in_table hunks done w owed b = search rules
 
 -- after a longword that completes a row
 pub row_in_table : (p : Progress) (w : ℕ) → 0 < length (adds (position_of (More p)) w) → IsInTable (step_file p w)
-row_in_table (AtSizeWord hunks done owed) w some = sized_in_table hunks done w owed (has_both_bits w)
-row_in_table (AtAttributes hunks done word owed) w some = rows_in_table hunks (done ++ table_entry word w ∷ []) owed
-row_in_table _ w some = absurd (omega (arith, some))
+row_in_table p w some = search rules
 
 -- The reader goes on in the header.
 record GoesOn (ws : List ℕ) : Type 0 where

@@ -1,14 +1,11 @@
 -- How many longwords a header still has, at least.
-use Rattle.std.proofs.Common.{◌≡◌, ℕ, zero, suc, ◌+◌, ◌-◌, ◌≤◌, Bool, true, false, List, [], ◌∷◌, ◌++◌, length, refl, sym, ap, subst, ◌∙◌, append_assoc, append-nil, arith, None}
+use Rattle.std.proofs.Common.{rules, ◌≡◌, ℕ, zero, suc, ◌+◌, ◌-◌, ◌≤◌, false, List, [], ◌∷◌, ◌++◌, length, refl, sym, ap, subst, ◌∙◌, append_assoc, append-nil, arith, None}
 use Rattle.std.proofs.lemmas.List.{length-map}
-use Rattle.hunk_words.specs.Bits.{has_both_bits}
 use Rattle.hunk_blocks.proofs.Lists.{more_owed}
 use Rattle.hunk_grammar.specs.{Positions.{is_after_header, least_longs}, Roles.{Role, refuse}}
-use Rattle.hunk_files.specs.LoadFile.{TableEntry}
-use Rattle.hunk_files.specs.FileSteps.{table_entry, Progress, AtFirst, AtResident, AtTableSize, AtFirstHunk, AtLastHunk, AtSizeWord, AtAttributes, AtBlock, InBody, Next, More, Finished, role_of, open_hunk, rows, sized_row, step_file, Leads}
-use Rattle.hunk_files.specs.{ReaderPosition.{position_of, table_of}, WordsRead.{HasRead, Labelled, AreAccepted}}
-use Rattle.hunk_files.proofs.{Accepted.last_accepted, FileProgress.{NextFits, step_keeps, zero_or_limit}}
-use Rattle.hunk_files.proofs.Reading.{reads, rest_read, step_read}
+use Rattle.hunk_files.specs.{LoadFile.TableEntry, ReaderPosition.{position_of, table_of}, WordsRead.{HasRead, Labelled, AreAccepted}}
+use Rattle.hunk_files.specs.FileSteps.{table_entry, Progress, AtFirst, AtResident, AtTableSize, AtFirstHunk, AtLastHunk, AtSizeWord, AtAttributes, AtBlock, InBody, Next, More, Finished, role_of, open_hunk, rows, step_file, Leads}
+use Rattle.hunk_files.proofs.{walk.Accepted.last_accepted, walk.FileProgress.{NextFits, step_keeps}, walk.Reading.{reads, rest_read, step_read}}
 use Rattle.hunk_scatter.specs.{HeaderBytes.{IsHeaderTable, header_words}, HeaderLoaderFields.OpensFirst}
 use Rattle.hunk_scatter.proofs.HeaderTexts.{header_read, header_done}
 
@@ -20,32 +17,13 @@ header_least n = least_longs (position_of n)
 
 -- The position tells it.
 pub least_is : (n : Next) → is_after_header (position_of n) ≡ false → header_least n ≡ least_longs (position_of n)
-least_is (More (AtBlock o)) e = absurd cc
-least_is (More (InBody o word x)) e = absurd cc
-least_is (Finished v) e = absurd cc
-least_is _ e = refl
+least_is n e = search rules
 
 -- ---- no sooner
 
-rows_least : (hunks : ℕ) (done : List TableEntry) (owed : ℕ) → owed ≤ header_least (rows hunks done owed)
-rows_least hunks done zero = omega arith
-rows_least hunks done (suc owed) = omega arith
-
-sized_least : (hunks : ℕ) (done : List TableEntry) (w owed : ℕ) (b : Bool) → owed ≤ header_least (sized_row hunks done w owed b)
-sized_least hunks done w owed true = omega arith
-sized_least hunks done w owed false = rows_least hunks (done ++ table_entry w 0 ∷ []) owed
-
 -- one step takes one longword at most off what is owed
 pub header_falls : (p : Progress) (w : ℕ) → refuse (role_of p) w ≡ None → header_least (More p) ≤ suc (header_least (step_file p w))
-header_falls AtFirst w ok = omega arith
-header_falls AtResident w ok = omega arith
-header_falls AtTableSize w ok = omega (arith, zero_or_limit w ok)
-header_falls (AtFirstHunk hunks) w ok = omega arith
-header_falls (AtLastHunk hunks) w ok = omega (arith, rows_least hunks [] hunks)
-header_falls (AtSizeWord hunks done owed) w ok = omega (arith, sized_least hunks done w owed (has_both_bits w))
-header_falls (AtAttributes hunks done word owed) w ok = omega (arith, rows_least hunks (done ++ table_entry word w ∷ []) owed)
-header_falls (AtBlock o) w ok = omega arith
-header_falls (InBody o word x) w ok = omega arith
+header_falls p w ok = search rules
 
 run_least : (n last : Next) (ls : Labelled) → NextFits n → AreAccepted ls → Leads n ls last → header_least last ≡ 0 → header_least n ≤ length ls
 run_least n last [] f ok run e = omega (arith, e, ap header_least run)
@@ -56,8 +34,7 @@ run_least (More p) last (l ∷ ls) f ok run e =
     omega (arith, header_falls p l.1 pass)
 
 open_least : (t : List TableEntry) → header_least (open_hunk (length t) [] t) ≡ 0
-open_least [] = refl
-open_least (e ∷ t) = refl
+open_least t = search rules
 
 -- No header that begins with what was read ends in fewer longwords.
 pub header_owes : (n : Next) (ws : List ℕ) → HasRead ws n → (t : List TableEntry) → IsHeaderTable t → (more : List ℕ) → header_words t ≡ ws ++ more → header_least n ≤ length more
@@ -67,8 +44,7 @@ header_owes n ws h t is more e =
 
 -- the first hunk of a table is not within its header
 pub opens : (n : Next) (t : List TableEntry) → is_after_header (position_of n) ≡ false → IsHeaderTable t → n ≡ open_hunk (length t) [] t → ⊥
-opens n [] e is same = let some = is.some in omega (arith, some)
-opens n (x ∷ t) e is same = let clash : true ≡ false = ap (λ (m : Next). is_after_header (position_of m)) (sym same) ∙ e in cc
+opens n t e is same = search rules
 
 -- ---- and just so soon
 
@@ -81,13 +57,7 @@ pub record EndsIn (ws : List ℕ) (n : ℕ) : Type 0 where
   pub count : length more ≡ n
 
 one_more : (ws : List ℕ) (w n : ℕ) → EndsIn (ws ++ w ∷ []) n → EndsIn ws (suc n)
-one_more ws w n e = record {
-  table = e.table;
-  is_table = e.is_table;
-  more = w ∷ e.more;
-  begins = e.begins ∙ append_assoc ws (w ∷ []) e.more;
-  count = ap suc e.count;
-}
+one_more ws w n e = search (rules, append_assoc)
 
 ends_rows : (owed hunks : ℕ) (table : List TableEntry) (ws : List ℕ) → HasRead ws (rows hunks table owed) → length table + owed ≡ hunks → EndsIn ws owed
 ends_rows zero hunks table ws h e =

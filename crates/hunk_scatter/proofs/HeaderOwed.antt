@@ -1,27 +1,19 @@
 -- How much is to come of a header.
-use Rattle.std.proofs.Common.{◌≡◌, ℕ, ◌+◌, ◌*◌, ◌%◌, ◌<◌, ◌≤◌, Bool, true, false, List, ◌++◌, length, get_or, refl, sym, ap, subst, ◌∙◌, arith, length-append}
+use Rattle.std.proofs.Common.{rules, ◌≡◌, ℕ, ◌+◌, ◌*◌, ◌%◌, ◌<◌, ◌≤◌, Bool, true, false, List, ◌++◌, length, get_or, refl, sym, ap, subst, ◌∙◌, arith, length-append}
 use Rattle.hunk_words.specs.Longs.{bytes_of, longs}
 use Rattle.hunk_words.proofs.LongLaws.{length-bytes_of}
 use Rattle.hunk_grammar.specs.{Positions.{is_after_header, least_longs}, declared.position.Position.Position}
-use Rattle.hunk_grammar.specs.declared.position.Position.TheVariants as positions
 use Rattle.hunk_blocks.specs.Faults.{words}
-use Rattle.hunk_files.specs.FileSteps.{AtSizeWord, AtAttributes, AtBlock, InBody, Next, More, Finished}
-use Rattle.hunk_files.specs.{ReaderPosition.{position_of, table_of}, WordsRead.HasRead, declared.row.Row.Row}
-use Rattle.hunk_files.proofs.{FileProgress.{NextFits, read}, Reading.reads}
-use Rattle.hunk_scatter.specs.declared.header_state.HeaderState.{HeaderState}
-use Rattle.hunk_scatter.specs.HeaderLoaderFields.{OpensFirst, HeaderReading}
+use Rattle.hunk_files.specs.{FileSteps.Next, ReaderPosition.{position_of, table_of}, WordsRead.HasRead, declared.row.Row.Row}
+use Rattle.hunk_files.proofs.{walk.FileProgress.{NextFits, read}, walk.Reading.reads}
+use Rattle.hunk_scatter.specs.{declared.header_state.HeaderState.HeaderState, HeaderLoaderFields.{OpensFirst, HeaderReading}}
 use Rattle.hunk_scatter.specs.HeaderOwing.{rows_owed, HasRowsToCome, HasHeaderToCome, HeaderOwes}
 use Rattle.hunk_scatter.proofs.{HeaderFields.heading_least, HeaderLeast.{header_least, least_is, header_ends}}
 use Rattle.hunk_scatter.proofs.{HeaderTexts.{header_done, rows_read}, Outcomes.longs_are}
 
 -- the hunks declared are rows that are whole, and longwords that are owed
 hunks_declared : (n : Next) → NextFits n → is_after_header (position_of n) ≡ false → get_or (words (read n)) 2 0 ≤ length (table_of n) + header_least n
-hunks_declared (More (AtSizeWord hunks done owed)) f e = omega (arith, f.counts)
-hunks_declared (More (AtAttributes hunks done word owed)) f e = omega (arith, f.0.counts)
-hunks_declared (More (AtBlock p)) f e = absurd cc
-hunks_declared (More (InBody p word x)) f e = absurd cc
-hunks_declared (Finished v) f e = absurd cc
-hunks_declared _ f e = omega arith
+hunks_declared n f e = search rules
 
 -- Each row owed is a longword owed.
 rows_least : (n : Next) (ws : List ℕ) → HasRead ws n → OpensFirst n → rows_owed ws ≤ header_least n
@@ -41,16 +33,11 @@ rows_least n ws h o = by_end (is_after_header (position_of n)) refl
 
 -- After the header no longword of it is owed.
 none_owed : (n : Next) → is_after_header (position_of n) ≡ true → header_least n ≡ 0
-none_owed (More (AtBlock p)) e = refl
-none_owed (More (InBody p word x)) e = refl
-none_owed (Finished v) e = refl
-none_owed _ e = absurd cc
+none_owed n e = search rules
 
 -- A longword of a header that is not whole is owed.
 pub least_some : (p : Position) → is_after_header p ≡ false → 0 < least_longs p
-least_some (positions.Body o phase) e = absurd cc
-least_some positions.Done e = absurd cc
-least_some _ e = omega arith
+least_some p e = search rules
 
 module _ (budget : ℕ) (rows : List Row) (s : HeaderState) (pending fed : List ℕ) (r : HeaderReading budget rows s pending fed) where
   words_are : longs fed ≡ r.ws
@@ -60,9 +47,7 @@ module _ (budget : ℕ) (rows : List Row) (s : HeaderState) (pending fed : List 
   pending_is = omega (arith, r.few, ap length r.spelled, length-append (bytes_of r.ws) pending, length-bytes_of r.ws)
 
   rows_owed_least : rows_owed (longs fed) ≤ header_least r.has_read.next
-  rows_owed_least =
-      subst (λ (ws : List ℕ). rows_owed ws ≤ header_least r.has_read.next) (sym words_are)
-      (rows_least r.has_read.next r.ws r.has_read.read r.has_read.opens_first)
+  rows_owed_least = search (rules, words_are, rows_least)
 
   owed_least : (p : ℕ) (h : HasHeaderToCome fed p) → h.owed ≤ header_least r.has_read.next
   owed_least p h =

@@ -1,21 +1,16 @@
 -- One longword of a header.
-use Rattle.std.proofs.Common.{◌≡◌, ℕ, ◌+◌, ◌*◌, ◌≤◌, false, List, [], ◌∷◌, ◌++◌, map, refl, sym, ap, ap₂, subst, ◌∙◌, arith, None}
+use Rattle.std.proofs.Common.{rules, ◌≡◌, ℕ, ◌+◌, ◌*◌, ◌≤◌, false, List, [], ◌∷◌, ◌++◌, map, refl, sym, ap, ap₂, subst, ◌∙◌, arith, None}
 use Rattle.std.proofs.lemmas.List.{map-append}
 use Rattle.hunk_words.specs.{Bits.size_longs, Longs.IsLong}
-use Rattle.hunk_grammar.specs.{declared.position.Position.Position, Positions.{role_at, is_after_header}}
-use Rattle.hunk_grammar.specs.Roles.{Role as roles, refuse}
+use Rattle.hunk_grammar.specs.{declared.position.Position.Position, Positions.{role_at, is_after_header}, Roles.{Role as roles, refuse}}
 use Rattle.hunk_grammar.specs.Positions as scan
 use Rattle.hunk_files.specs.{declared.row.Row.Row, Fault.Expects, Image.declared_bytes, LoadFile.TableEntry}
-use Rattle.hunk_files.specs.FileSteps.{Progress, Next, More, Finished, role_of, step_file}
-use Rattle.hunk_files.specs.{ReaderPosition.{position_of, table_of}, WordsRead.HasRead, Tables.row_entry}
-use Rattle.hunk_files.proofs.{Positions.step_position, Reading.{reads, step_read}}
-use Rattle.hunk_scatter.specs.{declared.header_state.HeaderState.HeaderState, HeaderBytes.entries_so_far}
-use Rattle.hunk_scatter.specs.HeaderFaults.{IsWithinBudget}
-use Rattle.hunk_scatter.specs.HeaderLoaderFields.{adds, declares, declared_so_far, HasReadHeader}
-use Rattle.hunk_scatter.specs.Rows.{entries_of, row_of}
-use Rattle.hunk_scatter.proofs.After.{role_here}
-use Rattle.hunk_scatter.proofs.HeaderSteps.{IsInHeader, refusal_here, size_word, step_adds, step_declares, step_opens}
-use Rattle.hunk_scatter.proofs.{HeaderTexts.rows_read, Splits.{Cuts, Same, Before, After, cuts, not_before}}
+use Rattle.hunk_files.specs.{FileSteps.{Progress, Next, More, role_of, step_file}, ReaderPosition.{position_of, table_of}, WordsRead.HasRead, Tables.row_entry}
+use Rattle.hunk_files.proofs.{walk.Positions.step_position, walk.Reading.{reads, step_read}}
+use Rattle.hunk_scatter.specs.{declared.header_state.HeaderState.HeaderState, HeaderBytes.entries_so_far, HeaderFaults.IsWithinBudget}
+use Rattle.hunk_scatter.specs.{HeaderLoaderFields.{adds, declares, declared_so_far, HasReadHeader}, Rows.{entries_of, row_of}}
+use Rattle.hunk_scatter.proofs.{After.role_here, HeaderSteps.{IsInHeader, refusal_here, size_word, step_adds, step_declares, step_opens}}
+use Rattle.hunk_scatter.proofs.{HeaderTexts.rows_read, ListCuts.{Cuts, Same, Before, After, cuts, not_before}}
 
 -- ---- rows
 
@@ -27,16 +22,14 @@ pub entries-more : (rows : List Row) (more : List TableEntry) → entries_of (ro
 entries-more rows more = map-append row_entry rows (map row_of more) ∙ ap (λ (t : List TableEntry). entries_of rows ++ t) (entries-rows more)
 
 unplaced_more : (rows : List Row) (more : List TableEntry) → rows ≡ map row_of (entries_of rows) → rows ++ map row_of more ≡ map row_of (entries_of (rows ++ map row_of more))
-unplaced_more rows more e =
-    ap (λ (rs : List Row). rs ++ map row_of more) e ∙ sym (map-append row_of (entries_of rows) more) ∙ ap (λ (t : List TableEntry). map row_of t) (sym (entries-more rows more))
+unplaced_more rows more e = search (rules, map-append, entries-more)
 
 -- ---- the size words
 
 module _ (budget : ℕ) (rows : List Row) (s : HeaderState) (ws : List ℕ) (h : HasReadHeader budget rows s ws) (more : is_after_header s.position ≡ false) where
   -- the reader goes on here
   goes_on : (n : Next) → is_after_header (position_of n) ≡ false → (p : Progress) × (n ≡ More p)
-  goes_on (More p) e = (p, refl)
-  goes_on (Finished v) e = absurd cc
+  goes_on n p = search rules
 
   at : (p : Progress) × (h.next ≡ More p)
   at = goes_on h.next (ap is_after_header h.position_is ∙ more)

@@ -6,18 +6,15 @@ use Rattle.std.proofs.lemmas.List.{get_or-drop}
 use Rattle.hunk_words.specs.{Longs.{longs, bytes_of, IsLong, IsBytes}, declared.reason.Reason.Reason}
 use Rattle.hunk_words.specs.declared.reason.Reason.TheVariants as reasons
 use Rattle.hunk_words.proofs.LongLaws.{bytes_of-append, in_place, longs-bytes_of, length-bytes_of, length-longs}
-use Rattle.hunk_files.specs.{Fault.{HasRefusal, IsTruncated, is_word_refusal}, Image.declared_bytes}
-use Rattle.hunk_files.specs.{LoadFile.TableEntry, declared.row.Row.Row}
+use Rattle.hunk_files.specs.{Fault.{HasRefusal, IsTruncated, is_word_refusal}, Image.declared_bytes, LoadFile.TableEntry, declared.row.Row.Row}
 use Rattle.hunk_grammar.specs.declared.position.Position.TheVariants as positions
 use Rattle.hunk_grammar.specs.{Positions.{role_at, step, is_after_header, least_longs}, Roles.refuse}
-use Rattle.hunk_scatter.specs.declared.header_state.HeaderState.{HeaderState}
-use Rattle.hunk_scatter.specs.HeaderBytes.{IsHeaderTable, header_bytes, header_words}
+use Rattle.hunk_scatter.specs.{declared.header_state.HeaderState.HeaderState, HeaderBytes.{IsHeaderTable, header_bytes, header_words}}
 use Rattle.hunk_scatter.specs.HeaderLoaderFields.{adds, declares, RefusesWord, HeaderReading, HeaderLoaderInvariant, HeaderStop}
 use Rattle.hunk_scatter.specs.{HeaderFaults.{ExceedsBudget, IsBudgetOrMemory}, HeaderOwing.HeaderOwes}
 use Rattle.hunk_scatter.specs.{HeaderSizes.{RefusesHeader, TellsOwed}, Rows.{entries_of, row_of}}
 use Rattle.hunk_scatter.proofs.HeaderFields.{heading_new, heading_room, heading_pending, heading_word, heading_table, heading_total, heading_truncated, heading_within, heading_not_whole, heading_as}
-use Rattle.hunk_scatter.proofs.HeaderStops.{header_longs, stop_refused, stop_passes, stop_accepts}
-use Rattle.hunk_scatter.proofs.{HeaderEnds.heading_ends, HeaderOwed.owes_header}
+use Rattle.hunk_scatter.proofs.{HeaderStops.{header_longs, stop_refused, stop_passes, stop_accepts}, HeaderEnds.heading_ends, HeaderOwed.owes_header}
 
 -- Longwords of a header were read up to this byte, and rows may be named that they complete.
 pub record HeaderSoFar (budget : ℕ) (bytes : List ℕ) (s : HeaderState) (at : ℕ) : Type 0 where
@@ -40,9 +37,7 @@ module _ (budget : ℕ) (bytes : List ℕ) (s : HeaderState) (at : ℕ) (h : Hea
 
   -- The header is whole.
   pub header_whole : is_after_header s.position ≡ true → IsHeaderTable (entries_of h.rows) × (bytes ≡ header_bytes (entries_of h.rows) ++ drop at bytes)
-  header_whole done =
-      let t = heading_table budget h.rows s [] (take at bytes) so_far done in
-      (t.0, sym (take-append-drop at bytes) ∙ ap (λ (xs : List ℕ). xs ++ drop at bytes) t.1)
+  header_whole done = search (rules, heading_table, take-append-drop)
 
   pub header_total : is_after_header s.position ≡ true → s.total ≡ declared_bytes (entries_of h.rows)
   header_total done = heading_total budget h.rows s [] (take at bytes) so_far done

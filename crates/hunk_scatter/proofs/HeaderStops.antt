@@ -1,38 +1,28 @@
 -- What stops the loader of a header is the fault of the bytes, the budget, or that memory ran out.
-use Rattle.std.proofs.Common.{◌≡◌, true, false, ℕ, ◌+◌, ◌-◌, ◌*◌, ◌<◌, List, [], ◌∷◌, ◌++◌, length, take, drop, sym, ap, subst, ◌∙◌, append_assoc, append-nil, arith, length-append, Some, None, ◌⊎◌, inl, inr}
+use Rattle.std.proofs.Common.{rules, ◌≡◌, true, false, ℕ, ◌+◌, ◌-◌, ◌*◌, ◌<◌, List, [], ◌∷◌, ◌++◌, length, take, drop, sym, ap, subst, ◌∙◌, append_assoc, append-nil, arith, length-append, Some, None, ◌⊎◌, inl, inr}
 use Rattle.std.proofs.lemmas.Grind.{common_steps}
 use Rattle.std.specs.Prelude.{IsTrue}
-use Rattle.hunk_words.specs.{Bits.size_longs, Longs.{longs, IsLong, AreLongs, IsBytes}, declared.fault.Fault.Fault}
-use Rattle.hunk_words.specs.declared.reason.Reason.{Reason}
-use Rattle.hunk_words.specs.declared.reason.Reason.TheVariants as reasons
+use Rattle.hunk_words.specs.{Bits.size_longs, Longs.{longs, IsLong, AreLongs, IsBytes}, declared.{fault.Fault.Fault, reason.Reason.Reason}}
 use Rattle.hunk_words.proofs.LongLaws.{longs-bytes_of, length-bytes_of}
 use Rattle.hunk_blocks.proofs.Lists.{All-more}
 use Rattle.hunk_files.specs.{Fault.{Expects, HasRefusal, is_word_refusal}, Image.declared_bytes, LoadFile.TableEntry}
 use Rattle.hunk_files.specs.{LoadText.header_labelled, FileSteps.{Progress, More, open_hunk, role_of, step_file}}
-use Rattle.hunk_files.specs.{ReaderPosition.{position_of, table_of}, WordsRead.HasRead}
-use Rattle.hunk_grammar.specs.{Roles.{Role, Role as roles, refuse}, Positions.{role_at, is_after_header}}
-use Rattle.hunk_grammar.specs.declared.position.Position.{Position}
+use Rattle.hunk_files.specs.{ReaderPosition.{position_of, table_of}, WordsRead.HasRead, FileParts.IsPartAt}
+use Rattle.hunk_grammar.specs.{Roles.{Role, Role as roles, refuse}, Positions.{role_at, is_after_header}, declared.position.Position.Position}
 use Rattle.hunk_grammar.specs.declared.file_kind.Sniff.TheVariants as sniffs
-use Rattle.hunk_files.specs.FileParts.{IsPartAt}
 use Rattle.hunk_files.specs.declared.part.Part.TheVariants as parts
-use Rattle.hunk_files.proofs.{Accepted.header_accepted, Reading.{reads, step_read, read_refused}}
-use Rattle.hunk_files.proofs.{Refusals.refusal_of_word, Scan.expects_of}
+use Rattle.hunk_files.proofs.{walk.Accepted.header_accepted, walk.Reading.{reads, step_read, read_refused}, walk.Refusals.refusal_of_word, walk.Scan.expects_of}
 use Rattle.hunk_scatter.specs.HeaderBytes.{IsHeaderTable, header_words, header_bytes, IsHeaderFront, MayGoOnInHeader, entries_so_far}
 use Rattle.hunk_scatter.specs.HeaderFaults.{ExceedsBudget, IsOverBudget, IsBudgetOrMemory, IsHeaderFaultBy, IsHeaderFault}
 use Rattle.hunk_scatter.specs.HeaderLoaderFields.{adds, declares, StopsFor, HeaderStop, StopsInPiece}
-use Rattle.hunk_scatter.proofs.After.{stays_after, table_after, expected_passes, header_passes, role_here}
-use Rattle.hunk_scatter.proofs.HeaderGrows.{row_in_table, table_grows}
+use Rattle.hunk_scatter.proofs.{After.{stays_after, table_after, expected_passes, header_passes, role_here}, HeaderGrows.{row_in_table, table_grows}}
 use Rattle.hunk_scatter.proofs.HeaderReads.{here, read_here, position_here, refusal_is, sum_here}
-use Rattle.hunk_scatter.proofs.HeaderSteps.{IsInHeader, not_in_body, declares_some, step_adds, step_opens}
-use Rattle.hunk_scatter.proofs.PartLaws.{part_after, part_in_header}
-use Rattle.hunk_scatter.proofs.Splits.{Cuts, Same, Before, After, cuts, fronts}
-use Rattle.hunk_scatter.proofs.{HeaderTexts.{header_read, rows_read}, ReadWords.{read_longs, accepted_longs}}
+use Rattle.hunk_scatter.proofs.{HeaderSteps.{IsInHeader, not_in_body, step_adds, step_opens}, PartLaws.{part_after, part_in_header}}
+use Rattle.hunk_scatter.proofs.{ListCuts.{Cuts, Same, Before, After, cuts, fronts}, HeaderTexts.{header_read, rows_read}, ReadWords.{read_longs, accepted_longs}}
 
 -- the fault of a reason that is neither Budget nor OutOfMemory
 plain_fault : (r : Reason) (budget : ℕ) (bytes : List ℕ) (at : ℕ) → IsTrue (is_word_refusal r) → HasRefusal bytes at r → IsHeaderFaultBy r budget bytes at
-plain_fault reasons.Budget budget bytes at n h = absurd cc
-plain_fault reasons.OutOfMemory budget bytes at n h = absurd cc
-plain_fault _ budget bytes at n h = h
+plain_fault r budget bytes at n h = search rules
 
 pub header_longs : (t : List TableEntry) → IsHeaderTable t → AreLongs (header_words t)
 header_longs t is = accepted_longs (header_labelled t) (header_accepted t is.some is.most is.each)
@@ -68,7 +58,7 @@ module _ (budget : ℕ) (bytes rest : List ℕ) (f : Fault) (s : HeaderStop budg
 
   -- a size word is expected where bytes are declared
   expects_size : budget < s.state.total + declares s.state.position s.word → Expects s.ws roles.SizeWord
-  expects_size passes = grind (arith, common_steps, declares_some, at, position_at, expects_here)
+  expects_size passes = grind (arith, common_steps, at, position_at, expects_here)
 
   pub stop_refused : refuse (role_at 0 s.state.position) s.word ≡ Some f.reason → HasRefusal (bytes ++ rest) f.place f.reason
   stop_refused e =

@@ -9,10 +9,8 @@ use Rattle.hunk_blocks.specs.Faults.{words}
 use Rattle.hunk_files.specs.{LoadFile.{TableEntry, IsTableEntry}, LoadText.{entry_labelled, header_labelled}}
 use Rattle.hunk_files.specs.FileSteps.{table_entry, AtSizeWord, AtAttributes, AtBlock, InBody, Next, More, Finished, open_hunk}
 use Rattle.hunk_files.specs.{ReaderPosition.{position_of, table_of}, WordsRead.{Labelled, HasRead}}
-use Rattle.hunk_files.proofs.{Accepted.header_accepted, FileProgress.{header_so_far, NextFits, read}}
-use Rattle.hunk_files.proofs.{FileText.header_leads, Reading.reads}
-use Rattle.hunk_scatter.specs.HeaderBytes.{IsHeaderTable, header_words, entries_in, entries_so_far}
-use Rattle.hunk_scatter.specs.HeaderLoaderFields.{OpensFirst}
+use Rattle.hunk_files.proofs.{walk.Accepted.header_accepted, walk.FileProgress.{header_so_far, NextFits, read}, walk.FileText.header_leads, walk.Reading.reads}
+use Rattle.hunk_scatter.specs.{HeaderBytes.{IsHeaderTable, header_words, entries_in, entries_so_far}, HeaderLoaderFields.OpensFirst}
 
 -- ---- a header is read
 
@@ -49,11 +47,7 @@ words-append xs ys = map-append (λ (x : Role × ℕ). x.1) xs ys
 -- The longwords of a table spell its entries.
 pub entries-table : (t : List TableEntry) → AllByRecursion IsTableEntry t → (ls : Labelled) → entries_in (words (flat_map entry_labelled t ++ ls)) ≡ t ++ entries_in (words ls)
 entries-table [] h ls = refl
-entries-table (e ∷ t) h ls =
-    ap (λ (xs : Labelled). entries_in (words xs)) (append_assoc (entry_labelled e) (flat_map entry_labelled t) ls)
-    ∙ ap entries_in (words-append (entry_labelled e) (flat_map entry_labelled t ++ ls))
-    ∙ entry_first e h.0 (words (flat_map entry_labelled t ++ ls))
-    ∙ ap (λ (xs : List TableEntry). e ∷ xs) (entries-table t h.1 ls)
+entries-table (e ∷ t) h ls = search (rules, append_assoc, words-append, entry_first, entries-table t h.1 ls)
 
 entries_all : (t : List TableEntry) → AllByRecursion IsTableEntry t → entries_in (words (flat_map entry_labelled t)) ≡ t
 entries_all t h = ap (λ (xs : Labelled). entries_in (words xs)) (sym (append-nil (flat_map entry_labelled t))) ∙ entries-table t h [] ∙ append-nil t

@@ -1,5 +1,6 @@
 -- The segments of a store, one right after the other.
-use Rattle.std.proofs.Common.{◌≡◌, ℕ, ◌*◌, List, [], ◌∷◌, ◌++◌, length, take, drop, refl, sym, ap, ◌∙◌, arith, length-drop}
+use Rattle.std.proofs.Common.{◌≡◌, ℕ, ◌*◌, List, [], ◌∷◌, ◌++◌, length, take, drop, sym, ap, ◌∙◌, arith, length-drop}
+use Rattle.std.proofs.lemmas.Grind.{common_steps}
 use Rattle.std.proofs.lemmas.List.{take-append-drop}
 use Rattle.hunk_words.specs.Bits.{size_longs}
 use Rattle.hunk_files.specs.{Image.declared_bytes, declared.row.Row.Row, Tables.row_entry}
@@ -7,8 +8,7 @@ use Rattle.hunk_scatter.specs.{LoaderValues.{segments_in, joined}, Rows.{entries
 use Rattle.hunk_scatter.proofs.DeclaredBytes.{declared-cons}
 
 empty : (store : List ℕ) → length store ≡ 0 → store ≡ []
-empty [] h = refl
-empty (x ∷ store) h = absurd (omega (arith, h))
+empty store h = grind (arith, common_steps)
 
 -- Together they are the store.
 pub joined_cut : (rows : List Row) (store : List ℕ) → length store ≡ declared_bytes (entries_of rows) → joined (segments_in (words_of rows) store) ≡ store

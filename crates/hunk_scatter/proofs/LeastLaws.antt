@@ -1,13 +1,9 @@
 -- What a position says of the longwords still to come, by the texts.
 use Rattle.std.proofs.Common.{◌≡◌, ℕ, ◌≤◌, true, false, List, [], ◌++◌, length, sym, ap, subst, ◌∙◌, arith}
 use Rattle.hunk_grammar.specs.Positions.{is_after_header, least_longs}
-use Rattle.hunk_files.specs.LoadFile.{LoadFileValue, IsLoadFile, TableEntry}
-use Rattle.hunk_files.specs.LoadText.{text}
-use Rattle.hunk_files.specs.FileSteps.{Finished, Next, open_hunk}
-use Rattle.hunk_files.specs.Machines.{load_at}
-use Rattle.hunk_files.specs.ReaderPosition.{position_of}
-use Rattle.hunk_files.specs.WordsRead.{HasRead}
-use Rattle.hunk_files.proofs.{Least.owes_least, LoadPlaces.position_at, Reading.{file_read, front_read}}
+use Rattle.hunk_files.specs.{LoadFile.{LoadFileValue, IsLoadFile, TableEntry}, LoadText.text, FileSteps.{Finished, Next, open_hunk}, Machines.load_at}
+use Rattle.hunk_files.specs.{ReaderPosition.position_of, WordsRead.HasRead}
+use Rattle.hunk_files.proofs.{walk.Least.owes_least, walk.LoadPlaces.position_at, walk.Reading.{file_read, front_read}}
 use Rattle.hunk_scatter.specs.HeaderBytes.{IsHeaderTable, header_words}
 use Rattle.hunk_scatter.proofs.{FileLeast.file_ends, HeaderLeast.{header_ends, header_owes, least_is}, HeaderTexts.header_read}
 

@@ -1,6 +1,6 @@
 pub mod After
 pub mod BodyFields
-pub mod Completing
+pub mod CompletedLongs
 pub mod DeclaredBytes
 pub mod Faults
 pub mod FileLeast
@@ -33,9 +33,9 @@ pub mod Runs
 pub mod Scatter
 pub mod SoFarLaws
 pub mod StoredBytes
-pub mod Splits
+pub mod ListCuts
 pub mod Starting
-pub mod Staying
+pub mod WithinStore
 pub mod StreamLaws
 pub mod TableLimit
 pub mod WholeLongs

@@ -11,8 +11,7 @@ use Rattle.hunk_files.specs.{Image.declared_bytes, LoadFile.{TableEntry, LoadFil
 use Rattle.hunk_files.specs.LoadText.{table, text}
 use Rattle.hunk_grammar.specs.Roles.{Role as roles}
 use Rattle.hunk_scatter.specs.{LoaderReasons.{is_of_header, is_of_file}, HeaderBytes.{IsHeaderTable, header_bytes}}
-use Rattle.hunk_scatter.specs.HeaderFaults.{ExceedsBudget, IsOverBudget, IsHeaderFaultBy}
-use Rattle.hunk_scatter.specs.LoaderValues.{ImageValue, MayGoOnInFile, IsImageOf}
+use Rattle.hunk_scatter.specs.{HeaderFaults.{ExceedsBudget, IsOverBudget, IsHeaderFaultBy}, LoaderValues.{ImageValue, MayGoOnInFile, IsImageOf}, LoadRefusals.fault_of}
 use Rattle.hunk_scatter.specs.LoadOutcomes.{Gives, IsHeaderWithin, GoesPastNoFile, IsReadFault, StopsInHeader, StopsShort, IsBodyStop, KeepsToHeader, LoadStop, InHeader, Between, InBody, LoadEnds}
 use Rattle.hunk_scatter.specs.{LoadRefusals.{LoadsOrNames, NamesPart, without_part}, declared.load_refusal.LoadRefusal.LoadRefusal}
 use Rattle.hunk_scatter.specs.Rows.{entries_of, bases_of}
@@ -227,8 +226,8 @@ ends_loads base limits old now given (Err r) g h n = record {
   loads = record {
     given = given;
     gives = g;
-    outcome = stop_is base limits now given r.fault h;
-    of_file = λ input is o. file_stop limits old now given g input is base r.fault o h;
+    outcome = stop_is base limits now given (fault_of r) h;
+    of_file = λ input is o. file_stop limits old now given g input is base (fault_of r) o h;
   };
   names = n;
 }

@@ -3,13 +3,10 @@ use Rattle.std.proofs.Common.{rules, ◌≡◌, ℕ, ◌≤◌, List, [], ◌++�
 use Rattle.std.specs.{Prelude.{IsTrue, IsSome}, Io.KnownBytes.Consumes}
 use Rattle.hunk_words.specs.{Carriers.Supply, Longs.bytes_of, declared.fault.Fault.Fault, declared.reason.Reason.Reason}
 use Rattle.hunk_words.specs.declared.reason.Reason.TheVariants as reasons
-use Rattle.hunk_files.specs.{Fault.HasRefusal, Image.declared_bytes, LoadFile.{TableEntry, LoadFileValue, IsLoadFile}}
-use Rattle.hunk_files.specs.LoadText.{text}
-use Rattle.hunk_scatter.specs.LoaderReasons.{is_of_header, is_of_body}
-use Rattle.hunk_scatter.specs.HeaderBytes.{IsHeaderTable, header_bytes, IsHeaderFront}
-use Rattle.hunk_scatter.specs.HeaderFaults.{ExceedsBudget, IsHeaderFaultBy}
+use Rattle.hunk_files.specs.{Fault.HasRefusal, Image.declared_bytes, LoadFile.{TableEntry, LoadFileValue, IsLoadFile}, LoadText.text}
+use Rattle.hunk_scatter.specs.{LoaderReasons.{is_of_header, is_of_body}, HeaderBytes.{IsHeaderTable, header_bytes, IsHeaderFront}}
+use Rattle.hunk_scatter.specs.{HeaderFaults.{ExceedsBudget, IsHeaderFaultBy}, Placing.{Placing, HasBases, IsUnplacedFor}, declared.loading.Limits.Limits}
 use Rattle.hunk_scatter.specs.LoadOutcomes.{Gives, KeepsRest, IsNotPlaced, IsHeaderWithin, IsLoadFaultBy, IsLoadFault, GoesPastNoFile, StopsShort, KeepsToHeader, LoadStop, InHeader, Between, InBody}
-use Rattle.hunk_scatter.specs.{Placing.{Placing, HasBases, IsUnplacedFor}, declared.loading.Limits.Limits}
 use Rattle.hunk_scatter.proofs.{Feeding.fronts_of, HeaderFronts.table_within}
 
 -- ---- what is read

@@ -1,10 +1,10 @@
 -- A list of offsets at once.
-use Rattle.std.proofs.Common.{◌≡◌, ℕ, ◌+◌, ◌*◌, ◌<◌, ◌≤◌, List, [], ◌∷◌, ◌++◌, length, take, drop-cons, get_or, refl, sym, ap, subst, ◌∙◌, arith}
+use Rattle.std.proofs.Common.{rules, ◌≡◌, ℕ, ◌+◌, ◌*◌, ◌<◌, ◌≤◌, List, [], ◌∷◌, ◌++◌, length, take, drop-cons, get_or, refl, ap, ◌∙◌, arith}
+use Rattle.std.proofs.lemmas.Grind.{common_steps}
 use Rattle.std.proofs.Math.Seq.{take-add}
 use Rattle.std.specs.List.{AllByRecursion}
 use Rattle.hunk_words.specs.Longs.{longs}
 use Rattle.hunk_words.proofs.LongLaws.{length-longs}
-use Rattle.hunk_blocks.proofs.Lists.{All-more}
 use Rattle.hunk_files.specs.Image.{add_at}
 use Rattle.hunk_grammar.specs.Positions.{EndsWithin}
 use Rattle.hunk_scatter.specs.StoreContent.{added_at_each}
@@ -22,11 +22,7 @@ module _ (bytes : List ℕ) (n : ℕ) (within : 4 * n + 4 ≤ length bytes) wher
 
   pub adds_more : (start base : ℕ) (first store : List ℕ) → store ≡ added_at_each start base (take n (longs bytes)) first →
       add_at store (start + get_or (longs bytes) n 0) base ≡ added_at_each start base (take (n + 1) (longs bytes)) first
-  adds_more start base first store e =
-      ap (λ (xs : List ℕ). add_at xs (start + get_or (longs bytes) n 0) base) e
-      ∙ sym (added_at_each-more start base (take n (longs bytes)) (get_or (longs bytes) n 0) first)
-      ∙ ap (λ (ws : List ℕ). added_at_each start base ws first) (sym one_more)
+  adds_more start base first store e = search (rules, added_at_each-more, one_more)
 
   pub inside_more : (limit : ℕ) → AllByRecursion (EndsWithin limit) (take n (longs bytes)) → get_or (longs bytes) n 0 + 4 ≤ limit → AllByRecursion (EndsWithin limit) (take (n + 1) (longs bytes))
-  inside_more limit all less =
-      subst (λ (ws : List ℕ). AllByRecursion (EndsWithin limit) ws) (sym one_more) (All-more (EndsWithin limit) (take n (longs bytes)) (get_or (longs bytes) n 0) all less)
+  inside_more limit all less = grind (arith, common_steps)

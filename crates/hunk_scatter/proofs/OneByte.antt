@@ -1,67 +1,24 @@
 -- Bytes of a body up to the end of a longword.
 use Rattle.std.proofs.Common.{rules, ◌≡◌, ℕ, ◌+◌, ◌*◌, ◌<◌, true, false, List, [], ◌∷◌, ◌++◌, length, refl, sym, ap, ap₂, subst, ◌∙◌, append_assoc, append-nil, arith, length-append, None, Some}
+use Rattle.std.proofs.lemmas.Grind.{common_steps}
 use Rattle.std.specs.List.{AllByRecursion}
-use Rattle.std.proofs.lemmas.List.Sums.{sum_by-append, sum_by-cons}
-use Rattle.hunk_words.specs.{declared.reason.Reason.Reason, Bits.size_longs, Longs.{bytes_of, longs, IsLong}}
-use Rattle.hunk_files.specs.{Fault.HasRefusal, Image.{declared_bytes, images}, LoadFile.{TableEntry, LoadFileValue}}
-use Rattle.hunk_files.specs.LoadText.{table}
-use Rattle.hunk_files.specs.FileSteps.{HunkSoFar, Progress, AtBlock, InBody, Next, More, Finished, place_of, role_of, step_file}
-use Rattle.hunk_files.specs.ReaderPosition.{open_of, block_phase, open_table, table_of, IsAfterHeader}
-use Rattle.hunk_files.specs.{WordsRead.HasRead, declared.row.Row.Row}
+use Rattle.hunk_words.specs.{declared.reason.Reason.Reason, Longs.{bytes_of, longs, IsLong}}
+use Rattle.hunk_files.specs.{Fault.HasRefusal, Image.{declared_bytes, images}, LoadFile.LoadFileValue}
+use Rattle.hunk_files.specs.FileSteps.{Progress, Next, More, Finished, role_of, step_file}
+use Rattle.hunk_files.specs.{ReaderPosition.{table_of, IsAfterHeader}, WordsRead.HasRead, declared.row.Row.Row}
 use Rattle.hunk_grammar.specs.{Roles.refuse, Positions.is_done}
-use Rattle.hunk_blocks.specs.BlockSteps.{ForName, ForCode, SizedCode, SizedData, Inside, AtCount, AtSize, InPayload, InOffsets, InExtName}
-use Rattle.hunk_blocks.specs.{ReaderPhase.phase_of, Values.BlockValue, declared.phase.Phase.Phase}
-use Rattle.hunk_files.proofs.{FileProgress.{OpenFits, ProgressFits}, HunkProgress.Within}
-use Rattle.hunk_files.proofs.Reading.{reads, step_read, read_refused, read_ended}
+use Rattle.hunk_files.proofs.{walk.FileProgress.ProgressFits, walk.Reading.{reads, step_read, read_refused, read_ended}}
 use Rattle.hunk_words.proofs.LongLaws.{longs-bytes_of, length-bytes_of, bytes_of-append}
 use Rattle.hunk_blocks.proofs.Lists.{All-more}
-use Rattle.hunk_grammar.specs.declared.position.Position.TheVariants as positions
-use Rattle.hunk_scatter.specs.declared.store.BodyState.{BodyState}
-use Rattle.hunk_scatter.specs.StoreContent.{StoreHolds, HasSizedImage, stored_long}
-use Rattle.hunk_scatter.specs.BodySteps.{refusal, step_body, RoomFor, IsInStore}
-use Rattle.hunk_scatter.specs.{BodyLoaderFields.{EndsWhole, StandsAfter}, LoaderValues.IsFileWithRows}
-use Rattle.hunk_scatter.specs.{Rows.{entries_of, words_of, bases_of}, BodyReader.{sizes_of, state_at, state_of}}
-use Rattle.hunk_scatter.proofs.ReadWords.{read_longs}
-use Rattle.hunk_scatter.proofs.Forget.{before_is, step_state, step_table, step_after, refusal_same, sizes-at, sizes-length}
-use Rattle.hunk_scatter.proofs.Scatter.{step_holds}
+use Rattle.hunk_scatter.specs.{declared.store.BodyState.BodyState, StoreContent.{StoreHolds, HasSizedImage, stored_long}}
+use Rattle.hunk_scatter.specs.{BodySteps.{refusal, step_body, IsInStore}, BodyLoaderFields.{EndsWhole, StandsAfter}, LoaderValues.IsFileWithRows}
+use Rattle.hunk_scatter.specs.{Rows.{entries_of, words_of, bases_of}, BodyReader.{sizes_of, state_of}}
+use Rattle.hunk_scatter.proofs.{ReadWords.read_longs, Forget.{step_state, step_table, step_after, refusal_same}, Scatter.step_holds}
 
 -- ---- room
 
-open_in_store : (o : HunkSoFar) (phase : Phase) → OpenFits o → RoomFor (sizes_of (open_table o)) (size_longs o.entry.word) phase →
-    IsInStore (sizes_of (open_table o)) (declared_bytes (open_table o)) (state_at o.finished (positions.Body (open_of o) phase))
-open_in_store o phase f room = record {
-  in_body = refl;
-  hunks = omega (arith, sizes-length o.finished o.entry o.ahead, f.front_fits.counts, f.front_fits.hunks_fit.1);
-  hunk = omega (arith, sizes-length o.finished o.entry o.ahead);
-  segment =
-      omega (
-        arith,
-        ap size_longs (sizes-at o.finished o.entry o.ahead),
-        before_is o.finished,
-        sum_by-append (λ (e : TableEntry). 4 * size_longs e.word) (table o.finished) (o.entry ∷ o.ahead),
-        sum_by-cons (λ (e : TableEntry). 4 * size_longs e.word) o.entry o.ahead,
-      );
-  targets = omega (arith, sizes-length o.finished o.entry o.ahead, f.front_fits.counts);
-  room = subst (λ (n : ℕ). RoomFor (sizes_of (open_table o)) n phase) (sym (ap size_longs (sizes-at o.finished o.entry o.ahead))) room;
-}
-
-block_room : (sizes : List ℕ) (longs : ℕ) (blocks : List BlockValue) → RoomFor sizes longs (block_phase blocks)
-block_room sizes longs [] = tt
-block_room sizes longs (b ∷ blocks) = tt
-
-inside_room : (o : HunkSoFar) (word : ℕ) (x : Inside) → OpenFits o → Within (place_of o) word x → RoomFor (sizes_of (open_table o)) (size_longs o.entry.word) (phase_of x)
-inside_room o word (AtCount ForName) f w = tt
-inside_room o word (AtSize ForCode) f w = tt
-inside_room o word (InPayload (SizedCode top) done owed) f w = (omega arith, omega (arith, w))
-inside_room o word (InPayload (SizedData top) done owed) f w = (omega arith, omega (arith, w))
-inside_room o word (InOffsets groups target done owed) f w = omega (arith, sizes-length o.finished o.entry o.ahead, f.front_fits.counts, w.1)
-inside_room o word (InExtName es v done owed) f w = absurd w
-inside_room o word _ f w = tt
-
 in_store : (p : Progress) → IsAfterHeader (More p) → ProgressFits p → IsInStore (sizes_of (table_of (More p))) (declared_bytes (table_of (More p))) (state_of (More p))
-in_store (AtBlock o) b f = open_in_store o (block_phase o.blocks) f (block_room _ _ o.blocks)
-in_store (InBody o word x) b f = open_in_store o (phase_of x) f.0 (inside_room o word x f.0 f.2.1)
-in_store _ b f = absurd cc
+in_store p b f = grind (arith, common_steps)
 
 pub sizes_are : (rows : List Row) → sizes_of (entries_of rows) ≡ words_of rows
 sizes_are [] = refl
@@ -108,18 +65,7 @@ module _ (rows : List Row) (store : List ℕ) (state : BodyState) (pending fed :
 
   -- Bytes that complete no longword.
   pub more_pending : (bytes : List ℕ) → length (pending ++ bytes) < 4 → StandsAfter rows store state (pending ++ bytes) (fed ++ bytes)
-  more_pending bytes few = record {
-    few = few;
-    ws = g.ws;
-    next = More g.at;
-    spelled = ap (λ (xs : List ℕ). xs ++ bytes) g.spelled ∙ append_assoc (bytes_of g.ws) pending bytes;
-    read = g.read;
-    after = g.in_body;
-    table_is = g.table_is;
-    state_is = g.state_is;
-    holds = g.holds;
-    whole = tt;
-  }
+  more_pending bytes few = search (rules, append_assoc)
 
   module _ (bytes : List ℕ) (w : ℕ) (is : IsLong w) (gathers : pending ++ bytes ≡ bytes_of (w ∷ [])) where
     spells : fed ++ bytes ≡ bytes_of (g.ws ++ w ∷ [])

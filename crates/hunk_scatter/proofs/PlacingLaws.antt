@@ -1,77 +1,28 @@
 -- Rows are placed one after another.
-use Rattle.std.proofs.Common.{◌≡◌, ◌≢◌, ℕ, zero, suc, ◌+◌, ◌*◌, ◌<◌, ◌≤◌, ◌^◌, Bool, true, false, List, [], ◌∷◌, ◌++◌, length, map, take, drop, get_or, set, refl, sym, ap, ap₂, subst, ◌∙◌, arith, Some, ltb, length-take}
-use Rattle.std.proofs.Math.Seq.{map-set_same, take-suc}
-use Rattle.std.proofs.lemmas.Bool.{ltb-true, ltb-false}
-use Rattle.std.proofs.lemmas.List.{get_or-set_same, get_or-set_other, get_or-map, length-map, map-set}
+use Rattle.std.proofs.Common.{rules, ◌≡◌, ℕ, zero, suc, ◌+◌, ◌*◌, ◌<◌, ◌≤◌, ◌^◌, List, [], ◌∷◌, ◌++◌, length, map, take, drop, get_or, set, refl, sym, ap, ap₂, subst, ◌∙◌, arith, Some, length-take}
+use Rattle.std.proofs.lemmas.Grind.{common_steps}
+use Rattle.std.proofs.Math.Seq.{take-suc}
+use Rattle.std.proofs.lemmas.List.{get_or-map, length-map, map-set}
 use Rattle.hunk_words.specs.Bits.{size_longs}
-use Rattle.hunk_files.specs.{declared.row.Row.Row, Image.declared_bytes, LoadFile.TableEntry, Tables.row_entry}
-use Rattle.hunk_scatter.specs.{Placing.{Placing, base_at, ArePlacedTo}, Rows.{entries_of, row_of, bases_of}}
-use Rattle.hunk_scatter.proofs.DeclaredBytes.{declared_limit, declared-append, declared-one}
+use Rattle.hunk_files.specs.{declared.row.Row.Row, LoadFile.TableEntry, Tables.row_entry}
+use Rattle.hunk_scatter.specs.{Placing.{Placing, base_at, ArePlacedTo}, Rows.{entries_of, row_of}}
+use Rattle.hunk_scatter.proofs.DeclaredBytes.{declared_limit}
 
 abbrev no_entry : TableEntry
 no_entry = record { word = 0; extra = 0 }
 
 module _ (base : Placing) (old rows : List Row) (i before : ℕ) (d : Row) (inside : i < length old) (unplaced : old ≡ map row_of (entries_of old)) (p : ArePlacedTo base (entries_of old) old rows i before) where
-  counts : length rows ≡ length old
-  counts = sym (length-map rows row_entry) ∙ ap length p.entries ∙ length-map old row_entry
-
   -- the row that is asked for
   pub asked : get_or rows i d ≡ row_of (get_or (entries_of old) i no_entry)
-  asked =
-      p.later i (λ less. omega (arith, less)) d
-      ∙ ap (λ (rs : List Row). get_or rs i d) unplaced
-      ∙ get_or-map row_of (entries_of old) i no_entry d (omega (arith, length-map old row_entry, inside))
+  asked = search (rules, get_or-map, length-map)
 
   pub answer_is : base i (get_or rows i d) before ≡ base_at base (entries_of old) i
   answer_is = ap₂ (λ (r : Row) (n : ℕ). base i r n) asked p.before_is
 
-  size_is : 4 * size_longs (get_or rows i d).word ≡ 4 * size_longs (get_or (entries_of old) i no_entry).word
-  size_is = ap (λ (r : Row). 4 * size_longs r.word) asked
-
   -- One more hunk is placed.
   pub placed_more : (b : ℕ) (row : Row) → base_at base (entries_of old) i ≡ Some b → row.base ≡ b → row_entry row ≡ row_entry (get_or rows i d) →
       ArePlacedTo base (entries_of old) old (set rows i row) (suc i) (before + 4 * size_longs (get_or rows i d).word)
-  placed_more b row is e same = record {
-    entries = map-set_same row_entry rows i row d same ∙ p.entries;
-    later = λ k no x. get_or-set_other rows i k row x (λ same. no (omega (arith, same))) ∙ p.later k (λ less. no (omega (arith, less))) x;
-    given = λ k less. at k less (ltb k i) refl;
-    before_is =
-        omega (
-          arith,
-          p.before_is,
-          size_is,
-          ap declared_bytes (take-suc (entries_of old) i no_entry (omega (arith, inside, length-map old row_entry))),
-          declared-append (take i (entries_of old)) (get_or (entries_of old) i no_entry ∷ []),
-          declared-one (get_or (entries_of old) i no_entry),
-        );
-  }
-    where
-      bases : bases_of (set rows i row) ≡ set (bases_of rows) i row.base
-      bases = map-set (λ (r : Row). r.base) rows i row
-
-      at : (k : ℕ) → k < suc i → (t : Bool) → ltb k i ≡ t → base_at base (entries_of old) k ≡ Some (get_or (bases_of (set rows i row)) k 0)
-      at k less true f =
-          let before_i : k < i = ltb-true k i f in
-          let other : k ≢ i = λ e. omega (arith, before_i, e) in
-          p.given k before_i ∙ ap (λ (x : ℕ). Some x) (sym (ap (λ (xs : List ℕ). get_or xs k 0) bases ∙ get_or-set_other (bases_of rows) i k row.base 0 other))
-      at k less false f =
-          let not_less : i ≤ k = ltb-false k i f in
-          let here : k ≡ i = omega arith in
-          let in_bases : i < length (bases_of rows) = omega (arith, length-map rows (λ (r : Row). r.base), counts, inside) in
-          ap (base_at base (entries_of old)) here ∙ is ∙ ap (λ (x : ℕ). Some x)
-          (sym e
-          ∙ sym (get_or-set_same (bases_of rows) i row.base 0 in_bases)
-          ∙ ap₂ (λ (xs : List ℕ) (n : ℕ). get_or xs n 0) (sym bases) (sym here))
-
-  pub before_room : length old ≤ 65536 → before + 4 * size_longs (get_or rows i d).word < 2 ^ 49
-  before_room few =
-      omega (
-        arith,
-        p.before_is,
-        declared_limit (take i (entries_of old)),
-        length-take i (entries_of old),
-        length-map old row_entry,
-      )
+  placed_more b row is e same = grind (arith, common_steps, take-suc, map-set)
 
 abbrev pub no_row : Row
 no_row = record { word = 0; extra = 0; base = 0 }
@@ -91,8 +42,7 @@ placed_next base old rows i before b w size j sum inside unplaced p e v s f d =
 
 pub next_room : (base : Placing) (old rows : List Row) (i before w size : ℕ) → i < length old → old ≡ map row_of (entries_of old) → ArePlacedTo base (entries_of old) old rows i before →
     length old ≤ 65536 → w ≡ (get_or rows i no_row).word → size ≡ 4 * size_longs w → before + size < 2 ^ 49
-next_room base old rows i before w size inside unplaced p few v s =
-    omega (arith, before_room base old rows i before no_row inside unplaced p few, s, ap (λ (n : ℕ). 4 * size_longs n) v)
+next_room base old rows i before w size inside unplaced p few v s = search (rules, declared_limit, length-take, length-map)
 
 -- ---- bases taken away
 

@@ -2,9 +2,8 @@
 use Rattle.std.proofs.Common.{ℕ, List, [], ◌∷◌, subst}
 use Rattle.hunk_words.specs.Longs.{AreLongs}
 use Rattle.hunk_blocks.specs.Faults.{words}
-use Rattle.hunk_files.specs.{LoadFile.{LoadFileValue, IsLoadFile}, LoadText.{labelled, text}, FileSteps.Next}
-use Rattle.hunk_files.specs.WordsRead.{Labelled, AreAccepted, HasRead}
-use Rattle.hunk_files.proofs.Accepted.{labelled_accepted}
+use Rattle.hunk_files.specs.{LoadFile.{LoadFileValue, IsLoadFile}, LoadText.{labelled, text}, FileSteps.Next, WordsRead.{Labelled, AreAccepted, HasRead}}
+use Rattle.hunk_files.proofs.walk.Accepted.{labelled_accepted}
 
 pub accepted_longs : (done : Labelled) → AreAccepted done → AreLongs (words done)
 accepted_longs [] h = tt

@@ -5,18 +5,15 @@ use Rattle.std.proofs.Math.Seq.{drop-append-add}
 use Rattle.std.specs.{Int.{w32, to_be_bytes}, List.AllByRecursion}
 use Rattle.std.proofs.lemmas.List.{take_at, drop-drop, take-append-drop}
 use Rattle.hunk_words.specs.Longs.{bytes_of, longs, IsBytes, AreLongs, IsLong}
-use Rattle.hunk_words.proofs.LongLaws.{bytes_of-cons, bytes_of-nil, bytes_of-one, length-bytes_of, length-longs, spelled, longs_fit}
-use Rattle.hunk_words.proofs.PartLaws.{longs-take}
+use Rattle.hunk_words.proofs.{LongLaws.{bytes_of-cons, bytes_of-nil, bytes_of-one, length-bytes_of, length-longs, spelled, longs_fit}, PartLaws.longs-take}
 use Rattle.hunk_files.specs.declared.row.Row.{Row}
-use Rattle.hunk_grammar.specs.{declared.phase.OpenHunk.OpenHunk, declared.position.Position.Position}
+use Rattle.hunk_grammar.specs.{declared.position.OpenHunk.OpenHunk, declared.position.Position.Position}
 use Rattle.hunk_grammar.specs.Positions.{onward, is_done, run, pass, owe_content, owe_payload, owe_symbol, EndsWithin}
-use Rattle.hunk_blocks.specs.declared.phase.Phase.TheVariants as phases
+use Rattle.hunk_grammar.specs.declared.phase.Phase.TheVariants as phases
 use Rattle.hunk_grammar.specs.declared.position.Position.TheVariants as positions
-use Rattle.hunk_blocks.specs.PhaseSteps as inside
-use Rattle.hunk_scatter.specs.{declared.store.BodyState.BodyState, BodyLoaderFields.StandsAfter}
-use Rattle.hunk_scatter.specs.BodySteps.{longs_at, pass_body, IsInStore, refusal, step_body}
-use Rattle.hunk_scatter.specs.Rows.{words_of, bases_of}
-use Rattle.hunk_scatter.specs.StoreContent.{put_at, put_slice, stored_run_in, stored_run, added_at_each, TakesOffsets, stored_in}
+use Rattle.hunk_grammar.specs.PhaseSteps as inside
+use Rattle.hunk_scatter.specs.{declared.store.BodyState.BodyState, BodyLoaderFields.StandsAfter, BodySteps.{longs_at, pass_body, IsInStore, refusal, step_body}}
+use Rattle.hunk_scatter.specs.{Rows.{words_of, bases_of}, StoreContent.{put_at, put_slice, stored_run_in, stored_run, added_at_each, TakesOffsets, stored_in}}
 use Rattle.hunk_scatter.proofs.{OneByte.{going, more_read}, StoredBytes.length-put}
 
 -- ---- the store
@@ -123,8 +120,7 @@ run_read rows hunk start _ store fed (w ∷ ws) l r i some fits = absurd (omega 
 -- ---- bytes
 
 pub none_over : (over : List ℕ) → length over ≡ 0 → over ≡ []
-none_over [] e = refl
-none_over (x ∷ over) e = absurd (omega (arith, e))
+none_over over e = grind (arith, common_steps)
 
 -- bytes in fours are those of their longwords
 pub fours_are : (bytes : List ℕ) → IsBytes bytes → length bytes % 4 ≡ 0 → bytes ≡ bytes_of (longs bytes)

@@ -1,25 +1,20 @@
 -- Each longword keeps what the store holds.
-use Rattle.std.proofs.Common.{rules, ◌≡◌, ℕ, suc, ◌+◌, ◌-◌, ◌*◌, ◌≤◌, Bool, true, false, List, [], ◌∷◌, ◌++◌, length, get_or, refl, sym, ap, ap₂, ◌∙◌, append-nil, arith, length-append, ltb, None}
+use Rattle.std.proofs.Common.{rules, ◌≡◌, ℕ, suc, ◌+◌, ◌-◌, ◌*◌, ◌≤◌, false, List, [], ◌∷◌, ◌++◌, length, get_or, refl, sym, ap, ap₂, ◌∙◌, arith, ltb, None}
 use Rattle.std.proofs.lemmas.Grind.{common_steps}
-use Rattle.std.proofs.lemmas.{Bool.ltb-false, List.Sums.sum_by-cons}
+use Rattle.std.proofs.lemmas.Bool.{ltb-false}
 use Rattle.std.specs.{List.{flat_map, AllByRecursion}, Int.{w32, to_be_bytes}}
-use Rattle.hunk_words.specs.{Bits.{size_longs}, Longs.{bytes_of, IsLong}}
+use Rattle.hunk_words.specs.{Bits.size_longs, Longs.{bytes_of, IsLong}}
 use Rattle.hunk_words.specs.declared.block_word.Kind.TheVariants as kinds
 use Rattle.hunk_words.specs.declared.reason.Reason.TheVariants as reasons
-use Rattle.hunk_files.specs.Image.{add_at, image, images, filled, block_content, block_relocations}
-use Rattle.hunk_files.specs.LoadFile.{TableEntry, HunkValue}
-use Rattle.hunk_files.specs.FileSteps.{block, HunkSoFar, Progress, AtBlock, InBody, More, place_of, role_of, with_block, open_hunk, close, after, step_file}
-use Rattle.hunk_files.specs.OpenSegment.{segment_so_far, bytes_so_far, pairs_so_far, bytes_in, pairs_in}
-use Rattle.hunk_files.specs.ReaderPosition.{position_of}
-use Rattle.hunk_blocks.specs.Values.{BlockBody, BlockValue, Code, Data, Bss, Reloc, Ext, End}
-use Rattle.hunk_blocks.specs.BlockSteps.{ForName, ForCode, SizedCode, SizedData, Inside, AtCount, AtSize, InPayload, InOffsets, InExtName, BlockNext, Open, Whole, part_of, step_inside}
+use Rattle.hunk_files.specs.{Image.{add_at, images, filled, block_content, block_relocations}, LoadFile.{TableEntry, HunkValue}}
+use Rattle.hunk_files.specs.FileSteps.{HunkSoFar, Progress, AtBlock, InBody, More, place_of, role_of, open_hunk, after, step_file}
+use Rattle.hunk_files.specs.{OpenSegment.{segment_so_far, bytes_so_far, pairs_so_far, bytes_in, pairs_in}, ReaderPosition.position_of}
+use Rattle.hunk_blocks.specs.BlockSteps.{ForName, ForCode, SizedCode, SizedData, Inside, AtCount, AtSize, InPayload, InOffsets, InExtName, BlockNext, Open, part_of, step_inside}
 use Rattle.hunk_grammar.specs.Roles.{refuse, refuse_part}
-use Rattle.hunk_files.proofs.FileProgress.{ProgressFits, IsAdmitted, kind_is}
-use Rattle.hunk_files.proofs.Memory.{adds_bytes, adds_pairs, step_has, offset_adds}
-use Rattle.hunk_files.proofs.HunkProgress as blocks
+use Rattle.hunk_files.proofs.{walk.FileProgress.{ProgressFits, IsAdmitted, kind_is}, walk.Memory.{adds_bytes, adds_pairs, step_has, offset_adds}}
+use Rattle.hunk_files.proofs.walk.HunkProgress as blocks
 use Rattle.hunk_blocks.proofs.Lists.{passed_false}
-use Rattle.hunk_scatter.specs.StoreContent.{zeros, HasSizedImage, Holds, StoreHolds, put_at, stored_in, stored_long}
-use Rattle.hunk_scatter.specs.BodyReader.{state_of, before}
+use Rattle.hunk_scatter.specs.{StoreContent.{zeros, HasSizedImage, Holds, StoreHolds, put_at, stored_in, stored_long}, BodyReader.{state_of, before}}
 use Rattle.hunk_scatter.proofs.StoredBytes.{put-join, add-join, length-put, long_fills}
 use Rattle.hunk_words.proofs.LongLaws.{length-bytes_of, bytes_of-one}
 
@@ -34,18 +29,14 @@ pairs_of o = flat_map (λ b. block_relocations b.body) o.blocks
 holds_as : (bases : List ℕ) (o : HunkSoFar) (n m : BlockNext) (store : List ℕ) → segment_so_far bases o m ≡ segment_so_far bases o n → Holds bases o n store → Holds bases o m store
 holds_as bases o n m store e h = search rules
 
-same_parts : (bases : List ℕ) (o : HunkSoFar) (n m : BlockNext) → bytes_so_far m ≡ bytes_so_far n → pairs_so_far m ≡ pairs_so_far n → segment_so_far bases o m ≡ segment_so_far bases o n
-same_parts bases o n m e d = search rules
-
 nothing_added : (bases : List ℕ) (o : HunkSoFar) (x : Inside) (w : ℕ) → adds_bytes x w ≡ [] → adds_pairs x w ≡ [] → segment_so_far bases o (step_inside x w) ≡ segment_so_far bases o (Open x)
-nothing_added bases o x w e d = search (rules, same_parts, step_has, append-nil)
+nothing_added bases o x w e d = search (rules, step_has)
 
 -- ---- a segment in which four bytes are replaced
 
 length-images : (bases : List ℕ) (hs : List HunkValue) → AllByRecursion (HasSizedImage bases) hs → length (images bases hs) ≡ before hs
 length-images bases [] h = refl
-length-images bases (x ∷ hs) h =
-    omega (arith, length-append (image bases x) (images bases hs), h.0, length-images bases hs h.1, sum_by-cons (λ (y : HunkValue). 4 * size_longs y.entry.word) x hs)
+length-images bases (x ∷ hs) h = grind (arith, common_steps, length-images bases hs h.1)
 
 put_holds : (bases : List ℕ) (o : HunkSoFar) (n m : BlockNext) (store : List ℕ) (k : ℕ) (four : List ℕ) → length four ≡ 4 → k + 4 ≤ 4 * size_longs o.entry.word →
     segment_so_far bases o m ≡ put_at (segment_so_far bases o n) k four → Holds bases o n store → Holds bases o m (put_at store (before o.finished + k) four)
@@ -114,35 +105,14 @@ inside_holds bases o word x w store a f ok h = go x f ok h
 
 -- ---- between blocks
 
-closed_holds : (bases : List ℕ) (o : HunkSoFar) (b : BlockValue) (c : Bool) (store : List ℕ) →
-    (c ≡ false → (flat_map (λ (x : BlockValue). block_content x.body) (o.blocks ++ b ∷ []) ≡ []) × (flat_map (λ (x : BlockValue). block_relocations x.body) (o.blocks ++ b ∷ []) ≡ [])) →
-    Holds bases o (Whole b.body) store → Holds bases (with_block o b c) (Whole End) store
-closed_holds bases o b c store u h = grind (arith, common_steps)
-
--- a block that has neither content nor relocations
-beside_holds : (bases : List ℕ) (o : HunkSoFar) (word : ℕ) (body : BlockBody) (store : List ℕ) → block_content body ≡ [] → block_relocations body ≡ [] →
-    Holds bases o (Whole body) store → Holds bases (with_block o (block word body) o.has_content) (Whole End) store
-beside_holds bases o word body store e d h = grind (arith, common_steps)
-
 -- the hunks with these entries are all zero so far
 zero_holds : (bases : List ℕ) (hunks : ℕ) (finished : List HunkValue) (ahead : List TableEntry) (store : List ℕ) → AllByRecursion (HasSizedImage bases) finished →
     store ≡ images bases finished ++ zeros ahead → StoreHolds bases (open_hunk hunks finished ahead) store
-zero_holds bases hunks finished [] store f e = (f, e ∙ append-nil (images bases finished))
-zero_holds bases hunks finished (x ∷ ahead) store f e = grind (arith, common_steps)
-
-ended_holds : (bases : List ℕ) (o : HunkSoFar) (word : ℕ) (store : List ℕ) → Holds bases o (Whole End) store → StoreHolds bases (close o (block word End)) store
-ended_holds bases o word store h = grind (arith, common_steps)
+zero_holds bases hunks finished ahead store f e = grind (arith, common_steps)
 
 after_holds : (bases : List ℕ) (o : HunkSoFar) (word : ℕ) (n : BlockNext) (store : List ℕ) → IsAdmitted o word → blocks.NextFits (place_of o) word n →
     Holds bases o n store → StoreHolds bases (after o word n) store
-after_holds bases o word (Open x) store a f h = h
-after_holds bases o word (Whole (Code top ws)) store a f h = closed_holds bases o (block word (Code top ws)) true store (λ c. absurd cc) h
-after_holds bases o word (Whole (Data top ws)) store a f h = closed_holds bases o (block word (Data top ws)) true store (λ c. absurd cc) h
-after_holds bases o word (Whole (Bss size)) store a f h = closed_holds bases o (block word (Bss size)) true store (λ c. absurd cc) h
-after_holds bases o word (Whole (Reloc gs)) store a f h = grind (arith, common_steps)
-after_holds bases o word (Whole (Ext es)) store a f h = absurd f.of_load
-after_holds bases o word (Whole End) store a f h = ended_holds bases o word store h
-after_holds bases o word (Whole _) store a f h = beside_holds bases o word _ store refl refl h
+after_holds bases o word n store a f h = grind (arith, common_steps)
 
 -- A longword that is not refused keeps what the store holds.
 pub step_holds : (bases : List ℕ) (p : Progress) (w : ℕ) (store : List ℕ) → ProgressFits p → IsLong w → refuse (role_of p) w ≡ None → StoreHolds bases (More p) store →

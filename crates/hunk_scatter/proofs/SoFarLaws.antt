@@ -1,22 +1,17 @@
 -- What a loader has made of a file that it has begun, by the file.
-use Rattle.std.proofs.Common.{◌≡◌, ℕ, ◌*◌, ◌/◌, false, List, ◌∷◌, ◌++◌, length, refl, sym, ap, subst, ◌∙◌, append_assoc, append-nil}
+use Rattle.std.proofs.Common.{rules, ◌≡◌, ℕ, ◌*◌, ◌/◌, false, List, ◌∷◌, ◌++◌, length, sym, ap, ◌∙◌, append_assoc, append-nil}
 use Rattle.std.specs.List.{flat_map}
 use Rattle.hunk_words.specs.{Longs.{bytes_of, longs}, PendingBytes.pending_of}
-use Rattle.hunk_blocks.specs.BlockSteps.{Open, Whole}
-use Rattle.hunk_blocks.specs.Values.{BlockValue, End}
+use Rattle.hunk_blocks.specs.{BlockSteps.{Open, Whole}, Values.{BlockValue, End}}
 use Rattle.hunk_blocks.proofs.Lists.{flat_map-append}
 use Rattle.hunk_grammar.specs.Positions.{is_done}
 use Rattle.hunk_grammar.specs.declared.file_kind.Sniff.TheVariants as sniffs
 use Rattle.hunk_files.specs.{FileParts.IsPartAt, Image.{block_content, block_relocations, images}}
-use Rattle.hunk_files.specs.FileSteps.{block, hunk, AtBlock, InBody, Finished, More, Next, Progress}
-use Rattle.hunk_files.specs.LoadFile.{LoadFileValue, IsLoadFile, TableEntry}
-use Rattle.hunk_files.specs.LoadText.{text}
-use Rattle.hunk_files.specs.OpenSegment.{bytes_in, open_bytes, open_pairs, pairs_in, segment_so_far}
-use Rattle.hunk_files.specs.{Machines.load_at, ReadFiles.IsOf, ReaderPosition.{IsAfterHeader, position_of}}
-use Rattle.hunk_files.specs.WordsRead.{HasRead}
+use Rattle.hunk_files.specs.{FileSteps.{block, hunk, AtBlock, InBody, More, Next, Progress}, LoadFile.{LoadFileValue, IsLoadFile, TableEntry}}
+use Rattle.hunk_files.specs.{LoadText.text, OpenSegment.{bytes_in, open_bytes, open_pairs, pairs_in, segment_so_far}}
+use Rattle.hunk_files.specs.{Machines.load_at, ReadFiles.IsOf, ReaderPosition.{IsAfterHeader, position_of}, WordsRead.HasRead, declared.row.Row.Row}
 use Rattle.hunk_files.specs.declared.part.Part.TheVariants as parts
-use Rattle.hunk_files.specs.declared.row.Row.{Row}
-use Rattle.hunk_files.proofs.{LoadPlaces.position_at, ReadFiles.read_of}
+use Rattle.hunk_files.proofs.{walk.LoadPlaces.position_at, walk.ReadFiles.read_of}
 use Rattle.hunk_scatter.specs.{BodyLoaderFields.IsFed, BodyReader.state_of, Rows.bases_of, SoFar.HoldsSoFar, StoreContent.{StoreHolds, zeros}}
 use Rattle.hunk_scatter.specs.{declared.store.BodyState.BodyState, declared.stream.Standing.Standing}
 use Rattle.hunk_scatter.proofs.{BodyFields.{gone, text_here}, Outcomes.longs_are, PartLaws.hunk_here}
@@ -71,9 +66,7 @@ module _ (rows : List Row) (store fed : List ℕ) (s : Standing) (h : IsFed rows
   part_so_far = hunk_here rows store s.state (pending_of s.pending) fed h.stands more
 
   pub read_so_far : (p : Progress) × HasRead (longs fed) (More p) × StoreHolds (bases_of rows) (More p) store
-  read_so_far =
-      let g = gone rows store s fed h more in
-      (g.at, subst (λ (ws : List ℕ). HasRead ws (More g.at)) (sym (longs_are g.ws (More g.at) (pending_of s.pending) fed g.read g.few g.spelled)) g.read, g.holds)
+  read_so_far = search (rules, longs_are)
 
   pub store_so_far : (v : LoadFileValue) (rest : List ℕ) → IsLoadFile v → bytes_of (text v) ≡ fed ++ rest → HoldsSoFar rows store s.state.hunk v
   store_so_far v rest is e =
@@ -83,10 +76,7 @@ module _ (rows : List Row) (store fed : List ℕ) (s : Standing) (h : IsFed rows
 -- ---- the position
 
 state_is : (n : Next) → (state_of n).position ≡ position_of n
-state_is (More (AtBlock o)) = refl
-state_is (More (InBody o word x)) = refl
-state_is (Finished v) = refl
-state_is _ = refl
+state_is n = search rules
 
 pub position_so_far : (rows : List Row) (store fed : List ℕ) (s : Standing) → IsFed rows store s fed → s.state.position ≡ load_at (longs fed)
 position_so_far rows store fed s h =

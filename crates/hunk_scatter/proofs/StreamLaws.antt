@@ -1,28 +1,22 @@
 -- A loader of numbers.
-use Rattle.std.proofs.Common.{rules, ◌≡◌, ℕ, ◌-◌, ◌*◌, ◌≤◌, ◌<◌, Bool, true, false, List, [], ◌∷◌, ◌++◌, length, get_or, take, refl, sym, ap, ◌∙◌, arith, length-append, Err, None}
+use Rattle.std.proofs.Common.{rules, ◌≡◌, ℕ, ◌-◌, ◌*◌, ◌≤◌, ◌<◌, Bool, true, false, List, [], ◌∷◌, ◌++◌, length, get_or, take, refl, sym, arith, length-append, Err, None}
 use Rattle.std.proofs.lemmas.List.{length-map}
-use Rattle.hunk_files.specs.declared.row.Row.{Row}
+use Rattle.hunk_files.specs.{declared.row.Row.Row, FileSteps.{HunkSoFar, Progress, More}, ReaderPosition.{IsAfterHeader, open_table, table_of}}
 use Rattle.hunk_words.specs.{declared.pending.Pending.Pending, PendingBytes.pending_of}
-use Rattle.hunk_grammar.specs.{declared.position.Position.Position}
-use Rattle.hunk_grammar.specs.Positions.{is_done, is_between_hunks, least_longs}
+use Rattle.hunk_grammar.specs.{declared.position.Position.Position, Positions.{is_done, is_between_hunks, least_longs}}
 use Rattle.hunk_grammar.specs.declared.position.Position.TheVariants as positions
 use Rattle.hunk_scatter.specs.{BodyReader.state_of, BodySteps.{IsInStore, targets_at}, Owing.FileOwes, Rows.{entries_of, words_of}, declared.store.BodyState.BodyState}
 use Rattle.hunk_scatter.specs.{declared.stream.Standing.Standing, BodyLoaderFields.StandsAfter}
 use Rattle.hunk_scatter.specs.Streaming.{FitsStore, IsFed, IsWithin, EndsLoading, IsFedAfter, TakesPart}
 use Rattle.hunk_scatter.proofs.{BodyFields.{gone, in_room, image_of, fed_clean, fed_truncated, owes_file}, Forget.before_is}
-use Rattle.hunk_files.proofs.{FileProgress.{OpenFits, ProgressFits}, Reading.reads}
-use Rattle.hunk_files.specs.{Image.declared_bytes, LoadFile.HunkValue, LoadText.table, Tables.row_entry}
-use Rattle.hunk_files.specs.FileSteps.{HunkSoFar, Progress, AtBlock, InBody, Next, More, Finished}
-use Rattle.hunk_files.specs.ReaderPosition.{IsAfterHeader, open_table, table_of}
+use Rattle.hunk_files.proofs.{walk.FileProgress.{OpenFits, ProgressFits}, walk.Reading.reads}
 use Rattle.hunk_words.proofs.PendingLaws.{pending_few}
 
 pub going_on : (p : Position) → is_between_hunks p ≡ false → is_done p ≡ false
-going_on positions.Done e = absurd cc
-going_on _ e = refl
+going_on p e = search rules
 
 pub open_unless_done : (p : Position) → (p ≡ positions.Done → ⊥) → is_done p ≡ false
-open_unless_done positions.Done f = absurd (f refl)
-open_unless_done _ f = refl
+open_unless_done p f = search rules
 
 -- ---- numbers of a loader
 
@@ -30,27 +24,15 @@ pub within_store : (rows : List Row) (store : List ℕ) (s : Standing) (fed : Li
 within_store rows store s fed h = record { few = pending_few s.pending h.stands.few; in_store = λ e. in_room rows store s fed h (going_on s.state.position e) }
 
 table_hunks : (rows : List Row) (o : HunkSoFar) → OpenFits o → open_table o ≡ entries_of rows → o.hunks ≡ length rows
-table_hunks rows o f t =
-    omega (arith, f.front_fits.counts, ap length t, length-append (table o.finished) (o.entry ∷ o.ahead), length-map o.finished (λ (x : HunkValue). x.entry), length-map rows row_entry)
+table_hunks rows o f t = search (rules, length-append, length-map)
 
 -- Its rows are the hunks of the file.
 open_hunks : (rows : List Row) (p : Progress) (state : BodyState) → IsAfterHeader (More p) → ProgressFits p → table_of (More p) ≡ entries_of rows → state_of (More p) ≡ state → targets_at state.position ≡ length rows
-open_hunks rows (AtBlock o) state b f t e = ap (λ (s : BodyState). targets_at s.position) (sym e) ∙ table_hunks rows o f t
-open_hunks rows (InBody o word x) state b f t e = ap (λ (s : BodyState). targets_at s.position) (sym e) ∙ table_hunks rows o f.0 t
-open_hunks rows _ state b f t e = absurd cc
+open_hunks rows p state b f t e = search (rules, table_hunks)
 
 -- Whole, they are all of the store.
 whole_hunks : (rows : List Row) (store : List ℕ) (s : Standing) (fed : List ℕ) → IsFed rows store s fed → is_done s.state.position ≡ true → (s.state.hunk ≡ length rows) × (s.state.start ≡ length store)
-whole_hunks rows store s fed h done = let r = h.stands in go r.next r.after r.table_is r.state_is
-  where
-    go : (n : Next) → IsAfterHeader n → table_of n ≡ entries_of rows → state_of n ≡ s.state → (s.state.hunk ≡ length rows) × (s.state.start ≡ length store)
-    go (More (AtBlock o)) b t e = absurd (cc (done, ap (λ (x : BodyState). is_done x.position) e))
-    go (More (InBody o word x)) b t e = absurd (cc (done, ap (λ (x : BodyState). is_done x.position) e))
-    go (Finished v) b t e = (
-      omega (arith, ap (λ (x : BodyState). x.hunk) e, ap length t, length-map v (λ (x : HunkValue). x.entry), length-map rows row_entry),
-      omega (arith, ap (λ (x : BodyState). x.start) e, ap declared_bytes t, before_is v, h.size),
-    )
-    go _ b t e = absurd cc
+whole_hunks rows store s fed h done = search (rules, length-map, before_is)
 
 pub fits_store : (rows : List Row) (store : List ℕ) (s : Standing) (fed : List ℕ) → IsFed rows store s fed → FitsStore rows (length store) s
 fits_store rows store s fed h = record {
@@ -81,8 +63,7 @@ strange rows store at piece more outside = record {
 }
 
 pub first_byte : (piece : List ℕ) → 0 < length piece → get_or piece 0 0 ∷ [] ≡ take 1 piece
-first_byte [] h = absurd (omega (arith, h))
-first_byte (x ∷ piece) h = refl
+first_byte piece h = search rules
 
 -- ---- the end
 

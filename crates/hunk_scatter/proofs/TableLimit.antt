@@ -4,12 +4,11 @@ use Rattle.std.specs.List.{flat_map}
 use Rattle.std.proofs.lemmas.List.{map-append}
 use Rattle.hunk_grammar.specs.Roles.{Role, Role as roles}
 use Rattle.hunk_blocks.specs.Faults.{words}
-use Rattle.hunk_files.specs.{Fault.Expects, FileSteps.open_hunk, Image.declared_bytes}
-use Rattle.hunk_files.specs.LoadFile.{TableEntry, LoadFileValue}
+use Rattle.hunk_files.specs.{Fault.Expects, FileSteps.open_hunk, Image.declared_bytes, LoadFile.{TableEntry, LoadFileValue}}
 use Rattle.hunk_files.specs.LoadText.{labelled, header_labelled, hunk_labelled, table}
 use Rattle.hunk_scatter.specs.{HeaderBytes.{IsHeaderTable, header_words, entries_so_far}, HeaderFaults.ExceedsBudget}
 use Rattle.hunk_scatter.proofs.{After.{table_after, no_size_word}, DeclaredBytes.declared_limit}
-use Rattle.hunk_scatter.proofs.{HeaderFronts.{text_header, header_within}, HeaderTexts.header_read, Splits.fronts}
+use Rattle.hunk_scatter.proofs.{HeaderFronts.{text_header, header_within}, HeaderTexts.header_read, ListCuts.fronts}
 
 abbrev hunk_words_of : LoadFileValue → List ℕ
 hunk_words_of v = words (flat_map (hunk_labelled (length v)) v)

@@ -5,13 +5,11 @@ use Rattle.std.proofs.lemmas.List.{drop-drop, take_rest}
 use Rattle.hunk_words.specs.{declared.reason.Reason.Reason, Longs.{bytes_of, longs, IsBytes, IsLong}}
 use Rattle.hunk_files.specs.{Fault.HasRefusal, declared.row.Row.Row}
 use Rattle.hunk_grammar.specs.{Positions.{is_done, run}, declared.position.Position.Position}
-use Rattle.hunk_scatter.specs.declared.store.BodyState.{BodyState}
-use Rattle.hunk_scatter.specs.BodyLoaderFields.{ReadsOn, ReadyAt, RefusesFirstLong, StandsAfter, TakesOrRefuses}
-use Rattle.hunk_scatter.specs.StoreContent.{stored_long, stored_run}
-use Rattle.hunk_scatter.specs.{BodySteps.{refusal, step_body, pass_body, IsInStore}, Rows.{words_of, bases_of}}
+use Rattle.hunk_scatter.specs.{declared.store.BodyState.BodyState, BodyLoaderFields.{ReadsOn, ReadyAt, RefusesFirstLong, StandsAfter, TakesOrRefuses}}
+use Rattle.hunk_scatter.specs.{StoreContent.{stored_long, stored_run}, BodySteps.{refusal, step_body, pass_body, IsInStore}, Rows.{words_of, bases_of}}
 use Rattle.hunk_scatter.proofs.{Faults.refusal_front, OneByte.{Going, going, more_read, refused_here, stands_as}}
-use Rattle.hunk_scatter.proofs.{Refusing.refused_in_body, Runs.{read_run, take_bytes}, Staying.{stays_as, word_stays}}
-use Rattle.hunk_words.proofs.LongLaws.{in_place, length-bytes_of}
+use Rattle.hunk_scatter.proofs.{Refusing.refused_in_body, Runs.{read_run, take_bytes}, WithinStore.{stays_as, word_stays}}
+use Rattle.hunk_words.proofs.LongLaws.{in_place}
 
 module _ (rows : List Row) (store : List ℕ) (state : BodyState) (fed : List ℕ) (r : StandsAfter rows store state [] fed) (more : is_done state.position ≡ false) where
   gone : Going rows store state [] fed
@@ -34,10 +32,7 @@ module _ (rows : List Row) (store : List ℕ) (state : BodyState) (fed : List �
 pub run_taken : (rows : List Row) (store : List ℕ) (state : BodyState) (fed : List ℕ) → StandsAfter rows store state [] fed → IsInStore (words_of rows) (length store) state →
     (piece : List ℕ) (n : ℕ) → IsBytes piece → n ≤ length piece → n % 4 ≡ 0 → 0 < n → n ≤ 4 * run state.position →
     StandsAfter rows (stored_run state (take n piece) store) (pass_body state (length (take n piece) / 4)) [] (fed ++ take n piece)
-run_taken rows store state fed r i piece n are inside fours some fits =
-    let long : length (take n piece) ≡ n = omega (arith, length-take n piece, inside) in
-    subst (λ (k : ℕ). StandsAfter rows (stored_run state (take n piece) store) (pass_body state (k / 4)) [] (fed ++ take n piece)) (sym long)
-    (read_run rows store state fed (take n piece) n r i long (take_bytes piece n are) fours some fits)
+run_taken rows store state fed r i piece n are inside fours some fits = search (rules, read_run, take_bytes)
 
 -- the position by another name
 pub read_at : (rows : List Row) (store : List ℕ) (state : BodyState) (position : Position) (fed : List ℕ) → position ≡ state.position → StandsAfter rows store state [] fed →
@@ -98,9 +93,7 @@ module _ (rows : List Row) (store : List ℕ) (state : BodyState) (pending fed b
   gathered_reads store2 state2 reads = subst (λ (bs : List ℕ). StandsAfter rows store2 state2 [] bs) spells (reads (bytes_of r.ws) front_stands)
 
   pub gathered_refused : (reason : Reason) → RefusesFirstLong rows store state four reason → HasRefusal (fed ++ bytes) (4 * (length fed / 4)) reason
-  gathered_refused reason refuses =
-      let place : length (bytes_of r.ws) ≡ 4 * (length fed / 4) = omega (arith, r.few, ap length r.spelled, length-append (bytes_of r.ws) pending, length-bytes_of r.ws) in
-      subst (λ (n : ℕ). HasRefusal (fed ++ bytes) n reason) place (subst (λ (bs : List ℕ). HasRefusal bs (length (bytes_of r.ws)) reason) spells (refuses (bytes_of r.ws) front_stands))
+  gathered_refused reason refuses = search (rules, length-append, spells, front_stands)
 
 -- ---- one part after another
 
@@ -129,9 +122,7 @@ module _ (piece rest : List ℕ) (leaves : Leaves piece rest) where
   -- what was taken and the rest are the piece
   pub whole_piece : (fed : List ℕ) → (fed ++ take (length piece - length rest) piece) ++ rest ≡ fed ++ piece
   unfolding taken
-  whole_piece fed =
-      let front = fed ++ take taken piece in
-      ap (λ (xs : List ℕ). front ++ xs) leaves.1 ∙ append_assoc fed (take taken piece) (drop taken piece) ∙ ap (λ (xs : List ℕ). fed ++ xs) (take-append-drop taken piece)
+  whole_piece fed = search (rules, append_assoc, take-append-drop)
 
   -- so far it has this many bytes
   pub length_so_far : (fed : List ℕ) → length (fed ++ take (length piece - length rest) piece) ≡ length fed + (length piece - length rest)

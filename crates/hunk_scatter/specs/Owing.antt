@@ -1,7 +1,7 @@
 -- What is still to come of a content, a name, a payload or a list of offsets, and of a file.
 use Rattle.std.specs.Prelude.{◌≡◌, ℕ, ◌+◌, ◌*◌, ◌%◌, ◌<◌, ◌≤◌, Bool, true, false, List, ◌++◌, length}
 use Rattle.hunk_words.specs.Longs.{bytes_of, longs}
-use Rattle.hunk_blocks.specs.Parts.{Part as parts}
+use Rattle.hunk_grammar.specs.BlockParts.{Part as parts}
 use Rattle.hunk_blocks.specs.Faults.{words}
 use Rattle.hunk_files.specs.LoadFile.{LoadFileValue, IsLoadFile}
 use Rattle.hunk_files.specs.LoadText.{labelled, text}

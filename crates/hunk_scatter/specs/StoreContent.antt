@@ -9,7 +9,7 @@ use Rattle.hunk_blocks.specs.BlockSteps.{BlockNext, Open, Whole}
 use Rattle.hunk_blocks.specs.Values.{End}
 use Rattle.hunk_files.specs.FileSteps.{HunkSoFar, Next, More, Finished, AtBlock, InBody}
 use Rattle.hunk_files.specs.OpenSegment.{segment_so_far}
-use Rattle.hunk_blocks.specs.declared.phase.Phase.TheVariants as phases
+use Rattle.hunk_grammar.specs.declared.phase.Phase.TheVariants as phases
 use Rattle.hunk_grammar.specs.declared.position.Position.{Position}
 use Rattle.hunk_grammar.specs.declared.position.Position.TheVariants as positions
 use Rattle.hunk_grammar.specs.Positions.{EndsWithin}

@@ -1,7 +1,6 @@
 //! The loader of a header.
-ghost use Rattle.std.specs.Prelude.{◌≡◌, ℕ, ◌+◌, ◌*◌, ◌/◌, ◌<◌, ◌≤◌, ◌^◌, List, [], ◌++◌};
-ghost use Rattle.std.specs.Prelude.{length, Some, None, Ok, Err, IfOk, IfErr};
-ghost use Rattle.std.specs.Prelude.{OnOk, OnErr, IsOk, IsTrue, IsErrAnd, ◌⊎◌};
+ghost use Rattle.std.specs.Prelude.{◌≡◌, ℕ, ◌+◌, ◌*◌, ◌/◌, ◌<◌, ◌≤◌, ◌^◌, List, [], ◌++◌, length, Some, None, Ok, Err, IfOk, IfErr, OnOk};
+ghost use Rattle.std.specs.Prelude.{OnErr, IsOk, IsTrue, IsErrAnd, ◌⊎◌};
 ghost use Rattle.hunk_words.specs.Limits.{most_hunks};
 ghost use Rattle.hunk_words.specs.PendingBytes.{pending_of};
 ghost use Rattle.hunk_words.specs.declared.fault.Fault.{Fault};
@@ -13,11 +12,8 @@ ghost use Rattle.hunk_files.specs.FileParts.{IsPartAt};
 ghost use Rattle.hunk_files.specs.Image.{declared_bytes};
 ghost use Rattle.hunk_files.specs.LoadFile.{TableEntry};
 ghost use Rattle.hunk_scatter.specs.LoaderReasons.{is_of_header};
-ghost use Rattle.hunk_scatter.specs.HeaderBytes.{IsHeaderTable, header_bytes, IsHeader};
-ghost use Rattle.hunk_scatter.specs.HeaderBytes.{MayGoOnInHeader, entries_so_far};
-ghost use Rattle.hunk_scatter.specs.HeaderFaults.{ExceedsBudget, IsOverBudget, IsBudgetOrMemory};
-ghost use Rattle.hunk_scatter.specs.HeaderFaults.{KeepsToBudget};
-ghost use Rattle.hunk_scatter.specs.HeaderFaults.{IsHeaderFault};
+ghost use Rattle.hunk_scatter.specs.HeaderBytes.{IsHeaderTable, header_bytes, IsHeader, MayGoOnInHeader, entries_so_far};
+ghost use Rattle.hunk_scatter.specs.HeaderFaults.{ExceedsBudget, IsOverBudget, IsBudgetOrMemory, KeepsToBudget, IsHeaderFault};
 ghost use Rattle.hunk_scatter.specs.HeaderLoaderFields.{FeedsHeaderOrStops};
 ghost use Rattle.hunk_scatter.specs.HeaderOwing.{HasRowsToCome, HasHeaderToCome};
 ghost use Rattle.hunk_scatter.specs.Owing.{most_want};

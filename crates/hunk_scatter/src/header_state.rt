@@ -1,12 +1,10 @@
 //! Where a reader of the header stands, a few numbers; and the size of a header, read with no memory
 //! for its rows.
-ghost use Rattle.std.specs.Prelude.{◌≡◌, ◌+◌, ◌<◌, ◌≤◌, ◌^◌, ◌++◌, IfOk, IfErr, OnOk, IfSome};
-ghost use Rattle.std.specs.Prelude.{IfNone, [], ◌∷◌, map, false};
+ghost use Rattle.std.specs.Prelude.{◌≡◌, ◌+◌, ◌<◌, ◌≤◌, ◌^◌, ◌++◌, IfOk, IfErr, OnOk, IfSome, IfNone, [], ◌∷◌, map, false};
 ghost use Rattle.hunk_words.specs.declared.reason.Reason.TheVariants as reasons;
 ghost use Rattle.hunk_grammar.specs.Positions.{is_after_header};
 ghost use Rattle.hunk_scatter.specs.HeaderLoaderFields as heading;
-ghost use Rattle.hunk_scatter.specs.HeaderSizes.{HasHeaderInFront, HasHeaderSize, RefusesHeader};
-ghost use Rattle.hunk_scatter.specs.HeaderSizes.{TellsOwed};
+ghost use Rattle.hunk_scatter.specs.HeaderSizes.{HasHeaderInFront, HasHeaderSize, RefusesHeader, TellsOwed};
 ghost use Rattle.hunk_scatter.specs.Rows.{row_of};
 
 use hunk_files::Row;

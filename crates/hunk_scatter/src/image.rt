@@ -1,6 +1,5 @@
 //! A load file in memory.
-ghost use Rattle.std.specs.Prelude.{◌≡◌, ◌+◌, ◌*◌, ◌<◌, ◌≤◌, length, slice_get};
-ghost use Rattle.std.specs.Prelude.{slice_index, sum_by, Some};
+ghost use Rattle.std.specs.Prelude.{◌≡◌, ◌+◌, ◌*◌, ◌<◌, ◌≤◌, length, slice_get, slice_index, sum_by, Some};
 ghost use Rattle.std.specs.Iterator.{at_most};
 ghost use Rattle.hunk_words.specs.Limits.{most_hunks};
 ghost use Rattle.hunk_files.specs.Image.{declared_bytes};

@@ -1,6 +1,5 @@
 //! A load from a source.
-ghost use Rattle.std.specs.Prelude.{◌≡◌, ℕ, ◌+◌, ◌<◌, ◌≤◌, Bool, List, ◌++◌, length};
-ghost use Rattle.std.specs.Prelude.{[], take, None, IfOk, IfErr, OnOk, OnErr};
+ghost use Rattle.std.specs.Prelude.{◌≡◌, ℕ, ◌+◌, ◌<◌, ◌≤◌, Bool, List, ◌++◌, length, [], take, None, IfOk, IfErr, OnOk, OnErr};
 ghost use Rattle.std.specs.Prelude.{IsErrAnd, MatchResult};
 ghost use Rattle.std.specs.Io.KnownBytes.{Consumes};
 ghost use Rattle.hunk_words.specs.declared.reason.Reason.TheVariants as reasons;
@@ -9,11 +8,9 @@ ghost use Rattle.hunk_files.specs.declared.part.Part.TheVariants.{Header, Hunk};
 ghost use Rattle.hunk_scatter.specs.HeaderBytes.{IsHeaderTable, header_bytes};
 ghost use Rattle.hunk_scatter.specs.HeaderFaults.{IsOverBudget};
 ghost use Rattle.hunk_scatter.specs.LoaderValues.{IsImageOf};
-ghost use Rattle.hunk_scatter.specs.LoadOutcomes.{Gives, GoesPastNoFile, GoesPastNoHeader};
-ghost use Rattle.hunk_scatter.specs.LoadOutcomes.{HasFileWithin, IsBodyStop, IsHeaderStop};
-ghost use Rattle.hunk_scatter.specs.LoadOutcomes.{IsReadFault, Loads, PassesBudget};
-ghost use Rattle.hunk_scatter.specs.LoadOutcomes.{StopsAfterFile, StopsAfterHeader, TellsFailure};
-ghost use Rattle.hunk_scatter.specs.LoadRefusals.{IsFaultIn, LoadsOrNames, NamesPart, without_part};
+ghost use Rattle.hunk_scatter.specs.LoadOutcomes.{Gives, GoesPastNoFile, GoesPastNoHeader, HasFileWithin, IsBodyStop, IsHeaderStop};
+ghost use Rattle.hunk_scatter.specs.LoadOutcomes.{IsReadFault, Loads, PassesBudget, StopsAfterFile, StopsAfterHeader, TellsFailure};
+ghost use Rattle.hunk_scatter.specs.LoadRefusals.{IsFaultIn, LoadsOrNames, NamesPart, fault_of, without_part};
 ghost use Rattle.hunk_scatter.specs.Owing.{most_want};
 
 use crate::body_loader::BodyLoader;
@@ -112,7 +109,7 @@ fn load_header<R: Source>(
 /// The refusal for a fault at the next longword of a body.
 #[inline(never)]
 fn refused_in_hunk(loader: &BodyLoader, fault: LoadFault) -> LoadRefusal
-    ensures fault { result.fault ≡ fault }
+    ensures fault { fault_of result ≡ fault }
     ensures names { (given : List ℕ) → IsFaultIn given (Hunk loader.now.hunk) fault
         → NamesPart given result }
 {
@@ -136,7 +133,7 @@ fn load_body<R: Source>(
         × MatchResult result
         (λ image. IsImageOf loader.rows (loader.fed ++ more) image.segments
         × (image.rows ≡ loader.rows))
-        (λ refusal. IsBodyStop limit (R.supply r.new) (loader.fed ++ more) refusal.fault
+        (λ refusal. IsBodyStop limit (R.supply r.new) (loader.fed ++ more) (fault_of refusal)
         × NamesPart (loader.fed ++ more) refusal) }
     ensures tells_read { TellsFailure (R.supply r.old) (R.supply r.new) (without_part result) }
 {
@@ -209,7 +206,7 @@ pub fn load<R: Source, P: Placer>(
 {
     match load_naming_part(alloc, r, limits, p) {
         Ok(image) => Ok(image),
-        Err(refusal) => Err(refusal.fault),
+        Err(refusal) => Err(refusal.fault()),
     }
 }
 

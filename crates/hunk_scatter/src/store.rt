@@ -1,16 +1,13 @@
 //! The one store, where the loader of a body stands in it, and what each longword does to it.
-ghost use Rattle.std.specs.Prelude.{◌≡◌, ◌+◌, ◌≤◌, ◌<◌, ◌*◌, ◌/◌, ◌%◌, ◌^◌, length, take};
-ghost use Rattle.std.specs.Prelude.{Some, None, IfNone, IfSome, IfOk};
-ghost use Rattle.std.specs.Prelude.{slice_index, true, false};
+ghost use Rattle.std.specs.Prelude.{◌≡◌, ◌+◌, ◌≤◌, ◌<◌, ◌*◌, ◌/◌, ◌%◌, ◌^◌, length, take, Some, None, IfNone, IfSome, IfOk, slice_index};
+ghost use Rattle.std.specs.Prelude.{true, false};
 ghost use Rattle.hunk_words.specs.Limits.{content_limit};
 ghost use Rattle.hunk_words.specs.Longs.{longs};
 ghost use Rattle.std.specs.List.{AllByRecursion};
 ghost use Rattle.std.specs.Int.{to_be_bytes};
 ghost use Rattle.hunk_files.specs.Image.{add_at};
-ghost use Rattle.hunk_scatter.specs.StoreContent.{put_slice, stored_long, stored_run};
-ghost use Rattle.hunk_scatter.specs.StoreContent.{added_at_each, TakesOffsets};
-ghost use Rattle.hunk_scatter.specs.BodySteps.{longs_at, pass_body, refusal};
-ghost use Rattle.hunk_scatter.specs.BodySteps.{IsInStore};
+ghost use Rattle.hunk_scatter.specs.StoreContent.{put_slice, stored_long, stored_run, added_at_each, TakesOffsets};
+ghost use Rattle.hunk_scatter.specs.BodySteps.{longs_at, pass_body, refusal, IsInStore};
 ghost use Rattle.hunk_grammar.specs.Positions.{run, is_done, EndsWithin};
 ghost use Rattle.hunk_grammar.specs.declared.position.Position.TheVariants as positions;
 ghost use Rattle.hunk_scatter.specs.BodyLoaderFields.{ReadyAt, TakesOrRefuses};

@@ -1,6 +1,6 @@
 //! The load files of the suite. `vectors/tables` has made this file of `vectors/load.tsv`: change that, and run it.
 
-use crate::vector::{Vector, Want};
+use crate::vector::{Vector, Want, row};
 
 const ONE_HUNK: &str =
     "000003f30000000000000001000000000000000000000001000003e9000000014e754e71000003f2";
@@ -223,396 +223,59 @@ pub const LOAD_TEXTS: [&str; 55] = [
 
 /// The load files of the worked examples, accepted and refused.
 pub const VECTORS: [Vector; 55] = [
-    Vector {
-        row: 1,
-        text: ONE_HUNK,
-        want: Want::Accepted { hunks: 1, bytes: 4 },
-    },
-    Vector {
-        row: 2,
-        text: TWO_HUNKS,
-        want: Want::Accepted {
-            hunks: 2,
-            bytes: 12,
-        },
-    },
-    Vector {
-        row: 3,
-        text: BASE_ADDED_MODULO_2_TO_32,
-        want: Want::Accepted { hunks: 1, bytes: 4 },
-    },
-    Vector {
-        row: 4,
-        text: CONTENT_SHORTER_THAN_HUNK,
-        want: Want::Accepted {
-            hunks: 1,
-            bytes: 12,
-        },
-    },
-    Vector {
-        row: 5,
-        text: OFFSET_TWICE,
-        want: Want::Accepted { hunks: 2, bytes: 8 },
-    },
-    Vector {
-        row: 6,
-        text: OVERLAP_RISING,
-        want: Want::Accepted { hunks: 1, bytes: 8 },
-    },
-    Vector {
-        row: 6,
-        text: OVERLAP_FALLING,
-        want: Want::Accepted { hunks: 1, bytes: 8 },
-    },
-    Vector {
-        row: 7,
-        text: HUNKS_OF_TWO_SIZES,
-        want: Want::Accepted {
-            hunks: 2,
-            bytes: 20,
-        },
-    },
-    Vector {
-        row: 8,
-        text: ATTRIBUTES_AND_TWO_CONTENTS,
-        want: Want::Accepted {
-            hunks: 2,
-            bytes: 12,
-        },
-    },
-    Vector {
-        row: 9,
-        text: EMPTY,
-        want: Want::Refused {
-            place: 0,
-            number: 26,
-        },
-    },
-    Vector {
-        row: 10,
-        text: BYTES_BEHIND,
-        want: Want::Accepted { hunks: 1, bytes: 4 },
-    },
-    Vector {
-        row: 11,
-        text: LAST_OFFSET,
-        want: Want::Accepted { hunks: 1, bytes: 8 },
-    },
-    Vector {
-        row: 11,
-        text: OFFSET_OUTSIDE,
-        want: Want::Refused {
-            place: 52,
-            number: 24,
-        },
-    },
-    Vector {
-        row: 11,
-        text: TARGET_OUTSIDE,
-        want: Want::Refused {
-            place: 48,
-            number: 23,
-        },
-    },
-    Vector {
-        row: 12,
-        text: RELOCATION_OF_NOTHING,
-        want: Want::Refused {
-            place: 36,
-            number: 22,
-        },
-    },
-    Vector {
-        row: 12,
-        text: HUNK_OF_NOTHING,
-        want: Want::Accepted { hunks: 1, bytes: 0 },
-    },
-    Vector {
-        row: 13,
-        text: DREL32,
-        want: Want::Refused {
-            place: 36,
-            number: 13,
-        },
-    },
-    Vector {
-        row: 15,
-        text: DEBUG_OF_END_WORDS,
-        want: Want::Accepted { hunks: 1, bytes: 4 },
-    },
-    Vector {
-        row: 16,
-        text: LAST_HUNK_TOO_SMALL,
-        want: Want::Refused {
-            place: 16,
-            number: 8,
-        },
-    },
-    Vector {
-        row: 16,
-        text: NO_HUNKS,
-        want: Want::Refused {
-            place: 8,
-            number: 5,
-        },
-    },
-    Vector {
-        row: 16,
-        text: TOO_MANY_HUNKS,
-        want: Want::Refused {
-            place: 8,
-            number: 6,
-        },
-    },
-    Vector {
-        row: 17,
-        text: HEADER_ALONE,
-        want: Want::Refused {
-            place: 24,
-            number: 26,
-        },
-    },
-    Vector {
-        row: 18,
-        text: SYMBOL,
-        want: Want::Accepted { hunks: 1, bytes: 4 },
-    },
-    Vector {
-        row: 19,
-        text: ADVISORY_BLOCK,
-        want: Want::Accepted { hunks: 1, bytes: 4 },
-    },
-    Vector {
-        row: 23,
-        text: UNIT_FIRST,
-        want: Want::Refused {
-            place: 0,
-            number: 2,
-        },
-    },
-    Vector {
-        row: 23,
-        text: LIBRARY_FIRST,
-        want: Want::Refused {
-            place: 0,
-            number: 3,
-        },
-    },
-    Vector {
-        row: 23,
-        text: END_FIRST,
-        want: Want::Refused {
-            place: 0,
-            number: 1,
-        },
-    },
-    Vector {
-        row: 23,
-        text: RESIDENT_LIBRARY,
-        want: Want::Refused {
-            place: 4,
-            number: 4,
-        },
-    },
-    Vector {
-        row: 23,
-        text: FIRST_HUNK_OF_ONE,
-        want: Want::Refused {
-            place: 12,
-            number: 7,
-        },
-    },
-    Vector {
-        row: 23,
-        text: LAST_HUNK_OF_ONE,
-        want: Want::Refused {
-            place: 16,
-            number: 8,
-        },
-    },
-    Vector {
-        row: 23,
-        text: BOTH_MEMORY_BITS,
-        want: Want::Refused {
-            place: 24,
-            number: 9,
-        },
-    },
-    Vector {
-        row: 23,
-        text: ADVISORY_CONTENT,
-        want: Want::Accepted { hunks: 1, bytes: 4 },
-    },
-    Vector {
-        row: 23,
-        text: CHIP_CONTENT,
-        want: Want::Accepted { hunks: 1, bytes: 4 },
-    },
-    Vector {
-        row: 23,
-        text: RELOCATIONS_BEFORE_CONTENT,
-        want: Want::Refused {
-            place: 24,
-            number: 18,
-        },
-    },
-    Vector {
-        row: 23,
-        text: END_BEFORE_CONTENT,
-        want: Want::Refused {
-            place: 24,
-            number: 19,
-        },
-    },
-    Vector {
-        row: 23,
-        text: CONTENT_PASSES_HUNK,
-        want: Want::Refused {
-            place: 28,
-            number: 20,
-        },
-    },
-    Vector {
-        row: 23,
-        text: CONTENT_SIZE_WITH_TOP_BIT,
-        want: Want::Accepted { hunks: 1, bytes: 4 },
-    },
-    Vector {
-        row: 23,
-        text: OVERLAY,
-        want: Want::Refused {
-            place: 36,
-            number: 11,
-        },
-    },
-    Vector {
-        row: 23,
-        text: BREAK,
-        want: Want::Refused {
-            place: 36,
-            number: 12,
-        },
-    },
-    Vector {
-        row: 23,
-        text: RELOC32SHORT,
-        want: Want::Refused {
-            place: 36,
-            number: 13,
-        },
-    },
-    Vector {
-        row: 23,
-        text: EXT,
-        want: Want::Refused {
-            place: 36,
-            number: 14,
-        },
-    },
-    Vector {
-        row: 23,
-        text: UNIT_IN_HUNK,
-        want: Want::Refused {
-            place: 36,
-            number: 15,
-        },
-    },
-    Vector {
-        row: 23,
-        text: UNKNOWN_BLOCK,
-        want: Want::Refused {
-            place: 36,
-            number: 16,
-        },
-    },
-    Vector {
-        row: 23,
-        text: SECOND_CONTENT,
-        want: Want::Refused {
-            place: 36,
-            number: 17,
-        },
-    },
-    Vector {
-        row: 23,
-        text: LIBRARY_IN_HUNK,
-        want: Want::Refused {
-            place: 36,
-            number: 3,
-        },
-    },
-    Vector {
-        row: 1,
-        text: RELRELOC32,
-        want: Want::Refused {
-            place: 36,
-            number: 14,
-        },
-    },
-    Vector {
-        row: 1,
-        text: ABSRELOC16,
-        want: Want::Refused {
-            place: 36,
-            number: 14,
-        },
-    },
-    Vector {
-        row: 24,
-        text: NAME_WITH_LINE_END,
-        want: Want::Accepted { hunks: 1, bytes: 4 },
-    },
-    Vector {
-        row: 24,
-        text: NAME_COUNT_WITH_TOP_BYTE,
-        want: Want::Refused {
-            place: 28,
-            number: 21,
-        },
-    },
-    Vector {
-        row: 36,
-        text: OVERLAP_OF_NO_NEIGHBOURS,
-        want: Want::Accepted {
-            hunks: 1,
-            bytes: 16,
-        },
-    },
-    Vector {
-        row: 37,
-        text: NO_SYMBOLS,
-        want: Want::Accepted { hunks: 1, bytes: 4 },
-    },
-    Vector {
-        row: 41,
-        text: LARGEST_CONTENT_COUNT,
-        want: Want::Refused {
-            place: 28,
-            number: 20,
-        },
-    },
-    Vector {
-        row: 41,
-        text: LARGEST_OFFSET_COUNT_AT_NO_TARGET,
-        want: Want::Refused {
-            place: 44,
-            number: 23,
-        },
-    },
-    Vector {
-        row: 41,
-        text: LARGEST_OFFSET_COUNT,
-        want: Want::Refused {
-            place: 48,
-            number: 26,
-        },
-    },
-    Vector {
-        row: 41,
-        text: LARGEST_DEBUG_COUNT,
-        want: Want::Refused {
-            place: 32,
-            number: 26,
-        },
-    },
+    row!(1, ONE_HUNK => Want::Accepted { hunks: 1, bytes: 4 }),
+    row!(2, TWO_HUNKS => Want::Accepted { hunks: 2, bytes: 12 }),
+    row!(3, BASE_ADDED_MODULO_2_TO_32 => Want::Accepted { hunks: 1, bytes: 4 }),
+    row!(4, CONTENT_SHORTER_THAN_HUNK => Want::Accepted { hunks: 1, bytes: 12 }),
+    row!(5, OFFSET_TWICE => Want::Accepted { hunks: 2, bytes: 8 }),
+    row!(6, OVERLAP_RISING => Want::Accepted { hunks: 1, bytes: 8 }),
+    row!(6, OVERLAP_FALLING => Want::Accepted { hunks: 1, bytes: 8 }),
+    row!(7, HUNKS_OF_TWO_SIZES => Want::Accepted { hunks: 2, bytes: 20 }),
+    row!(8, ATTRIBUTES_AND_TWO_CONTENTS => Want::Accepted { hunks: 2, bytes: 12 }),
+    row!(9, EMPTY => Want::Refused { place: 0, number: 26 }),
+    row!(10, BYTES_BEHIND => Want::Accepted { hunks: 1, bytes: 4 }),
+    row!(11, LAST_OFFSET => Want::Accepted { hunks: 1, bytes: 8 }),
+    row!(11, OFFSET_OUTSIDE => Want::Refused { place: 52, number: 24 }),
+    row!(11, TARGET_OUTSIDE => Want::Refused { place: 48, number: 23 }),
+    row!(12, RELOCATION_OF_NOTHING => Want::Refused { place: 36, number: 22 }),
+    row!(12, HUNK_OF_NOTHING => Want::Accepted { hunks: 1, bytes: 0 }),
+    row!(13, DREL32 => Want::Refused { place: 36, number: 13 }),
+    row!(15, DEBUG_OF_END_WORDS => Want::Accepted { hunks: 1, bytes: 4 }),
+    row!(16, LAST_HUNK_TOO_SMALL => Want::Refused { place: 16, number: 8 }),
+    row!(16, NO_HUNKS => Want::Refused { place: 8, number: 5 }),
+    row!(16, TOO_MANY_HUNKS => Want::Refused { place: 8, number: 6 }),
+    row!(17, HEADER_ALONE => Want::Refused { place: 24, number: 26 }),
+    row!(18, SYMBOL => Want::Accepted { hunks: 1, bytes: 4 }),
+    row!(19, ADVISORY_BLOCK => Want::Accepted { hunks: 1, bytes: 4 }),
+    row!(23, UNIT_FIRST => Want::Refused { place: 0, number: 2 }),
+    row!(23, LIBRARY_FIRST => Want::Refused { place: 0, number: 3 }),
+    row!(23, END_FIRST => Want::Refused { place: 0, number: 1 }),
+    row!(23, RESIDENT_LIBRARY => Want::Refused { place: 4, number: 4 }),
+    row!(23, FIRST_HUNK_OF_ONE => Want::Refused { place: 12, number: 7 }),
+    row!(23, LAST_HUNK_OF_ONE => Want::Refused { place: 16, number: 8 }),
+    row!(23, BOTH_MEMORY_BITS => Want::Refused { place: 24, number: 9 }),
+    row!(23, ADVISORY_CONTENT => Want::Accepted { hunks: 1, bytes: 4 }),
+    row!(23, CHIP_CONTENT => Want::Accepted { hunks: 1, bytes: 4 }),
+    row!(23, RELOCATIONS_BEFORE_CONTENT => Want::Refused { place: 24, number: 18 }),
+    row!(23, END_BEFORE_CONTENT => Want::Refused { place: 24, number: 19 }),
+    row!(23, CONTENT_PASSES_HUNK => Want::Refused { place: 28, number: 20 }),
+    row!(23, CONTENT_SIZE_WITH_TOP_BIT => Want::Accepted { hunks: 1, bytes: 4 }),
+    row!(23, OVERLAY => Want::Refused { place: 36, number: 11 }),
+    row!(23, BREAK => Want::Refused { place: 36, number: 12 }),
+    row!(23, RELOC32SHORT => Want::Refused { place: 36, number: 13 }),
+    row!(23, EXT => Want::Refused { place: 36, number: 14 }),
+    row!(23, UNIT_IN_HUNK => Want::Refused { place: 36, number: 15 }),
+    row!(23, UNKNOWN_BLOCK => Want::Refused { place: 36, number: 16 }),
+    row!(23, SECOND_CONTENT => Want::Refused { place: 36, number: 17 }),
+    row!(23, LIBRARY_IN_HUNK => Want::Refused { place: 36, number: 3 }),
+    row!(1, RELRELOC32 => Want::Refused { place: 36, number: 14 }),
+    row!(1, ABSRELOC16 => Want::Refused { place: 36, number: 14 }),
+    row!(24, NAME_WITH_LINE_END => Want::Accepted { hunks: 1, bytes: 4 }),
+    row!(24, NAME_COUNT_WITH_TOP_BYTE => Want::Refused { place: 28, number: 21 }),
+    row!(36, OVERLAP_OF_NO_NEIGHBOURS => Want::Accepted { hunks: 1, bytes: 16 }),
+    row!(37, NO_SYMBOLS => Want::Accepted { hunks: 1, bytes: 4 }),
+    row!(41, LARGEST_CONTENT_COUNT => Want::Refused { place: 28, number: 20 }),
+    row!(41, LARGEST_OFFSET_COUNT_AT_NO_TARGET => Want::Refused { place: 44, number: 23 }),
+    row!(41, LARGEST_OFFSET_COUNT => Want::Refused { place: 48, number: 26 }),
+    row!(41, LARGEST_DEBUG_COUNT => Want::Refused { place: 32, number: 26 }),
 ];

@@ -1,6 +1,6 @@
 //! The object files of the suite. `vectors/tables` has made this file of `vectors/objects.tsv`: change that, and run it.
 
-use crate::vector::{ObjectVector, ObjectWant};
+use crate::vector::{ObjectVector, ObjectWant, row};
 
 const SHORT_RELOCATIONS: &str =
     "000003e70000000161000000000003e90000000100000000000003f700000001000000000000000000000000000003f2";
@@ -63,132 +63,20 @@ pub const OBJECT_TEXTS: [&str; 16] = [
 
 /// The object files of the worked examples, accepted and refused.
 pub const OBJECTS: [ObjectVector; 16] = [
-    ObjectVector {
-        row: 13,
-        text: SHORT_RELOCATIONS,
-        want: ObjectWant::Accepted {
-            units: 1,
-            findings: 0,
-        },
-    },
-    ObjectVector {
-        row: 14,
-        text: CODE_AND_EXT,
-        want: ObjectWant::Accepted {
-            units: 1,
-            findings: 0,
-        },
-    },
-    ObjectVector {
-        row: 14,
-        text: REFERENCE_OUTSIDE,
-        want: ObjectWant::Accepted {
-            units: 1,
-            findings: 1,
-        },
-    },
-    ObjectVector {
-        row: 25,
-        text: EXT_TYPE_UNKNOWN,
-        want: ObjectWant::Refused {
-            place: 20,
-            number: 25,
-        },
-    },
-    ObjectVector {
-        row: 25,
-        text: REFERENCE_COUNT_MISSING,
-        want: ObjectWant::Refused {
-            place: 24,
-            number: 26,
-        },
-    },
-    ObjectVector {
-        row: 26,
-        text: NO_UNIT,
-        want: ObjectWant::Refused {
-            place: 0,
-            number: 15,
-        },
-    },
-    ObjectVector {
-        row: 26,
-        text: UNIT_OF_NOTHING,
-        want: ObjectWant::Accepted {
-            units: 1,
-            findings: 0,
-        },
-    },
-    ObjectVector {
-        row: 26,
-        text: HALF_LONGWORD_BEHIND,
-        want: ObjectWant::Refused {
-            place: 8,
-            number: 26,
-        },
-    },
-    ObjectVector {
-        row: 29,
-        text: TWO_FINDINGS,
-        want: ObjectWant::Accepted {
-            units: 1,
-            findings: 2,
-        },
-    },
-    ObjectVector {
-        row: 34,
-        text: TWO_UNITS,
-        want: ObjectWant::Accepted {
-            units: 2,
-            findings: 0,
-        },
-    },
-    ObjectVector {
-        row: 35,
-        text: COMMON,
-        want: ObjectWant::Accepted {
-            units: 1,
-            findings: 0,
-        },
-    },
-    ObjectVector {
-        row: 35,
-        text: COMMON_OUTSIDE,
-        want: ObjectWant::Accepted {
-            units: 1,
-            findings: 1,
-        },
-    },
-    ObjectVector {
-        row: 44,
-        text: ADVISORY_IN_HUNK,
-        want: ObjectWant::Accepted {
-            units: 1,
-            findings: 0,
-        },
-    },
-    ObjectVector {
-        row: 44,
-        text: ADVISORY_FIRST,
-        want: ObjectWant::Refused {
-            place: 0,
-            number: 15,
-        },
-    },
-    ObjectVector {
-        row: 44,
-        text: UNIT_WITH_ADVISORY_FLAG,
-        want: ObjectWant::Refused {
-            place: 20,
-            number: 15,
-        },
-    },
-    ObjectVector {
-        row: 45,
-        text: RELATIVE_REFERENCES,
-        want: ObjectWant::Accepted {
-            units: 1,
-            findings: 1,
-        },
-    },
+    row!(13, SHORT_RELOCATIONS => ObjectWant::Accepted { units: 1, findings: 0 }),
+    row!(14, CODE_AND_EXT => ObjectWant::Accepted { units: 1, findings: 0 }),
+    row!(14, REFERENCE_OUTSIDE => ObjectWant::Accepted { units: 1, findings: 1 }),
+    row!(25, EXT_TYPE_UNKNOWN => ObjectWant::Refused { place: 20, number: 25 }),
+    row!(25, REFERENCE_COUNT_MISSING => ObjectWant::Refused { place: 24, number: 26 }),
+    row!(26, NO_UNIT => ObjectWant::Refused { place: 0, number: 15 }),
+    row!(26, UNIT_OF_NOTHING => ObjectWant::Accepted { units: 1, findings: 0 }),
+    row!(26, HALF_LONGWORD_BEHIND => ObjectWant::Refused { place: 8, number: 26 }),
+    row!(29, TWO_FINDINGS => ObjectWant::Accepted { units: 1, findings: 2 }),
+    row!(34, TWO_UNITS => ObjectWant::Accepted { units: 2, findings: 0 }),
+    row!(35, COMMON => ObjectWant::Accepted { units: 1, findings: 0 }),
+    row!(35, COMMON_OUTSIDE => ObjectWant::Accepted { units: 1, findings: 1 }),
+    row!(44, ADVISORY_IN_HUNK => ObjectWant::Accepted { units: 1, findings: 0 }),
+    row!(44, ADVISORY_FIRST => ObjectWant::Refused { place: 0, number: 15 }),
+    row!(44, UNIT_WITH_ADVISORY_FLAG => ObjectWant::Refused { place: 20, number: 15 }),
+    row!(45, RELATIVE_REFERENCES => ObjectWant::Accepted { units: 1, findings: 1 }),
 ];

@@ -32,3 +32,16 @@ pub struct Vector<W = Want> {
 
 /// An object file and its answer.
 pub type ObjectVector = Vector<ObjectWant>;
+
+/// The row of the table with this example, this text, and what a reader has to answer.
+macro_rules! row {
+    ($row:literal, $text:ident => $want:ident::$answer:ident { $($field:ident: $number:literal),* }) => {
+        $crate::vector::Vector {
+            row: $row,
+            text: $text,
+            want: $want::$answer { $($field: $number),* },
+        }
+    };
+}
+
+pub(crate) use row;

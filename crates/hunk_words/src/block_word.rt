@@ -1,8 +1,7 @@
 //! Block words.
 ghost use Rattle.std.specs.Prelude.{◌≡◌, ◌<◌, ◌≤◌, IfSome, length};
 ghost use Rattle.std.specs.Option.{option_copied};
-ghost use Rattle.hunk_words.specs.Bits.{flags, has_both_bits, is_advisory, is_chip, is_fast};
-ghost use Rattle.hunk_words.specs.Bits.{is_relocation, kind};
+ghost use Rattle.hunk_words.specs.Bits.{flags, has_both_bits, is_advisory, is_chip, is_fast, is_relocation, kind};
 ghost use Rattle.hunk_words.specs.KindNames.{name_of_kind};
 
 use std::marker::Model;

@@ -1,6 +1,6 @@
 //! The command that clap reads the words by, with its help.
-ghost use Rattle.std.specs.Prelude.{◌≡◌, IfOk, IsOkAnd, codes, false};
-ghost use Rattle.clap.specs.Words.{app_of, new_app, new_rule, rule_of, with_subcommand};
+ghost use Rattle.std.specs.Prelude.{◌≡◌, IfOk, codes, false};
+ghost use Rattle.clap.specs.Words.{App, app_of, new_app, new_rule, rule_of, with_subcommand};
 ghost use Rattle.clap.specs.declared.builder.command.Command.TheViews.{out-Command as fields_of};
 ghost use Rattle.hunk_command_line.specs.Command as spec;
 
@@ -65,8 +65,7 @@ Example, without names, symbols and debug data:
 
 /// `--name`.
 fn flag<'a>(alloc: Global, name: &'a str, help: &'a str) -> Arg<'a>
-    ensures rule { rule_of result ≡ spec.flag name.entry.now }
-    ensures not_global { result.global ≡ false }
+    ensures { spec.IsArgument (spec.flag name.entry.now) result }
 {
     Arg::new(alloc, name)
         .long(name)
@@ -76,8 +75,7 @@ fn flag<'a>(alloc: Global, name: &'a str, help: &'a str) -> Arg<'a>
 
 /// `--name VALUE`.
 fn option<'a>(alloc: Global, name: &'a str, value: &'a str, help: &'a str) -> Arg<'a>
-    ensures rule { rule_of result ≡ spec.option name.entry.now }
-    ensures not_global { result.global ≡ false }
+    ensures { spec.IsArgument (spec.option name.entry.now) result }
 {
     Arg::new(alloc, name)
         .long(name)
@@ -87,8 +85,7 @@ fn option<'a>(alloc: Global, name: &'a str, value: &'a str, help: &'a str) -> Ar
 
 /// A word at its place.
 fn positional<'a>(alloc: Global, name: &'a str, help: &'a str) -> Arg<'a>
-    ensures rule { rule_of result ≡ new_rule name.entry.now }
-    ensures not_global { result.global ≡ false }
+    ensures { spec.IsArgument (new_rule name.entry.now) result }
 {
     Arg::new(alloc, name).help(help)
 }
@@ -102,31 +99,22 @@ fn mandatory<'a>(arg: Arg<'a>) -> Arg<'a>
 }
 
 fn hex_flag<'a>(alloc: Global) -> Arg<'a>
-    ensures rule { rule_of result ≡ spec.flag (codes "hex") }
-    ensures not_global { result.global ≡ false }
+    ensures { spec.IsArgument (spec.flag (codes "hex")) result }
 {
-    flag(
-        alloc,
-        "hex",
-        "The input is hexadecimal text; spaces, tabs and line ends in it are ignored",
-    )
+    let help = "The input is hexadecimal text; spaces, tabs and line ends in it are ignored";
+    flag(alloc, "hex", help)
 }
 
 fn file_positional<'a>(alloc: Global) -> Arg<'a>
-    ensures rule { rule_of result ≡ new_rule (codes "FILE") }
-    ensures not_global { result.global ≡ false }
+    ensures { spec.IsArgument (new_rule (codes "FILE")) result }
 {
-    positional(
-        alloc,
-        "FILE",
-        "The file to read; without it, standard input is read",
-    )
+    let help = "The file to read; without it, standard input is read";
+    positional(alloc, "FILE", help)
 }
 
 /// A command that does not have its arguments yet, with what its help says before and after them.
 fn command<'a>(alloc: Global, name: &'a str, about: &'a str, after: &'a str) -> Command<'a>
-    ensures app { app_of result ≡ new_app name.entry.now }
-    ensures not_global { (fields_of result).has_globals ≡ false }
+    ensures { spec.IsCommand (new_app name.entry.now) result }
 {
     Command::new(alloc, name).about(about).after_help(after)
 }
@@ -138,119 +126,42 @@ fn plain_command<'a>(
     about: &'a str,
     after: &'a str,
 ) -> Result<Command<'a>, AllocError>
-    ensures app { IfOk result (λ command. app_of command ≡ spec.plain_command name.entry.now) }
-    ensures not_global { IfOk result (λ command. (fields_of command).has_globals ≡ false) }
+    ensures { IfOk result (spec.IsCommand (spec.plain_command name.entry.now)) }
 {
     command(alloc, name, about, after)
         .arg(hex_flag(alloc))?
         .arg(file_positional(alloc))
 }
 
-fn show<'a>(alloc: Global) -> Result<Command<'a>, AllocError>
-    ensures app { IfOk result (λ command. app_of command ≡ spec.plain_command (codes "show")) }
-    ensures not_global { IfOk result (λ command. (fields_of command).has_globals ≡ false) }
-{
-    plain_command(
-        alloc,
-        "show",
-        "Lists the hunks and blocks of a load file or an object file",
-        AFTER_SHOW,
-    )
-}
-
-fn validate<'a>(alloc: Global) -> Result<Command<'a>, AllocError>
-    ensures app { IfOk result (λ command. app_of command ≡ spec.plain_command (codes "validate")) }
-    ensures not_global { IfOk result (λ command. (fields_of command).has_globals ≡ false) }
-{
-    plain_command(
-        alloc,
-        "validate",
-        "Checks a file, and lists relocations and references that are out of range",
-        AFTER_VALIDATE,
-    )
-}
-
-fn base_option<'a>(alloc: Global) -> Arg<'a>
-    ensures rule { rule_of result ≡ spec.option (codes "base") }
-    ensures not_global { result.global ≡ false }
-{
-    option(
-        alloc,
-        "base",
-        "HEX",
-        "The address of the first hunk: exactly eight hexadecimal digits",
-    )
-}
-
-fn budget_option<'a>(alloc: Global) -> Arg<'a>
-    ensures rule { rule_of result ≡ spec.option (codes "budget") }
-    ensures not_global { result.global ≡ false }
-{
-    option(
-        alloc,
-        "budget",
-        "N",
-        "The most bytes that the hunks may have together, in decimal [default: 16777216]",
-    )
-}
-
 fn relocate<'a>(alloc: Global) -> Result<Command<'a>, AllocError>
-    ensures app { IfOk result (λ command. app_of command ≡ spec.relocate_command) }
-    ensures not_global { IfOk result (λ command. (fields_of command).has_globals ≡ false) }
+    ensures { IfOk result (spec.IsCommand spec.relocate_command) }
 {
     let about = "Loads a load file at an address, and prints the bytes of its hunks";
+    let base = "The address of the first hunk: exactly eight hexadecimal digits";
+    let budget = "The most bytes that the hunks may have together, in decimal [default: 16777216]";
     command(alloc, "relocate", about, AFTER_RELOCATE)
         .arg(hex_flag(alloc))?
-        .arg(mandatory(base_option(alloc)))?
-        .arg(budget_option(alloc))?
+        .arg(mandatory(option(alloc, "base", "HEX", base)))?
+        .arg(option(alloc, "budget", "N", budget))?
         .arg(file_positional(alloc))
 }
 
-fn strip_flag<'a>(alloc: Global) -> Arg<'a>
-    ensures rule { rule_of result ≡ spec.flag (codes "strip") }
-    ensures not_global { result.global ≡ false }
-{
-    flag(
-        alloc,
-        "strip",
-        "Leave out names, symbols, debug data and advisory blocks",
-    )
-}
-
-fn input_positional<'a>(alloc: Global) -> Arg<'a>
-    ensures rule { rule_of result ≡ new_rule (codes "IN") }
-    ensures not_global { result.global ≡ false }
-{
-    positional(alloc, "IN", "The file to read")
-}
-
-fn output_positional<'a>(alloc: Global) -> Arg<'a>
-    ensures rule { rule_of result ≡ new_rule (codes "OUT") }
-    ensures not_global { result.global ≡ false }
-{
-    positional(
-        alloc,
-        "OUT",
-        "The file to write; it is not touched where IN is refused",
-    )
-}
-
 fn rewrite<'a>(alloc: Global) -> Result<Command<'a>, AllocError>
-    ensures app { IfOk result (λ command. app_of command ≡ spec.rewrite_command) }
-    ensures not_global { IfOk result (λ command. (fields_of command).has_globals ≡ false) }
+    ensures { IfOk result (spec.IsCommand spec.rewrite_command) }
 {
     let about = "Reads a load file or an object file, and writes it again";
+    let strip = "Leave out names, symbols, debug data and advisory blocks";
+    let output = "The file to write; it is not touched where IN is refused";
     command(alloc, "rewrite", about, AFTER_REWRITE)
-        .arg(strip_flag(alloc))?
-        .arg(mandatory(input_positional(alloc)))?
-        .arg(mandatory(output_positional(alloc)))
+        .arg(flag(alloc, "strip", strip))?
+        .arg(mandatory(positional(alloc, "IN", "The file to read")))?
+        .arg(mandatory(positional(alloc, "OUT", output)))
 }
 
 /// The program, without its subcommands yet. That it has a version makes `--version` a flag; what
 /// clap would print of it is not taken.
 fn program<'a>(alloc: Global) -> Command<'a>
-    ensures app { app_of result ≡ spec.program }
-    ensures not_global { (fields_of result).has_globals ≡ false }
+    ensures { app_of result ≡ spec.program }
 {
     Command::new(alloc, "hunkinfo")
         .about("Lists, checks, relocates and rewrites AmigaDOS hunk files")
@@ -264,9 +175,10 @@ fn extended<'a>(
     program: Command<'a>,
     subcommand: Result<Command<'a>, AllocError>,
 ) -> Result<Command<'a>, AllocError>
-    requires not_global { IfOk subcommand (λ command. (fields_of command).has_globals ≡ false) }
-    ensures { IfOk result (λ grown. IsOkAnd subcommand.entry
-        (λ command. app_of grown ≡ with_subcommand (app_of program.entry) (app_of command).top)) }
+    requires { IfOk subcommand (λ command. (fields_of command).has_globals ≡ false) }
+    ensures { (app more : App) → app_of program.entry ≡ app
+        → IfOk subcommand.entry (spec.IsCommand more)
+        → IfOk result (λ grown. app_of grown ≡ with_subcommand app more.top) }
 {
     program.subcommand(subcommand?)
 }
@@ -275,8 +187,12 @@ fn extended<'a>(
 pub(super) fn hunkinfo<'a>(alloc: Global) -> Result<Command<'a>, AllocError>
     ensures { IfOk result (λ command. app_of command ≡ spec.hunkinfo) }
 {
-    let program = extended(program(alloc), show(alloc))?;
-    let program = extended(program, validate(alloc))?;
+    let shows = "Lists the hunks and blocks of a load file or an object file";
+    let validates = "Checks a file, and lists relocations and references that are out of range";
+    let show = plain_command(alloc, "show", shows, AFTER_SHOW);
+    let program = extended(program(alloc), show)?;
+    let validate = plain_command(alloc, "validate", validates, AFTER_VALIDATE);
+    let program = extended(program, validate)?;
     let program = extended(program, relocate(alloc))?;
     extended(program, rewrite(alloc))
 }

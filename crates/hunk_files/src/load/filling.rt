@@ -5,8 +5,7 @@ ghost use Rattle.hunk_words.specs.Longs.{bytes_of, longs};
 ghost use Rattle.hunk_blocks.specs.BodyViews.{viewed};
 ghost use Rattle.hunk_files.specs.Filling.{Fits, filled_by, memory_of};
 ghost use Rattle.hunk_files.specs.Hunks.{block_texts};
-ghost use Rattle.hunk_files.specs.Image.{add_at, declared_bytes, filled, group_relocations};
-ghost use Rattle.hunk_files.specs.Image.{images, relocated};
+ghost use Rattle.hunk_files.specs.Image.{add_at, declared_bytes, filled, group_relocations, images, relocated};
 ghost use Rattle.hunk_files.specs.LoadFile.{FitsGroup, FitsHunk, IsInside};
 ghost use Rattle.hunk_files.specs.LoadText.{table};
 

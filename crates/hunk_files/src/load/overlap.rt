@@ -34,7 +34,7 @@ impl LoadFile<'_> {
 }
 
 /// The first two neighbours among rising offsets that are 1 to 3 apart.
-#[tactic(auto, using(crate::proofs::Rising::first_is))]
+#[tactic(auto, using(crate::proofs::image::Rising::first_is))]
 fn first_close(rising: &[u32]) -> Option<(u32, u32)>
     requires { IsNonDecreasing rising.now }
     ensures { MatchOption result (AreApart rising.now)

@@ -50,7 +50,7 @@ pub(super) fn pass_over(
 /// that may be refused in a hunk of `declared` longs of a file of `hunks` hunks; and whether the
 /// content block of the hunk came up to there, as `has_content` says of `from`.
 #[inline(never)]
-#[tactic(auto, using(crate::proofs::Passed::block_on))]
+#[tactic(auto, using(crate::proofs::walk::Passed::block_on))]
 fn after_blocks(
     bytes: &[u8],
     from: usize,

@@ -14,7 +14,7 @@ impl<'a> LoadFile<'a> {
     /// image at all bases.
     ///
     /// It takes no memory.
-    #[tactic(auto, using(crate::proofs::StripText::bytes_shorter, crate::proofs::FileViews::whole_slice))]
+    #[tactic(auto, using(crate::proofs::strip::StripText::bytes_shorter, crate::proofs::views::FileViews::whole_slice))]
     pub fn strip(self) -> LoadFile<'a>
         ensures value { result ≡ strip_file self.entry }
         ensures shorter { length (bytes_of (text result)) ≤ length (bytes_of (text self.entry)) }
@@ -26,7 +26,7 @@ impl<'a> LoadFile<'a> {
 }
 
 /// The hunks without what is not loaded.
-#[tactic(auto, using(crate::proofs::FileViews::stripped_more))]
+#[tactic(auto, using(crate::proofs::views::FileViews::stripped_more))]
 fn strip_hunks(hunks: &mut [LoadHunk<'_>])
     ensures { map hunk_of hunks.new ≡ strip_file (map hunk_of hunks.old) }
 {

@@ -40,7 +40,7 @@ impl Iterator for TableIter<'_> {
     ghost remaining = { item_count (λ entries. entries) };
 
     #[inline(always)]
-    #[tactic(auto, using(crate::proofs::LoadCuts::next_entry, crate::proofs::LoadCuts::table_ends))]
+    #[tactic(auto, using(crate::proofs::cuts::LoadCuts::next_entry, crate::proofs::cuts::LoadCuts::table_ends))]
     fn next(&mut self) -> Option<SizeWord> {
         if self.left == 0 {
             return None;

@@ -6,6 +6,8 @@ ghost use Rattle.hunk_files.specs.LoadFile.{IsLoadFile};
 ghost use Rattle.hunk_files.specs.Image.{declared_bytes};
 ghost use Rattle.hunk_files.specs.LoadText.{table, text};
 ghost use Rattle.hunk_files.specs.Fault.{BeginsWithLoadFile, HasFault, is_load_refusal};
+ghost use Rattle.hunk_files.specs.FileParts.{IsPartAt};
+ghost use Rattle.hunk_grammar.specs.declared.file_kind.Sniff.TheVariants.{Load};
 ghost use Rattle.hunk_files.specs.Items.{load_items};
 ghost use Rattle.hunk_files.specs.Lacks.{EndsAt, EndsLoadPart};
 ghost use Rattle.hunk_files.specs.Tables.{header_text};
@@ -15,6 +17,7 @@ use crate::load::file::LoadFile;
 use crate::load::hunk_views::LoadHunkViews;
 use crate::load::table::TableIter;
 use crate::load::walk::walk;
+use crate::refusal::Refusal;
 use hunk_grammar::{TABLE_AT, TABLE_SIZE_AT};
 use hunk_words::{FileFault, SizeWord, word_at};
 use std::alloc::Global;
@@ -47,16 +50,17 @@ impl<'a> LoadView<'a> {
     ///
     /// # Errors
     ///
-    /// As `LoadFile::decode`, but never `OutOfMemory`.
-    pub fn read(bytes: &'a [u8]) -> Result<(LoadView<'a>, usize), FileFault>
+    /// As `LoadFile::decode`, but never `OutOfMemory`, and with the part of the file.
+    pub fn read(bytes: &'a [u8]) -> Result<(LoadView<'a>, usize), Refusal>
         ensures valid { IfOk result (λ r. IsLoadFile r.0) }
         ensures text { IfOk result (λ r. take r.1 bytes.entry.now ≡ bytes_of (text r.0)) }
         ensures inside { IfOk result (λ r. r.1 ≤ length bytes.entry.now) }
-        ensures fault { IfErr result (λ fault.
-            HasFault bytes.entry.now fault.place fault.reason) }
-        ensures none { IfErr result (λ fault. BeginsWithLoadFile bytes.entry.now → ⊥) }
-        ensures memory { IfErr result (λ fault. fault.reason ≢ reasons.OutOfMemory) }
-        ensures own_reasons { IfErr result (λ fault. IsTrue (is_load_refusal fault.reason)) }
+        ensures fault { IfErr result (λ r.
+            HasFault bytes.entry.now r.fault.place r.fault.reason) }
+        ensures part { IfErr result (λ r. IsPartAt Load bytes.entry.now r.fault.place r.part) }
+        ensures none { IfErr result (λ r. BeginsWithLoadFile bytes.entry.now → ⊥) }
+        ensures memory { IfErr result (λ r. r.fault.reason ≢ reasons.OutOfMemory) }
+        ensures own_reasons { IfErr result (λ r. IsTrue (is_load_refusal r.fault.reason)) }
     {
         let size = walk(bytes)?;
         let file = &bytes[..size];
@@ -103,7 +107,7 @@ impl<'a> LoadView<'a> {
     }
 
     /// The byte after the table, at which the blocks of the first hunk begin.
-    #[tactic(auto, using(crate::proofs::TableReading::header_size))]
+    #[tactic(auto, using(crate::proofs::cuts::TableReading::header_size))]
     pub(super) fn body(&self) -> usize
         ensures { result ≡ 4 * length (header_text self.now) }
     {
@@ -131,7 +135,7 @@ impl<'a> LoadView<'a> {
     /// # Errors
     ///
     /// `OutOfMemory` at the last longword of the part of a hunk for which no memory was found.
-    #[tactic(auto, using(crate::proofs::LoadKeeping::load_lacks))]
+    #[tactic(auto, using(crate::proofs::keeping::LoadKeeping::load_lacks))]
     pub(crate) fn keep(self, alloc: Global) -> Result<LoadFile<'a>, FileFault>
         ensures kept { IfOk result (λ file. file ≡ self.entry) }
         ensures memory { IfErr result (λ fault. fault.reason ≡ reasons.OutOfMemory) }

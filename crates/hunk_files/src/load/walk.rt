@@ -1,10 +1,15 @@
 //! The walk over the longwords of a load file, from the first on: its end, or the first fault.
 ghost use Rattle.std.specs.Prelude.{◌≡◌, Some, None, IfOk, IfErr, OnOk, MatchResult};
 ghost use Rattle.hunk_files.specs.Fault.{HasFault, HasLoadText};
+ghost use Rattle.hunk_files.specs.FileParts.{IsPartAt, fault_at};
+ghost use Rattle.hunk_files.specs.ReaderPosition.{part_in};
+ghost use Rattle.hunk_grammar.specs.declared.file_kind.Sniff.TheVariants.{Load};
 ghost use Rattle.hunk_grammar.specs.Positions.{role_at, step};
 ghost use Rattle.hunk_grammar.specs.Roles.{refuse};
 
 use crate::load::passing::pass_over;
+use crate::part::Part;
+use crate::refusal::Refusal;
 use hunk_grammar::{OpenHunk, Phase, Position, TABLE_AT, by_kind, by_phase};
 use hunk_words::{BlockWord, CONTENT_LIMIT, FileFault, Reason, SizeWord, word_at};
 
@@ -26,9 +31,10 @@ pub(crate) struct DeclaredHunk {
 ///
 /// The first fault of the bytes, at the first byte of its longword, from the start of the input;
 /// `Truncated` at 4 times the number of whole longwords.
-pub(crate) fn walk(bytes: &[u8]) -> Result<usize, FileFault>
+pub(crate) fn walk(bytes: &[u8]) -> Result<usize, Refusal>
     ensures { MatchResult result (λ size. HasLoadText bytes.now size)
-        (λ fault. HasFault bytes.now fault.place fault.reason) }
+        (λ refusal. HasFault bytes.now refusal.fault.place refusal.fault.reason
+        × IsPartAt Load bytes.now refusal.fault.place refusal.part) }
 {
     let count = bytes.len() / 4;
     let mut position = Position::FirstLong;
@@ -41,12 +47,7 @@ pub(crate) fn walk(bytes: &[u8]) -> Result<usize, FileFault>
         let word = word_at(bytes, at);
         let after = match step_from(position, entry.longs, word) {
             Ok(after) => after,
-            Err(reason) => {
-                return Err(FileFault {
-                    place: 4 * at as u64,
-                    reason,
-                });
-            }
+            Err(reason) => return Err(refusal_at(position, 4 * at as u64, reason)),
         };
         if let Position::Done = after {
             return Ok(4 * (at + 1));
@@ -62,10 +63,23 @@ pub(crate) fn walk(bytes: &[u8]) -> Result<usize, FileFault>
         let run = after.run();
         (at, position) = pass_over(bytes, at + 1 + run as usize, after.pass(run), entry.longs);
     }
-    Err(FileFault {
-        place: 4 * count as u64,
-        reason: Reason::Truncated,
-    })
+    Err(refusal_at(position, 4 * count as u64, Reason::Truncated))
+}
+
+/// The refusal at this place, to which the position belongs.
+#[inline(never)]
+fn refusal_at(position: Position, place: u64, reason: Reason) -> Refusal
+    ensures fault { result.fault ≡ fault_at place reason }
+    ensures part { result.part ≡ part_in position }
+{
+    let part = match position {
+        Position::Body(hunk, _) => Part::Hunk {
+            number: u64::from(hunk.hunks).saturating_sub(u64::from(hunk.ahead) + 1),
+        },
+        _ => Part::Header,
+    };
+    let fault = FileFault { place, reason };
+    Refusal { fault, part }
 }
 
 /// The position after the longword, or why the longword is refused.

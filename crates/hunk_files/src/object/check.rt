@@ -1,23 +1,17 @@
 //! What is wrong with the offsets of an object file, found by one walk.
 ghost use Rattle.std.specs.Prelude.{◌≡◌, ◌+◌, ◌*◌, ◌^◌, ◌<◌, ◌≤◌, length, map};
 ghost use Rattle.std.proofs.Common.{◌∙◌, refl};
-ghost use Rattle.std.specs.List.{AllByRecursion, flat_map};
+ghost use Rattle.std.specs.List.{AllByRecursion};
 ghost use Rattle.hunk_blocks.specs.Values.{IsExtEntry};
 ghost use Rattle.hunk_blocks.specs.Views.{entry_of, group_of};
 ghost use Rattle.hunk_files.specs.Collecting.{mapped_more};
-ghost use Rattle.hunk_files.specs.Findings.{finding, findings, hunk_bytes, outside, reference_width};
-ghost use Rattle.hunk_files.specs.Findings.{relocation_findings, relocation_width};
-ghost use Rattle.hunk_files.specs.Hunks.{block_texts};
-ghost use Rattle.hunk_files.specs.ObjectFile.{IsObjectHunk, unit_text};
-ghost use Rattle.hunk_files.specs.PlacedFindings.{block_findings_at, entries_findings_at};
-ghost use Rattle.hunk_files.specs.PlacedFindings.{entry_findings_at, group_findings_at};
-ghost use Rattle.hunk_files.specs.PlacedFindings.{groups_findings_at, hunk_findings_at};
-ghost use Rattle.hunk_files.specs.PlacedFindings.{hunks_findings_at, placed_findings, standing_at};
-ghost use Rattle.hunk_files.specs.PlacedFindings.{unit_findings_at};
+ghost use Rattle.hunk_files.specs.Findings.{finding, findings, hunk_bytes, outside, reference_width, relocation_findings, relocation_width};
+ghost use Rattle.hunk_files.specs.ObjectFile.{IsObjectHunk};
+ghost use Rattle.hunk_files.specs.PlacedFindings.{block_findings_at, entries_findings_at, entry_findings_at};
+ghost use Rattle.hunk_files.specs.PlacedFindings.{group_findings_at, groups_findings_at, placed_findings, standing_at};
 
 use crate::blocks::BlockViews;
-use crate::object::hunk_view::HunkViews;
-use crate::object::unit_view::UnitView;
+use crate::items::Item;
 use crate::object::view::ObjectView;
 use crate::takes::Takes;
 use hunk_blocks::{BlockView, BodyView, EntriesIter, Entry, Group, GroupsIter};
@@ -258,61 +252,6 @@ fn check_block<T: Takes<PlacedFinding>>(taker: &mut T, spot: HunkContext, block:
     }
 }
 
-/// Answers the byte after the blocks.
-fn check_blocks<T: Takes<PlacedFinding>>(
-    taker: &mut T,
-    spot: HunkContext,
-    mut blocks: BlockViews<'_>,
-) -> u64
-    ensures taken { T.takes taker.old
-        (hunk_findings_at spot blocks.entry.place blocks.entry.value) taker.new }
-    ensures end { result
-        ≡ blocks.entry.place + 4 * length (block_texts blocks.entry.value) }
-{
-    'checking: while let Some(block) = blocks.next() {
-        check_block(taker, spot, block);
-    }
-    blocks.place()
-}
-
-/// Answers the byte after the hunks.
-fn check_hunks<T: Takes<PlacedFinding>>(
-    taker: &mut T,
-    number: u64,
-    count: u64,
-    mut hunks: HunkViews<'_>,
-) -> u64
-    requires { length hunks.value < 2 ^ 64 }
-    ensures taken { T.takes taker.old
-        (hunks_findings_at number count 0 hunks.entry.place hunks.entry.value) taker.new }
-    ensures end { result
-        ≡ hunks.entry.place + 4 * length (flat_map block_texts hunks.entry.value) }
-{
-    let mut hunk = 0;
-    'checking: while let Some(view) = hunks.peek() {
-        let spot = HunkContext {
-            unit: number,
-            hunk,
-            hunks: count,
-            bytes: view.content_bytes(),
-        };
-        let end = check_blocks(taker, spot, view.blocks());
-        hunks.pass(end);
-        hunk += 1;
-    }
-    hunks.place()
-}
-
-/// Answers the byte after the unit.
-fn check_unit<T: Takes<PlacedFinding>>(taker: &mut T, number: u64, unit: &UnitView<'_>) -> u64
-    ensures taken { T.takes taker.old
-        (unit_findings_at number unit.now.place unit.now.value) taker.new }
-    ensures end { result ≡ unit.now.place + 4 * length (unit_text unit.now.value) }
-{
-    let count = unit.hunks().count() as u64;
-    check_hunks(taker, number, count, unit.hunks())
-}
-
 impl ObjectView<'_> {
     /// Hands over what is wrong with the offsets of all relocations and external references, in
     /// file order, each finding as soon as it is found. It takes no memory.
@@ -320,7 +259,7 @@ impl ObjectView<'_> {
     /// For each offset there is `BadTarget` where it is a relocation's and the target is not below
     /// the unit's number of hunks, then `OutsideHunk` where the bytes that are relocated or refer
     /// go past the end of the hunk. Answers how many units there are.
-    #[tactic(auto, using(crate::proofs::PlacedFindingLaws::findings_placed))]
+    #[tactic(auto, using(crate::proofs::findings::PlacedFindingLaws::findings_placed))]
     pub fn check_with<T: Takes<Finding>>(&self, taker: &mut T) -> u64
         ensures taken { T.takes taker.old (findings self.now) taker.new }
         ensures few { length (findings self.now) < 2 ^ 64 }
@@ -336,13 +275,35 @@ impl ObjectView<'_> {
         ensures few { length (placed_findings self.now) < 2 ^ 64 }
         ensures units { result ≡ length self.now }
     {
-        let mut units = self.units();
-        let mut number = 0;
-        'checking: while let Some(unit) = units.peek() {
-            let end = check_unit(taker, number, &unit);
-            units.pass(end);
-            number += 1;
+        let mut units = 0;
+        let mut spot = HunkContext {
+            unit: 0,
+            hunk: 0,
+            hunks: 0,
+            bytes: 0,
+        };
+        'checking: for item in self.items() {
+            match item {
+                Item::Unit { number, view } => {
+                    units += 1;
+                    spot = HunkContext {
+                        unit: number,
+                        hunk: 0,
+                        hunks: view.hunks(),
+                        bytes: 0,
+                    };
+                }
+                Item::Hunk { unit, number, view } => {
+                    spot = HunkContext {
+                        unit,
+                        hunk: number,
+                        hunks: spot.hunks,
+                        bytes: view.content_bytes(),
+                    };
+                }
+                Item::Block { view, .. } => check_block(taker, spot, view),
+            }
         }
-        number
+        units
     }
 }

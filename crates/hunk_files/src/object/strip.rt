@@ -27,7 +27,7 @@ impl Unit<'_> {
 }
 
 /// Strips each of the hunks.
-#[tactic(auto, using(crate::proofs::StripSteps::turn_more))]
+#[tactic(auto, using(crate::proofs::strip::StripSteps::turn_more))]
 fn strip_hunks(hunks: &mut Vec<Hunk>)
     ensures { hunks.new.items ≡ map strip_blocks hunks.old.items }
 {
@@ -37,7 +37,7 @@ fn strip_hunks(hunks: &mut Vec<Hunk>)
 }
 
 /// Strips each of the units.
-#[tactic(auto, using(crate::proofs::StripSteps::turn_more))]
+#[tactic(auto, using(crate::proofs::strip::StripSteps::turn_more))]
 fn strip_units(units: &mut Vec<Unit>)
     ensures { units.new.items ≡ strip_object units.old.items }
 {
@@ -49,7 +49,7 @@ fn strip_units(units: &mut Vec<Unit>)
 impl<'a> ObjectFile<'a> {
     /// The file without the blocks that `HunkFile::strip` drops. A unit keeps its own name, and EXT
     /// blocks stay. Takes no memory.
-    #[tactic(auto, using(crate::proofs::StripLaws::findings_kept, crate::proofs::StripLaws::object_kept, crate::proofs::StripSteps::shorter))]
+    #[tactic(auto, using(crate::proofs::strip::StripLaws::findings_kept, crate::proofs::strip::StripLaws::object_kept, crate::proofs::strip::StripSteps::shorter))]
     pub fn strip(mut self) -> ObjectFile<'a>
         ensures stripped { result ≡ strip_object self.entry }
         ensures shorter { length (bytes_of (object_text result))

@@ -2,16 +2,18 @@
 ghost use Rattle.std.specs.Prelude.{◌≡◌, ◌≢◌, ◌*◌, ◌^◌, ◌<◌, IfErr, IfOk, IsTrue, length};
 ghost use Rattle.hunk_words.specs.Longs.{bytes_of};
 ghost use Rattle.hunk_words.specs.declared.reason.Reason.TheVariants as reasons;
-ghost use Rattle.hunk_files.specs.ObjectFile.{IsNoObjectFile, IsObjectFile, is_object_refusal};
-ghost use Rattle.hunk_files.specs.ObjectFile.{object_text};
+ghost use Rattle.hunk_files.specs.ObjectFile.{IsNoObjectFile, IsObjectFile, is_object_refusal, object_text};
+ghost use Rattle.hunk_files.specs.FileParts.{IsPartAt};
 ghost use Rattle.hunk_files.specs.ObjectFault.{HasObjectFault};
+ghost use Rattle.hunk_grammar.specs.declared.file_kind.Sniff.TheVariants.{Object};
 ghost use Rattle.hunk_files.specs.Items.{object_items};
 ghost use Rattle.hunk_files.specs.Lacks.{EndsAt, EndsObjectPart};
 
-use crate::items::Items;
+use crate::items::{Item, Items};
 use crate::object::file::ObjectFile;
-use crate::object::unit_view::UnitViews;
+use crate::object::keeping::keep_units;
 use crate::object::walk::walk_object;
+use crate::refusal::Refusal;
 use hunk_words::FileFault;
 use std::alloc::Global;
 use std::marker::Model;
@@ -41,35 +43,40 @@ impl<'a> ObjectView<'a> {
     ///
     /// # Errors
     ///
-    /// The first fault of the bytes, as of `ObjectFile::decode`.
-    #[tactic(auto, using(crate::proofs::ObjectRefusals::fault_other, crate::proofs::ObjectRefusals::fault_own, crate::proofs::OneObjectFault::no_object))]
-    pub fn read(bytes: &'a [u8]) -> Result<ObjectView<'a>, FileFault>
+    /// The first fault of the bytes, as of `ObjectFile::decode`, and the part of the file.
+    pub fn read(bytes: &'a [u8]) -> Result<ObjectView<'a>, Refusal>
         ensures file { IfOk result (λ o. IsObjectFile o) }
         ensures text { IfOk result (λ o. bytes.entry.now ≡ bytes_of (object_text o)) }
-        ensures none { IfErr result (λ fault. IsNoObjectFile bytes.entry.now) }
-        ensures fault { IfErr result (λ fault.
-            HasObjectFault bytes.entry.now fault.place fault.reason) }
-        ensures memory { IfErr result (λ fault. fault.reason ≢ reasons.OutOfMemory) }
-        ensures own_reasons { IfErr result (λ fault. IsTrue (is_object_refusal fault.reason)) }
+        ensures none { IfErr result (λ r. IsNoObjectFile bytes.entry.now) }
+        ensures fault { IfErr result (λ r.
+            HasObjectFault bytes.entry.now r.fault.place r.fault.reason) }
+        ensures part { IfErr result (λ r. IsPartAt Object bytes.entry.now r.fault.place r.part) }
+        ensures memory { IfErr result (λ r. r.fault.reason ≢ reasons.OutOfMemory) }
+        ensures own_reasons { IfErr result (λ r. IsTrue (is_object_refusal r.fault.reason)) }
     {
         walk_object(bytes)?;
         Ok(ObjectView { bytes })
     }
 
-    /// The units, in file order. There is at least one.
-    pub fn units(&self) -> UnitViews<'a>
-        ensures value { result.value ≡ self.now }
-        ensures place { result.place ≡ 0 }
-        ensures few { 4 * length result.value < 2 ^ 64 }
-        ensures size { 4 * length (object_text self.now) < 2 ^ 64 }
+    /// How many units there are, for which the file is passed over. There is at least one.
+    pub fn units(&self) -> u64
+        ensures value { result ≡ length self.now }
         ensures file { IsObjectFile self.now }
     {
-        UnitViews::at(self.bytes, 0)
+        let mut units = 0;
+        'counting: for item in self.items() {
+            if let Item::Unit { .. } = item {
+                units += 1;
+            }
+        }
+        units
     }
 
     /// What stands in the file: each unit, its hunks, and their blocks.
     pub fn items(&self) -> Items<'a>
-        ensures { result ≡ object_items self.now }
+        ensures value { result ≡ object_items self.now }
+        ensures size { 4 * length (object_text self.now) < 2 ^ 64 }
+        ensures file { IsObjectFile self.now }
     {
         Items::at(self.bytes, 0)
     }
@@ -85,7 +92,7 @@ impl<'a> ObjectView<'a> {
         ensures place { IfErr result (λ fault.
             EndsAt (EndsObjectPart self.entry) 0 fault.place) }
     {
-        let units = self.units().keep(alloc)?;
+        let units = keep_units(alloc, self.bytes)?;
         Ok(ObjectFile { units, view: self })
     }
 }

@@ -2,7 +2,7 @@
 
 use crate::tests::asserts::{assert_equal, assert_equal_at};
 use crate::tests::expect_text;
-use hunk_files::{ObjectFile, walk_object};
+use hunk_files::{ObjectFile, ObjectView};
 use hunk_vectors::{OBJECT_TEXTS, OBJECTS, ObjectVector, ObjectWant, object_bytes};
 use hunk_words::{FromWrite, LongWriter};
 use std::alloc::Global;
@@ -31,18 +31,18 @@ fn is_written_again(alloc: Global, bytes: &[u8]) -> bool {
     file.encode(&mut writer).is_ok() && writer.into_inner().into_inner().as_slice() == bytes
 }
 
-/// Whether the walk over the bytes answers what is wanted of their decoder.
-fn is_walked(bytes: &[u8], want: ObjectWant) -> bool {
-    match (walk_object(bytes), want) {
-        (Ok(()), ObjectWant::Accepted { .. }) => true,
-        (Err(fault), ObjectWant::Refused { place, number }) => {
-            fault.place == place && fault.reason.number() == number
+/// Whether the view of the bytes answers what is wanted of their decoder.
+fn is_viewed(bytes: &[u8], want: ObjectWant) -> bool {
+    match (ObjectView::read(bytes), want) {
+        (Ok(_), ObjectWant::Accepted { .. }) => true,
+        (Err(refusal), ObjectWant::Refused { place, number }) => {
+            refusal.fault.place == place && refusal.fault.reason.number() == number
         }
         _ => false,
     }
 }
 
-/// Sees that the file of this number in the table has this text and these bytes, and that the walk, the decoder and the
+/// Sees that the file of this number in the table has this text and these bytes, and that the view, the decoder and the
 /// check answer what the table says.
 fn expect(
     rt: &impl Abort,
@@ -56,7 +56,7 @@ fn expect(
         panic!(rt; "no {i}");
     };
     expect_text(rt, vector.text, text, bytes);
-    assert!(rt; is_walked(bytes, vector.want), "{i}");
+    assert!(rt; is_viewed(bytes, vector.want), "{i}");
     assert_equal_at(rt, answer(alloc, bytes)?, vector.want, i);
     Ok(())
 }

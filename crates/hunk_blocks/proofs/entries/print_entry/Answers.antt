@@ -1,6 +1,6 @@
 use Rattle.std.proofs.Common.{◌∙◌, ap, refl, sym, ◌++◌, Some}
 use Rattle.hunk_words.specs.Longs.{bytes_of}
-use Rattle.hunk_blocks.specs.declared.ext_shape.ExtShape.TheVariants.{Definition, References, Common}
+use Rattle.hunk_grammar.specs.declared.ext_shape.ExtShape.TheVariants.{Definition, References, Common}
 use Rattle.hunk_blocks.specs.{Parts.counted_text, Views.entry_of}
 use Rattle.hunk_blocks.proofs.TextBytes.{entry_printed, word_printed}
 use Rattle.hunk_blocks.proofs.entries.print_entry.Goals as goal

@@ -1,5 +1,4 @@
-use Rattle.hunk_blocks.proofs.BlockOutcome.{some_outcome}
-use Rattle.hunk_blocks.proofs.OneBlockFault.{one_fault, no_block, not_truncated}
+use Rattle.hunk_blocks.proofs.{BlockOutcome.some_outcome, OneBlockFault.{one_fault, no_block, not_truncated}}
 use Rattle.hunk_blocks.proofs.laws.block_fault.Goals as goal
 
 pub returns-clause-one : goal.returns-clause-one

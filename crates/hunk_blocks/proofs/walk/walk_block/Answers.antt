@@ -1,9 +1,10 @@
 use Rattle.std.proofs.Common.{◌*◌, ℕ, ◌+◌, ◌/◌, List, length, arith, sym, subst, ◌∙◌, Option, Some}
 use Rattle.hunk_words.specs.{Longs.longs, declared.fault.Fault.Fault}
 use Rattle.hunk_words.specs.declared.reason.Reason.TheVariants as reasons
-use Rattle.hunk_blocks.specs.{declared.mode.Mode.Mode, Faults.HasBlockFault, declared.phase.Phase.Phase}
+use Rattle.hunk_grammar.specs.{declared.mode.Mode.Mode, declared.phase.Phase.Phase}
+use Rattle.hunk_blocks.specs.Faults.{HasBlockFault}
 use Rattle.hunk_words.proofs.LongLaws.{length-longs}
-use Rattle.hunk_blocks.specs.PhaseSteps as inside
+use Rattle.hunk_grammar.specs.PhaseSteps as inside
 use Rattle.hunk_blocks.proofs.BlockWalks.{BlockWalks, refused, passes, ends, ends_early}
 use Rattle.hunk_blocks.proofs.walk.walk_block.Goals as goal
 
@@ -30,10 +31,10 @@ walking-preserved c =
     let some = subst (BlockWalks c.args.mode bytes c.walking.at) c.in-Some.is c.walking.invariant in
     let on = passes c.args.mode bytes (λ i. omega (arith, c.type_inv.bytes i)) c.walking.at c.in-Some.phase some (omega (arith, c.if-at-count.false, length-longs bytes)) c.word_at-word.result c.word_at-word.ensures
     (sym c.refuse_alone.ensures ∙ c.in_default-refuse_alone.is) in
-    let P : Option Phase → Type 0 = λ p. BlockWalks c.args.mode bytes (c.walking.at + (1 + inside.skipped p)) (inside.skip_all p) in
+    let P : Option Phase → Type 0 = λ p. BlockWalks c.args.mode bytes (c.walking.at + (1 + inside.longest_run_of p)) (inside.pass_longest_run_of p) in
     let here = subst P (sym c.step-after.ensures) on in
-    subst (BlockWalks c.args.mode bytes (c.walking.at + (1 + c.skipped.result))) (sym c.skip_all-position.ensures)
-    (subst (λ (n : ℕ). BlockWalks c.args.mode bytes (c.walking.at + (1 + n)) (inside.skip_all c.step-after.result)) (sym c.skipped.ensures.value) here)
+    subst (BlockWalks c.args.mode bytes (c.walking.at + (1 + c.longest_run_of.result))) (sym c.pass_longest_run_of-position.ensures)
+    (subst (λ (n : ℕ). BlockWalks c.args.mode bytes (c.walking.at + (1 + n)) (inside.pass_longest_run_of c.step-after.result)) (sym c.longest_run_of.ensures.value) here)
 
 pub returns-then-at-count-2 : goal.returns-then-at-count-2
 returns-then-at-count-2 c =

@@ -1,4 +1,5 @@
-use Rattle.hunk_c.proofs.AnsweredNumbers.{begin_told, check_told, end_told, feed_told, load_told, strip_told, table_told, want_told, words_told}
+use Rattle.hunk_c.proofs.AnsweredNumbers.{begin_told, end_told, feed_told, list_told, load_told, table_told, want_told, words_told}
+use Rattle.hunk_c.specs.{Checks.finding_rows, Strips.stripped_bytes}
 use Rattle.hunk_c.proofs.laws.answered_numbers.Goals as goal
 
 pub returns : goal.returns
@@ -9,8 +10,8 @@ returns c = record {
   feed = feed_told;
   end = end_told;
   want = want_told;
-  check = check_told;
-  strip = strip_told;
+  check = list_told finding_rows (λ n. n);
+  strip = list_told stripped_bytes (λ n. n);
   name = λ number old new answer h. words_told h.0 old new answer h.2;
   meaning = λ number old new answer h. words_told h.0 old new answer h.2;
 }

@@ -1,12 +1,12 @@
 use Rattle.std.proofs.Common.{refl, ◌∙◌, inl, inr}
 use Rattle.std.proofs.lemmas.List.{length-take-le}
-use Rattle.hunk_files.proofs.LoadCuts.{begins}
+use Rattle.hunk_files.proofs.cuts.LoadCuts.{begins}
 use Rattle.hunk_c.proofs.Loaded.{has_numbers, loaded, not_whole}
 use Rattle.hunk_c.proofs.load.load_at.Goals as goal
 
 pub returns-in-Err : goal.returns-in-Err
 returns-in-Err g c = λ base are.
-    inr (not_whole base _ c.args.bytes.now c.args.memory.now c.args.size c.requires.size c.requires.room are c.refused.result c.in-Err.fault c.in-Err.ensures.fault c.refused.ensures, refl)
+    inr (not_whole base _ c.args.bytes.now c.args.memory.now c.args.size c.requires.size c.requires.room are c.refused.result c.in-Err.refusal.fault c.in-Err.ensures.fault c.refused.ensures, refl)
 
 pub fill_images-requires-clause-room : goal.fill_images-requires-clause-room
 fill_images-requires-clause-room g c =

@@ -4,6 +4,7 @@ use Rattle.hunk_scatter.specs.HeaderBytes.{BeginsWithHeader}
 use Rattle.hunk_c.proofs.Packing.{all_packed, are_packed, none_packed, packed_more, packed_not}
 use Rattle.hunk_c.proofs.Succeeding.{same_header}
 use Rattle.hunk_c.proofs.packed.place_marks.Goals as goal
+use Rattle.hunk_c.proofs.packed.place_marks.Goals.{then-place-ge-END-via-then-place-ge-END, then-place-ge-END-via-else-place-ge-END+then-after-gt-END}
 
 -- whichever table the header has, it has so many rows
 many : (bytes : List ℕ) (t u : List TableEntry) (n : ℕ) → BeginsWithHeader bytes t → length t ≡ n → BeginsWithHeader bytes u → length u ≡ n
@@ -33,16 +34,10 @@ returns-then-place-ge-END-clause-unplaced c = λ t h.
     let s = c.placing.invariant t h e in
     let inside : c.placing.hunk < length t = omega (arith, e, c.placing-test.true) in
     packed_not _ t h c.args.start c.placing.marks c.placing.hunk _ _ s inside _ _ (c.next_row-after.ensures.row t h c.args.start c.placing.hunk inside s.is_row)
-    (inl (omega (arith, c.if-place-ge-END.true)))
-
-pub returns-then-after-gt-END-clause-unplaced : goal.returns-then-after-gt-END-clause-unplaced
-returns-then-after-gt-END-clause-unplaced c = λ t h.
-    let r = c.requires.table in
-    let e = many _ r.0 t c.args.hunks r.1 r.2 h in
-    let s = c.placing.invariant t h e in
-    let inside : c.placing.hunk < length t = omega (arith, e, c.placing-test.true) in
-    packed_not _ t h c.args.start c.placing.marks c.placing.hunk _ _ s inside _ _ (c.next_row-after.ensures.row t h c.args.start c.placing.hunk inside s.is_row)
-    (inr (omega (arith, c.if-after-gt-END.true)))
+    (elim c.then-place-ge-END.branch [
+      | then-place-ge-END-via-then-place-ge-END v ↦ inl (omega (arith, v.if-place-ge-END.true))
+      | then-place-ge-END-via-else-place-ge-END+then-after-gt-END v ↦ inr (omega (arith, v.if-after-gt-END.true))
+    ])
 
 pub put_mark-requires-clause-room : goal.put_mark-requires-clause-room
 put_mark-requires-clause-room c =

@@ -1,8 +1,6 @@
 use Rattle.std.proofs.Common.{◌≡◌, ◌+◌, ◌-◌, ◌*◌, ℕ, List, ◌++◌, length, sym, ap, subst, ◌∙◌, arith}
-use Rattle.hunk_words.specs.Carriers.{saturated}
 use Rattle.hunk_blocks.specs.{Parts.ext_text, Values.ExtEntry, Views.entry_of}
-use Rattle.hunk_files.specs.Findings.{reference_width}
-use Rattle.hunk_files.proofs.{FindingSteps.taken_on, OffsetsWithin.{first_is, offsets_within}}
+use Rattle.hunk_files.proofs.{findings.FindingSteps.taken_on, findings.OffsetsWithin.{first_is, offsets_within}}
 use Rattle.hunk_c.specs.{Listing.item_rows, References.{entries_references, entry_references, long_text, reference_row}}
 use Rattle.hunk_c.specs.declared.references.ReferenceRow.{ReferenceRow}
 use Rattle.hunk_c.proofs.references.list_entries.Goals as goal
@@ -24,10 +22,8 @@ listing-preserved g c =
           let so = c.listing.invariant.1 n is in
           let end = old.place + 4 * length (ext_text entry) in
           let here = λ (m w p : ℕ). item_rows (reference_row m w) long_text (p - 4 * length entry.offsets) entry.offsets in
-          let rows : here c.listing.number c.reference_width.result c.place.result ≡ entry_references so.0 end entry =
-          ap (λ (m : ℕ). here m c.reference_width.result c.place.result) so.1
-          ∙ ap (λ (w : ℕ). here (saturated so.0) w c.place.result) c.reference_width.ensures.value
-          ∙ ap (λ (p : ℕ). here (saturated so.0) (reference_width entry) p) (c.place.ensures ∙ steps.1) in
+          let rows : here c.listing.number c.reference_width-width.result c.place.result ≡ entry_references so.0 end entry =
+          λ i. here (so.1 i) (c.reference_width-width.ensures.value i) ((c.place.ensures ∙ steps.1) i) in
           let first : entries_references so.0 old.place old.value ≡ entry_references so.0 end entry ++ entries_references (so.0 + 1) new.place new.value =
           ap (λ (es : List ExtEntry). entries_references so.0 old.place es) steps.0
           ∙ ap (λ (p : ℕ). entry_references so.0 end entry ++ entries_references (so.0 + 1) p new.value) (sym steps.1) in (

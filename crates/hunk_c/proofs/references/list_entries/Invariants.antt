@@ -2,7 +2,7 @@ use Rattle.std.proofs.Common.{◌≡◌, ◌+◌, ℕ, length}
 use Rattle.std.specs.List.{AllByRecursion}
 use Rattle.hunk_words.specs.Carriers.{saturated}
 use Rattle.hunk_blocks.specs.Values.{IsExtEntry}
-use Rattle.hunk_files.proofs.FindingSteps.{TakenUpTo}
+use Rattle.hunk_files.proofs.findings.FindingSteps.{TakenUpTo}
 use Rattle.hunk_c.specs.References.{entries_references}
 use Rattle.hunk_c.proofs.references.list_entries.Given as goal
 

@@ -1,5 +1,5 @@
 use Rattle.std.proofs.Common.{◌+◌, ◌-◌, ◌*◌, ℕ, List, [], ◌∷◌, length, ap, arith}
-use Rattle.hunk_files.proofs.FindingSteps.{taken_on}
+use Rattle.hunk_files.proofs.findings.FindingSteps.{taken_on}
 use Rattle.hunk_c.specs.{Listing.item_rows, References.{long_text, reference_row}}
 use Rattle.hunk_c.proofs.references.list_references.Goals as goal
 

@@ -1,6 +1,6 @@
 use Rattle.std.proofs.Common.{◌+◌, ℕ, List, ◌++◌, sym, ap, subst, ◌∙◌}
 use Rattle.hunk_blocks.specs.{Values.RelocGroup, Views.group_of}
-use Rattle.hunk_files.proofs.FindingSteps.{taken_on}
+use Rattle.hunk_files.proofs.findings.FindingSteps.{taken_on}
 use Rattle.hunk_c.specs.Relocations.{group_rows, offset_rows}
 use Rattle.hunk_c.proofs.relocations.list_groups.Goals as goal
 

@@ -1,5 +1,5 @@
 use Rattle.std.proofs.Common.{◌+◌, ℕ, List, [], ◌∷◌, length, sym, ap, ◌∙◌, arith}
-use Rattle.hunk_files.proofs.FindingSteps.{taken_on}
+use Rattle.hunk_files.proofs.findings.FindingSteps.{taken_on}
 use Rattle.hunk_c.specs.{Relocations.offset_rows, declared.relocations.RelocationRow.RelocationRow}
 use Rattle.hunk_c.proofs.relocations.list_offsets.Goals as goal
 

@@ -1,5 +1,5 @@
 use Rattle.std.proofs.Common.{◌+◌, ◌*◌, ◌<◌, ◌^◌, length}
-use Rattle.hunk_files.proofs.FindingSteps.{TakenUpTo}
+use Rattle.hunk_files.proofs.findings.FindingSteps.{TakenUpTo}
 use Rattle.hunk_c.specs.Relocations.{offset_rows}
 use Rattle.hunk_c.proofs.relocations.list_offsets.Given as goal
 

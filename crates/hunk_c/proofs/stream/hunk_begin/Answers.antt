@@ -5,11 +5,11 @@ use Rattle.hunk_c.specs.{Answers.done, Streams.{HasBegun, LacksRoom, HasSizes}}
 use Rattle.hunk_c.proofs.{Loaded.same_answer, Streamed.stands_so}
 use Rattle.hunk_c.proofs.stream.hunk_begin.Goals as goal
 
-pub returns-then-room-bytes : goal.returns-then-room-bytes
-returns-then-room-bytes c =
+pub returns-then-room-bytes-2 : goal.returns-then-room-bytes-2
+returns-then-room-bytes-2 c =
     let same : c.in-Some.size ≡ c.args.header = omega (arith, c.if-header-size.false) in
     let sizes = subst (λ (n : ℕ). HasSizes (entries_of c.args.rows.now) n c.in-Some.bytes) same c.in-Some.ensures in
-    LacksRoom c.in-Some.bytes sizes (omega (arith, c.if-room-bytes.true)) refl refl (c.no_room.ensures ∙ same_answer 32 _ _ _ _ _ _ refl refl (omega arith))
+    LacksRoom c.in-Some.bytes sizes (omega (arith, c.if-room-bytes-2.true)) refl refl (c.no_room.ensures ∙ same_answer 32 _ _ _ _ _ _ refl refl (omega arith))
 
 pub returns : goal.returns
 returns c =

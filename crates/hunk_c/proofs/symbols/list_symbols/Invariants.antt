@@ -1,6 +1,6 @@
 use Rattle.std.proofs.Common.{◌≡◌, length}
 use Rattle.hunk_blocks.specs.Parts.{symbol_text}
-use Rattle.hunk_files.proofs.FindingSteps.{TakenUpTo}
+use Rattle.hunk_files.proofs.findings.FindingSteps.{TakenUpTo}
 use Rattle.hunk_c.specs.{Listing.item_rows, Symbols.symbol_row}
 use Rattle.hunk_c.proofs.symbols.list_symbols.Given as goal
 

@@ -1,7 +1,7 @@
-use Rattle.std.proofs.Common.{◌+◌, ◌<◌, ℕ, length, refl, sym, subst, arith}
+use Rattle.std.proofs.Common.{◌+◌, ◌<◌, ℕ, length, refl, sym, ap, subst, ◌∙◌, arith}
 use Rattle.hunk_c.specs.{Tables.table_row, Packs.RowStandsAt}
 use Rattle.hunk_c.proofs.Filling.{filled_more, filled_all}
-use Rattle.hunk_c.proofs.TableRows.{stands_first, word_room, extra_room, entry_is, stands_next}
+use Rattle.hunk_c.proofs.TableRows.{no_entry, stands_first, word_room, extra_room, entry_is, stands_next}
 use Rattle.hunk_c.proofs.table.put_rows.Goals as goal
 
 pub rows-init : goal.rows-init
@@ -27,7 +27,8 @@ rows-preserved c = λ t h e.
     let inv = c.rows.invariant t h e in
     let more : c.rows.row-index < length t = omega (arith, e, c.rows-test.true) in
     let size = c.at-size.result in (
-      filled_more table_row t c.rows.row-items c.rows.row-index _ c.table_row.result (entry_is _ t h c.rows.row-index c.rows.at inv.1 more size.word size.extra c.at-size.ensures.word c.at-size.ensures.extra) c.table_row.ensures inv.0,
+      filled_more table_row t c.rows.row-items c.rows.row-index no_entry c.table_row.result more
+          (c.table_row.ensures ∙ ap table_row (sym (entry_is _ t h c.rows.row-index c.rows.at inv.1 more size.word size.extra c.at-size.ensures.word c.at-size.ensures.extra))) inv.0,
       subst (λ (n : ℕ). RowStandsAt c.args.bytes.now t h (c.rows.row-index + 1) (c.rows.at + n)) (sym c.entry_longs-at.ensures.value)
           (stands_next _ t h c.rows.row-index c.rows.at inv.1 more size.word size.extra c.at-size.ensures.word c.at-size.ensures.extra),
     )

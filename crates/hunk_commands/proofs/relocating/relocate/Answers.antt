@@ -1,6 +1,7 @@
 use Rattle.std.proofs.Common.{refl}
 use Rattle.std.proofs.lemmas.Result.{err_from_is_err_and}
 use Rattle.hunk_words.specs.declared.reason.Reason.TheVariants as reasons
+use Rattle.hunk_scatter.specs.LoadRefusals.{fault_of}
 use Rattle.hunk_commands.proofs.RelocateLaws.{over_of, told_for, wrote_first, wrote_all, load_stops}
 use Rattle.hunk_commands.proofs.relocating.relocate.Goals as goal
 
@@ -25,7 +26,7 @@ pub returns-in_err-image-clause-tells_read : goal.returns-in_err-image-clause-te
 returns-in_err-image-clause-tells_read g c = λ sound failed.
     let refusal = c.in_err-image.field-0.0 in
     let p = err_from_is_err_and c.from_residual.result c.from_residual.ensures.1 in
-    let is = told_for _ refusal c.in_err-image.ensures.loads.names reasons.Read refl (c.in_err-image.ensures.tells_read sound failed) in rw (p.1, p.2) (refusal.fault.place, is)
+    let is = told_for _ refusal c.in_err-image.ensures.loads.names reasons.Read refl (c.in_err-image.ensures.tells_read sound failed) in rw (p.1, p.2) ((fault_of refusal).place, is)
 
 pub returns-in_err-put_listing-clause-relocates : goal.returns-in_err-put_listing-clause-relocates
 returns-in_err-put_listing-clause-relocates g c =

@@ -1,14 +1,14 @@
-use Rattle.std.proofs.Common.{◌-◌, Err, refl, length}
+use Rattle.std.proofs.Common.{◌-◌, refl, length}
 use Rattle.std.proofs.lemmas.Result.{err_from_is_err_and}
 use Rattle.hunk_files.specs.{FileView.file_of, HunkFile.{bytes_after, file_bytes}}
 use Rattle.hunk_commands.specs.{Rewritten.{IsRewritten, stripped_where}, declared.rewriting.Rewritten.Rewritten}
+use Rattle.hunk_commands.specs.declared.fault.RunFault.TheVariants.{RefusedIn}
 use Rattle.hunk_commands.proofs.{RewriteLaws.{rewritten, tells_sizes}, Engines.{put_all, put_first, refuses}}
 use Rattle.hunk_commands.proofs.rewriting.rewrite_bytes.Goals as goal
 
 pub returns-in-Err-clause-rewrites : goal.returns-in-Err-clause-rewrites
 returns-in-Err-clause-rewrites g c =
-    refuses g.W.Sink.outlet (λ (done : Rewritten). IsRewritten c.args.strip done c.args.bytes.now) c.args.bytes.now c.args.w.now (Err c.refused_in.result) c.refused_in.result
-    (c.refused_in.result, refl, refl) c.in-Err.ensures.none c.refused_in.ensures
+    refuses g.W.Sink.outlet (λ (done : Rewritten). IsRewritten c.args.strip done c.args.bytes.now) c.args.bytes.now c.args.w.now (RefusedIn c.in-Err.refusal) c.in-Err.ensures.none (c.in-Err.ensures.refused, c.in-Err.ensures.part)
 
 pub returns-in_err-put_file-clause-rewrites : goal.returns-in_err-put_file-clause-rewrites
 returns-in_err-put_file-clause-rewrites g c =

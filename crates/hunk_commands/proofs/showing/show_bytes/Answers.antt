@@ -1,14 +1,14 @@
-use Rattle.std.proofs.Common.{rules, Err, refl}
+use Rattle.std.proofs.Common.{rules}
 use Rattle.std.proofs.lemmas.Result.{err_from_is_err_and}
 use Rattle.hunk_files.specs.FileView.{file_of}
 use Rattle.hunk_commands.specs.Shown.{IsShown, file_listing}
+use Rattle.hunk_commands.specs.declared.fault.RunFault.TheVariants.{RefusedIn}
 use Rattle.hunk_commands.proofs.{FileLaws.shown_file, Engines.{put_all, put_first, refuses}}
 use Rattle.hunk_commands.proofs.showing.show_bytes.Goals as goal
 
 pub returns-in-Err : goal.returns-in-Err
 returns-in-Err g c =
-    refuses g.W.Sink.outlet (λ _. IsShown c.args.bytes.now) c.args.bytes.now c.args.w.now (Err c.refused_in.result) c.refused_in.result
-    (c.refused_in.result, refl, refl) c.in-Err.ensures.none c.refused_in.ensures
+    refuses g.W.Sink.outlet (λ _. IsShown c.args.bytes.now) c.args.bytes.now c.args.w.now (RefusedIn c.in-Err.refusal) c.in-Err.ensures.none (c.in-Err.ensures.refused, c.in-Err.ensures.part)
 
 pub returns-in_err-printed : goal.returns-in_err-printed
 returns-in_err-printed g c =

@@ -1,6 +1,6 @@
 use Rattle.std.proofs.Common.{List, ap, ◌∙◌}
 use Rattle.hunk_blocks.specs.{Placed.Placed, Values.BlockValue}
-use Rattle.hunk_files.proofs.BlockPlaces.{block_lacks}
+use Rattle.hunk_files.proofs.keeping.BlockPlaces.{block_lacks}
 use Rattle.hunk_files.proofs.blocks.keep_blocks.Goals as goal
 
 pub returns-then-is_err-clause-place : goal.returns-then-is_err-clause-place

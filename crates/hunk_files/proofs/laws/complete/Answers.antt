@@ -1,4 +1,4 @@
-use Rattle.hunk_files.proofs.Scan.{completed}
+use Rattle.hunk_files.proofs.walk.Scan.{completed}
 use Rattle.hunk_files.proofs.laws.complete.Goals as goal
 
 pub returns : goal.returns

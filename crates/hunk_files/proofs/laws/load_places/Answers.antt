@@ -1,4 +1,4 @@
-use Rattle.hunk_files.proofs.LoadPlaces.{after_tells, between_tells, done_tells}
+use Rattle.hunk_files.proofs.walk.LoadPlaces.{after_tells, between_tells, done_tells}
 use Rattle.hunk_files.proofs.laws.load_places.Goals as goal
 
 pub returns-clause-end : goal.returns-clause-end

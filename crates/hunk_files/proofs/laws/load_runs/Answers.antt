@@ -1,4 +1,4 @@
-use Rattle.hunk_files.proofs.LoadRuns.{free_passes, pass_is, run_is}
+use Rattle.hunk_files.proofs.walk.LoadRuns.{free_passes, pass_is, run_is}
 use Rattle.hunk_files.proofs.laws.load_runs.Goals as goal
 
 pub returns-clause-run : goal.returns-clause-run

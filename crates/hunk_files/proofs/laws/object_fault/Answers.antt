@@ -1,5 +1,5 @@
-use Rattle.hunk_files.proofs.ObjectOutcome.{word_goes_on}
-use Rattle.hunk_files.proofs.OneObjectFault.{one_fault, no_object, no_object_goes_on, not_truncated}
+use Rattle.hunk_files.proofs.object_walk.ObjectOutcome.{word_goes_on}
+use Rattle.hunk_files.proofs.object_walk.OneObjectFault.{one_fault, no_object, no_object_goes_on, not_truncated}
 use Rattle.hunk_files.proofs.laws.object_fault.Goals as goal
 
 pub returns-clause-one : goal.returns-clause-one

@@ -1,4 +1,4 @@
-use Rattle.hunk_files.proofs.ObjectPlaces.{after_is, end_tells, free_passes, run_is}
+use Rattle.hunk_files.proofs.object_walk.ObjectPlaces.{after_is, end_tells, free_passes, run_is}
 use Rattle.hunk_files.proofs.laws.object_places.Goals as goal
 
 pub returns-clause-end : goal.returns-clause-end

@@ -1,4 +1,4 @@
-use Rattle.hunk_files.proofs.{Scan.{not_truncated, one_fault, no_fault}, Refusals.refusal_of_word}
+use Rattle.hunk_files.proofs.{walk.Scan.{not_truncated, one_fault, no_fault}, walk.Refusals.refusal_of_word}
 use Rattle.hunk_files.proofs.laws.one_outcome.Goals as goal
 
 pub returns-clause-one : goal.returns-clause-one

@@ -1,4 +1,4 @@
-use Rattle.hunk_files.proofs.FileParts.{one_part}
+use Rattle.hunk_files.proofs.parts.FileParts.{one_part}
 use Rattle.hunk_files.proofs.laws.one_part.Goals as goal
 
 pub returns : goal.returns

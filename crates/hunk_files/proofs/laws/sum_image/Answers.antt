@@ -1,4 +1,4 @@
-use Rattle.hunk_files.proofs.Summed.{image_sums, sums_image}
+use Rattle.hunk_files.proofs.image.Summed.{image_sums, sums_image}
 use Rattle.hunk_files.proofs.laws.sum_image.Goals as goal
 
 pub returns-clause-sums : goal.returns-clause-sums

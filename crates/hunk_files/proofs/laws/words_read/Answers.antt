@@ -1,7 +1,7 @@
 use Rattle.std.proofs.Common.{ℕ, List, subst}
 use Rattle.hunk_files.specs.{Fault.Expects, FileSteps.{Finished, role_of}, WordsRead.HasRead}
-use Rattle.hunk_files.proofs.{LoadParts.expects_read, ReadFiles.read_of, Scan.expects_of, SpelledText.words_are}
-use Rattle.hunk_files.proofs.Reading.{file_read, one_place, read_ended, reads}
+use Rattle.hunk_files.proofs.{parts.LoadParts.expects_read, walk.ReadFiles.read_of, walk.Scan.expects_of, walk.SpelledText.words_are}
+use Rattle.hunk_files.proofs.walk.Reading.{file_read, one_place, read_ended, reads}
 use Rattle.hunk_files.proofs.laws.words_read.Goals as goal
 
 pub returns-clause-whole : goal.returns-clause-whole

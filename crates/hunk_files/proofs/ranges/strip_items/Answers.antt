@@ -1,7 +1,7 @@
 use Rattle.std.proofs.Common.{ℕ, [], slice_range, refl, ap, subst, sym, ◌∙◌, arith}
 use Rattle.hunk_blocks.specs.Placed.{Placed}
 use Rattle.hunk_files.specs.ItemViews.{item_seen}
-use Rattle.hunk_files.proofs.RangeLaws.{ItemsStripped, all_items, item_goes, item_stays, next, whole_text}
+use Rattle.hunk_files.proofs.strip.RangeLaws.{ItemsStripped, all_items, item_goes, item_stays, next, whole_text}
 use Rattle.hunk_files.proofs.ranges.strip_items.Goals as goal
 
 pub stripping-init : goal.stripping-init

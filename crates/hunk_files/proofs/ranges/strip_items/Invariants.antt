@@ -1,5 +1,5 @@
 use Rattle.std.proofs.Common.{length}
-use Rattle.hunk_files.proofs.RangeLaws.{ItemsStripped, whole_text}
+use Rattle.hunk_files.proofs.strip.RangeLaws.{ItemsStripped, whole_text}
 use Rattle.hunk_files.proofs.ranges.strip_items.Given as goal
 
 abbrev pub invariant-stripping : goal.invariant-stripping

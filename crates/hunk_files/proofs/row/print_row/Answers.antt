@@ -1,5 +1,5 @@
 use Rattle.std.proofs.Common.{◌∙◌, sym}
-use Rattle.hunk_files.proofs.TextParts.{row_two, printed_two}
+use Rattle.hunk_files.proofs.cuts.TextParts.{row_two, printed_two}
 use Rattle.hunk_files.proofs.row.print_row.Goals as goal
 
 pub returns-then-has_extra : goal.returns-then-has_extra

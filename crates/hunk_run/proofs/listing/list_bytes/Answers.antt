@@ -1,4 +1,4 @@
-use Rattle.std.proofs.Common.{ℕ, false, sym, subst}
+use Rattle.std.proofs.Common.{ℕ, false, rules, sym, subst}
 use Rattle.hunk_run.specs.declared.listing.Listing.{Listing}
 use Rattle.hunk_run.specs.declared.listing.Listing.TheVariants as listings
 use Rattle.hunk_commands.specs.Shown.{IsShown}
@@ -7,18 +7,45 @@ use Rattle.hunk_commands.specs.Validated.{IsValidated}
 use Rattle.hunk_run.proofs.Telling.{lists_loaded, lists_source}
 use Rattle.hunk_run.proofs.listing.list_bytes.Goals as goal
 
-pub returns-in_ok-show-in-Show-clause-done : goal.returns-in_ok-show-in-Show-clause-done
-returns-in_ok-show-in-Show-clause-done g c = λ done.
-    subst (λ (l : Listing). ListsSource g.W.Sink.outlet false l (g.R.Source.supply c.args.source.now) (g.R.Source.supply c.show.new.r) c.args.out.now c.show.new.w) (sym c.in-Show.is)
-    (lists_source g.W.Sink.outlet c.args.out.now c.show.new.w listings.Show IsShown _ _ _ (λ input text is. is) (λ given at_end. at_end) c.in_ok-show-in-Show.ensures.done)
+pub returns-in_ok-show-in-Show : goal.returns-in_ok-show-in-Show
+returns-in_ok-show-in-Show g c = record {
+  outcome = search rules;
+  done = λ done.
+      subst (λ (l : Listing). ListsSource g.W.Sink.outlet false l (g.R.Source.supply c.args.source.now) (g.R.Source.supply c.show.new.r) c.args.out.now c.show.new.w) (sym c.in-Show.is)
+      (lists_source g.W.Sink.outlet c.args.out.now c.show.new.w listings.Show IsShown _ _ _ (λ input text is. is) (λ given at_end. at_end) c.in_ok-show-in-Show.ensures.done);
+  succeeds = search rules;
+  tells_read = search rules;
+  stops = search rules;
+}
 
-pub returns-in-0-clause-done : goal.returns-in-0-clause-done
-returns-in-0-clause-done g c = λ done.
-    subst (λ (l : Listing). ListsSource g.W.Sink.outlet false l (g.R.Source.supply c.args.source.now) (g.R.Source.supply c.validate.new.r) c.args.out.now c.validate.new.w) (sym c.in-Validate.is)
-    (lists_source g.W.Sink.outlet c.args.out.now c.validate.new.w listings.Validate (IsValidated c.in_ok-validate-in-Validate.field-0) _ _ _
-    (λ input text is. subst (λ (n : ℕ). IsValidated n input text) c.in-0.is is) (λ given at_end. at_end) c.in_ok-validate-in-Validate.ensures.done)
+pub returns-in-0 : goal.returns-in-0
+returns-in-0 g c = record {
+  outcome = search rules;
+  done = λ done.
+      subst (λ (l : Listing). ListsSource g.W.Sink.outlet false l (g.R.Source.supply c.args.source.now) (g.R.Source.supply c.validate.new.r) c.args.out.now c.validate.new.w) (sym c.in-Validate.is)
+      (lists_source g.W.Sink.outlet c.args.out.now c.validate.new.w listings.Validate (IsValidated c.in_ok-validate-in-Validate.field-0) _ _ _
+      (λ input text is. subst (λ (n : ℕ). IsValidated n input text) c.in-0.is is) (λ given at_end. at_end) c.in_ok-validate-in-Validate.ensures.done);
+  succeeds = search rules;
+  tells_read = search rules;
+  stops = search rules;
+}
 
-pub returns-in_ok-relocate-in-Relocate-clause-done : goal.returns-in_ok-relocate-in-Relocate-clause-done
-returns-in_ok-relocate-in-Relocate-clause-done g c = λ done.
-    subst (λ (l : Listing). ListsSource g.W.Sink.outlet false l (g.R.Source.supply c.args.source.now) (g.R.Source.supply c.relocate.new.r) c.args.out.now c.relocate.new.w) (sym c.in-Relocate.is)
-    (lists_loaded g.W.Sink.outlet c.args.out.now c.relocate.new.w c.in-Relocate.base _ _ _ _ c.in_ok-relocate-in-Relocate.ensures.relocates)
+pub returns-in_ok-relocate-in-Relocate : goal.returns-in_ok-relocate-in-Relocate
+returns-in_ok-relocate-in-Relocate g c = record {
+  outcome = search rules;
+  done = λ done.
+      subst (λ (l : Listing). ListsSource g.W.Sink.outlet false l (g.R.Source.supply c.args.source.now) (g.R.Source.supply c.relocate.new.r) c.args.out.now c.relocate.new.w) (sym c.in-Relocate.is)
+      (lists_loaded g.W.Sink.outlet c.args.out.now c.relocate.new.w c.in-Relocate.base _ _ _ _ c.in_ok-relocate-in-Relocate.ensures.relocates);
+  succeeds = search rules;
+  tells_read = search rules;
+  stops = search rules;
+}
+
+pub returns-in_err-relocate-in-Relocate : goal.returns-in_err-relocate-in-Relocate
+returns-in_err-relocate-in-Relocate g c = record {
+  outcome = search rules;
+  done = search rules;
+  succeeds = search rules;
+  tells_read = search rules;
+  stops = search rules;
+}

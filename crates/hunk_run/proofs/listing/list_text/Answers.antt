@@ -1,4 +1,4 @@
-use Rattle.std.proofs.Common.{◌≡◌, ◌∙◌, ◌+◌, ℕ, false, true, List, Option, Some, Result, Ok, Err, inr, ap, refl, subst, sym}
+use Rattle.std.proofs.Common.{◌≡◌, ◌∙◌, ◌+◌, ℕ, false, true, List, Option, Some, Result, Ok, Err, inr, ap, refl, subst, sym, rules}
 use Rattle.std.specs.Prelude.{IfErr, IfOk, IfSome}
 use Rattle.std.proofs.KnownBytes.{Consumes-whole}
 use Rattle.hunk_words.specs.Carriers.{Outlet, Supply, Writing}
@@ -20,13 +20,6 @@ lists_where_done outlet old new listing before after cut rest most bytes (Ok sta
     λ done. lists_text outlet old new listing before after cut rest read.input bytes read.read.given read.read.at_end read.holds known (lists done)
 lists_where_done outlet old new listing before after cut rest most bytes (Err fault) read known lists = tt
 
-pub returns-clause-done : goal.returns-clause-done
-returns-clause-done g c =
-    let bytes = c.in_ok-bytes.bytes.items in
-    let known = ap {B = Option (List ℕ)} (λ (xs : List ℕ). Some xs) (c.new.ensures ∙ c.as_slice.ensures.value) in
-    lists_where_done g.W.Sink.outlet c.args.out.now c.list_bytes.new.out c.args.listing _ _ (slice c.new.result) (slice c.list_bytes.new.source) _ bytes _
-    c.in_ok-bytes.ensures.spelled known c.list_bytes.ensures.done
-
 -- where nothing is printed of the bytes, nothing is of the text that spells them
 stops_where : (listing : Listing) (before after : Supply) (given rest bytes : List ℕ) (most : ℕ) (result : Result ℕ RunFault) →
     ReadsHex before after (most + 1) bytes → given ≡ bytes →
@@ -42,11 +35,6 @@ stops_where listing before after given rest bytes most (Err fault) read known st
       stops = subst (λ (xs : List ℕ). StopsListing listing (slice xs) (slice rest) most fault) known (stops other);
     })
 
-pub returns-clause-stops : goal.returns-clause-stops
-returns-clause-stops g c =
-    stops_where c.args.listing _ _ c.new.result c.list_bytes.new.source c.in_ok-bytes.bytes.items _ _ c.in_ok-bytes.ensures.spelled
-    (c.new.ensures ∙ c.as_slice.ensures.value) c.list_bytes.ensures.stops
-
 -- a text that was read to its end spells no other bytes
 same_bytes : (before after : Supply) (most : ℕ) (text bytes items : List ℕ) → before.left ≡ Some text → SpellsHex text bytes → ReadsHex before after most items → bytes ≡ items
 same_bytes before after most text bytes items known spells read =
@@ -54,8 +42,17 @@ same_bytes before after most text bytes items known spells read =
     let also : SpellsHex text items = subst (λ (o : Option (List ℕ)). IfSome o (λ xs. SpellsHex xs items)) known whole in
     cc
 
-pub returns-clause-succeeds : goal.returns-clause-succeeds
-returns-clause-succeeds g c = λ has sound writes.
-    let same = same_bytes _ _ _ has.text has.bytes c.in_ok-bytes.bytes.items has.left_is has.spells c.in_ok-bytes.ensures.spelled in
-    c.list_bytes.ensures.succeeds
-    (subst (λ (xs : List ℕ). HasListed c.args.listing (slice xs) 67108864) (same ∙ sym (c.new.ensures ∙ c.as_slice.ensures.value)) has.has) refl writes
+pub returns : goal.returns
+returns g c =
+    let bytes = c.in_ok-bytes.bytes.items in
+    let cut = c.new.ensures ∙ c.as_slice.ensures.value in
+    record {
+      outcome = search rules;
+      done = lists_where_done g.W.Sink.outlet c.args.out.now c.list_bytes.new.out c.args.listing _ _ (slice c.new.result) (slice c.list_bytes.new.source) _ bytes _
+          c.in_ok-bytes.ensures.spelled (ap {B = Option (List ℕ)} (λ (xs : List ℕ). Some xs) cut) c.list_bytes.ensures.done;
+      succeeds = λ has sound writes.
+          let same = same_bytes _ _ _ has.text has.bytes bytes has.left_is has.spells c.in_ok-bytes.ensures.spelled in
+          c.list_bytes.ensures.succeeds (subst (λ (xs : List ℕ). HasListed c.args.listing (slice xs) 67108864) (same ∙ sym cut) has.has) refl writes;
+      tells_read = search rules;
+      stops = stops_where c.args.listing _ _ c.new.result c.list_bytes.new.source bytes _ _ c.in_ok-bytes.ensures.spelled cut c.list_bytes.ensures.stops;
+    }

@@ -27,7 +27,7 @@ returns-in-RefusedIn-default g c =
     subst (λ (fault : RunFault). DisplaysOnOk g.W.Write.write_str_gives c.args.f.now c.write-in-RefusedIn-default.result (fault_note fault c.args.name.now c.args.cause.now c.args.untouched.now) c.write-in-RefusedIn-default.new.self)
     (sym c.in-RefusedIn-default.is-0)
     (subst (λ (input : List ℕ). DisplaysOnOk g.W.Write.write_str_gives c.args.f.now c.write-in-RefusedIn-default.result
-    (Some (said input (verdict_line (record { refusal = c.in-RefusedIn-default.fault; part = Some c.in-RefusedIn-default.part })) c.args.untouched.now)) c.write-in-RefusedIn-default.new.self)
+    (Some (said input (verdict_line (record { refusal = c.in-RefusedIn-default.refusal.fault; part = Some c.in-RefusedIn-default.refusal.part })) c.args.untouched.now)) c.write-in-RefusedIn-default.new.self)
     c.shown-input.ensures (search rules))
 
 pub returns-in-Read-None : goal.returns-in-Read-None

@@ -6,15 +6,15 @@ use Rattle.hunk_grammar.specs.declared.file_kind.Sniff.TheVariants as sniffs
 use Rattle.hunk_files.specs.{FileParts.IsPartAt, declared.part.Part.Part}
 use Rattle.hunk_files.specs.declared.part.Part.TheVariants as parts
 use Rattle.hunk_scatter.specs.LoadOutcomes.{GoesPastNoFile, IsReadFault, IsBodyStop}
-use Rattle.hunk_scatter.specs.{LoadRefusals.{IsFaultIn, NamesPart}, declared.load_refusal.LoadRefusal.LoadRefusal}
+use Rattle.hunk_scatter.specs.{LoadRefusals.{IsFaultIn, NamesPart, fault_of}, declared.load_refusal.LoadRefusal.LoadRefusal}
 use Rattle.hunk_scatter.proofs.{Faults.{refusal_told, told_at}, Feeding.{file_fed, file_within_more}, PartLaws.read_fault_in}
 use Rattle.hunk_scatter.proofs.loading.load_body.Goals as goal
 
 -- for this fault, of a longword of this part
-stopped : (limit : ℕ) (now : Supply) (part : Part) (bytes given : List ℕ) (fault : Fault) (refusal : LoadRefusal) → refusal.fault ≡ fault → ((bs : List ℕ) → IsFaultIn bs part fault → NamesPart bs refusal) → bytes ≡ given →
-    IsBodyStop limit now bytes fault → IsFaultIn bytes part fault → IsBodyStop limit now given refusal.fault × NamesPart given refusal
+stopped : (limit : ℕ) (now : Supply) (part : Part) (bytes given : List ℕ) (fault : Fault) (refusal : LoadRefusal) → fault_of refusal ≡ fault → ((bs : List ℕ) → IsFaultIn bs part fault → NamesPart bs refusal) → bytes ≡ given →
+    IsBodyStop limit now bytes fault → IsFaultIn bytes part fault → IsBodyStop limit now given (fault_of refusal) × NamesPart given refusal
 stopped limit now part bytes given fault refusal same names is stop in_part =
-    subst (λ (bs : List ℕ). IsBodyStop limit now bs refusal.fault × NamesPart bs refusal) is
+    subst (λ (bs : List ℕ). IsBodyStop limit now bs (fault_of refusal) × NamesPart bs refusal) is
     (subst (IsBodyStop limit now bytes) (sym same) stop, names bytes in_part)
 
 pub returns-in-Err-clause-ends : goal.returns-in-Err-clause-ends

@@ -6,8 +6,7 @@ use Rattle.hunk_words.specs.declared.class.Class.TheVariants as classes
 use Rattle.hunk_words.specs.declared.reason.Reason.TheVariants as reasons
 use Rattle.hunk_files.specs.{LoadFile.TableEntry, declared.part.Part.Part}
 use Rattle.hunk_scatter.specs.{HeaderFaults.IsOverBudget, LoaderValues.ImageValue}
-use Rattle.hunk_scatter.specs.LoadOutcomes.{Gives, HasFileWithin, IsHeaderWithin, GoesPastNoFile, GoesPastNoHeader, PassesBudget, KeepsToHeader, LoadEnds, LoadStop, InHeader, Between, StopsAfterFile, StopsAfterHeader, TellsFailure}
-use Rattle.hunk_scatter.specs.{LoadRefusals.{IsFaultIn, LoadsOrNames, NamesPart, without_part}, declared.load_refusal.LoadRefusal.LoadRefusal}
+use Rattle.hunk_scatter.specs.{LoadRefusals.{IsFaultIn, LoadsOrNames, NamesPart, fault_of, without_part}, declared.load_refusal.LoadRefusal.LoadRefusal, LoadOutcomes.{Gives, HasFileWithin, IsHeaderWithin, GoesPastNoFile, GoesPastNoHeader, PassesBudget, KeepsToHeader, LoadEnds, LoadStop, InHeader, Between, StopsAfterFile, StopsAfterHeader, TellsFailure}}
 use Rattle.hunk_scatter.specs.{Placing.{Placing, IsUnplacedFor}, declared.loading.Limits.Limits}
 use Rattle.hunk_scatter.proofs.HeaderFronts.{within_file}
 use Rattle.hunk_scatter.proofs.LoadEnding.{ends_body, body_keeps, has_bases, file_loads, budget_stops, ends_loads}
@@ -38,7 +37,7 @@ module _ (base : Placing) (limits : Limits) (old new : Supply) (result : Result 
   }
 
 -- It stopped before the body, for this fault.
-stopped : (base : Placing) (limits : Limits) (old new : Supply) (given : List ℕ) (fault : Fault) (refusal : LoadRefusal) → refusal.fault ≡ fault → Gives old new limits.file_bytes given → GoesPastNoHeader given →
+stopped : (base : Placing) (limits : Limits) (old new : Supply) (given : List ℕ) (fault : Fault) (refusal : LoadRefusal) → fault_of refusal ≡ fault → Gives old new limits.file_bytes given → GoesPastNoHeader given →
     LoadStop base limits new given fault → NamesPart given refusal → TellsFailure {T = ImageValue} old new (Err fault) → Promised base limits old new (Err refusal)
 stopped base limits old new given fault refusal same gives in_header stop names tells =
     promised base limits old new (Err refusal) given gives (within_file given in_header) (λ t more is d. inl (in_header t more is d))
@@ -81,7 +80,7 @@ not_true true h = absurd (h refl)
 not_true false h = refl
 
 -- how the body ends, and the part that is named
-both : (P : ImageValue → Type 0) (Q : Fault → Type 0) (N : LoadRefusal → Type 0) (result : Result ImageValue LoadRefusal) → MatchResult result P (λ r. Q r.fault × N r) → MatchResult (without_part result) P Q × IfErr result N
+both : (P : ImageValue → Type 0) (Q : Fault → Type 0) (N : LoadRefusal → Type 0) (result : Result ImageValue LoadRefusal) → MatchResult result P (λ r. Q (fault_of r) × N r) → MatchResult (without_part result) P Q × IfErr result N
 both P Q N (Ok image) h = (h, tt)
 both P Q N (Err refusal) h = h
 

@@ -1,6 +1,5 @@
 use Rattle.std.proofs.Common.{◌<◌, ◌≤◌, length, refl, arith}
-use Rattle.hunk_scatter.proofs.{Runs.read_offsets, OneByte.stands_as, Staying.{offsets_stay, run_stays, stays_as}}
-use Rattle.hunk_scatter.proofs.WholeLongs.{room_at, read_at, run_taken}
+use Rattle.hunk_scatter.proofs.{Runs.read_offsets, OneByte.stands_as, WithinStore.{offsets_stay, run_stays, stays_as}, WholeLongs.{room_at, read_at, run_taken}}
 use Rattle.hunk_scatter.proofs.store.take_at.Goals as goal
 
 pub returns-then-run-gt0 : goal.returns-then-run-gt0

@@ -2,7 +2,7 @@ use Rattle.std.proofs.{Common.{◌≡◌, ◌≤◌, ◌*◌, ◌∙◌, length,
 use Rattle.hunk_words.specs.Longs.{longs}
 use Rattle.hunk_words.proofs.LongLaws.{length-longs}
 use Rattle.hunk_files.specs.declared.row.Row.{Row}
-use Rattle.hunk_blocks.specs.declared.phase.Phase.{Phase}
+use Rattle.hunk_grammar.specs.declared.phase.Phase.{Phase}
 use Rattle.hunk_grammar.specs.declared.position.Position.TheVariants as positions
 use Rattle.hunk_scatter.specs.Rows.{words_of, bases_of}
 use Rattle.hunk_scatter.proofs.Runs.{offsets_taken}

@@ -2,8 +2,7 @@ use Rattle.std.proofs.Common.{◌≡◌, ℕ, List, [], map, length, replicate, 
 use Rattle.std.proofs.lemmas.List.{length-map}
 use Rattle.hunk_files.specs.{Image.declared_bytes, LoadFile.TableEntry, Tables.row_entry}
 use Rattle.hunk_grammar.specs.Positions.{open_next}
-use Rattle.hunk_scatter.specs.{HeaderBytes.{IsHeaderTable, header_bytes}, HeaderLoaderFields.DeclaredInvariant}
-use Rattle.hunk_scatter.specs.{BodyReader.state_at, Rows.{entries_of, row_of}}
+use Rattle.hunk_scatter.specs.{HeaderBytes.{IsHeaderTable, header_bytes}, HeaderLoaderFields.DeclaredInvariant, BodyReader.state_at, Rows.{entries_of, row_of}}
 use Rattle.hunk_scatter.proofs.{HeaderReads.entries-rows, Starting.placed_loading}
 use Rattle.hunk_scatter.proofs.stream.begin.Goals as goal
 

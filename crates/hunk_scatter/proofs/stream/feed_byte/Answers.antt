@@ -4,8 +4,7 @@ use Rattle.std.specs.Int.{w32, to_be_bytes}
 use Rattle.hunk_words.specs.{Longs.{bytes_of, Gathers}, PendingBytes.pending_of}
 use Rattle.hunk_words.proofs.{LongLaws.length-bytes_of, PendingLaws.few_pending}
 use Rattle.hunk_scatter.specs.BodyLoaderFields.{ReadsOn, StandsAfter}
-use Rattle.hunk_scatter.proofs.{BodyFields.gone, Faults.refusal_front, OneByte.{more_pending, stands_as}}
-use Rattle.hunk_scatter.proofs.StreamLaws.{first_byte, stands_more, strange}
+use Rattle.hunk_scatter.proofs.{BodyFields.gone, Faults.refusal_front, OneByte.{more_pending, stands_as}, StreamLaws.{first_byte, stands_more, strange}}
 use Rattle.hunk_scatter.proofs.WholeLongs.{gathered_reads, gathered_refused}
 use Rattle.hunk_scatter.proofs.stream.feed_byte.Goals.{in-Some+else-not-is_in_store+in-Ok, in_default}
 use Rattle.hunk_scatter.proofs.stream.feed_byte.Goals as goal

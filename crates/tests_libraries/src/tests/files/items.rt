@@ -18,16 +18,8 @@ const HUNK: u32 = 0;
 
 fn seen_of(item: &Item) -> Seen {
     match item {
-        Item::Unit {
-            place,
-            number,
-            name: _,
-        } => (*place, *number, 0, UNIT),
-        Item::Hunk {
-            place,
-            unit,
-            number,
-        } => (*place, *unit, *number, HUNK),
+        Item::Unit { number, view } => (view.place(), *number, 0, UNIT),
+        Item::Hunk { unit, number, view } => (view.place(), *unit, *number, HUNK),
         Item::Block { unit, hunk, view } => (view.place(), *unit, *hunk, view.word().word()),
     }
 }
@@ -99,12 +91,15 @@ fn in_file_order(rt: HostRuntime) -> Result<(), Fail> {
     Ok(())
 }
 
-/// The name of a unit, which is one of its item.
+/// The name of a unit and the number of its hunks, which its item tells.
 #[test]
 fn names_of_units(rt: HostRuntime) -> Result<(), Fail> {
     let bytes = spelled(rt.alloc(), examples::OBJECT)?;
     match FileView::read(&bytes)?.items().next() {
-        Some(Item::Unit { name, .. }) => assert_equal(&rt, name.bytes(), b"a\0\0\0".as_slice()),
+        Some(Item::Unit { view, .. }) => {
+            assert_equal(&rt, view.name().bytes(), b"a\0\0\0".as_slice());
+            assert_equal(&rt, view.hunks(), 1);
+        }
         _ => panic!(&rt; "no unit"),
     }
     Ok(())

@@ -26,7 +26,7 @@ fn viewed(bytes: &[u8]) -> Answer {
     match FileView::read(bytes) {
         Ok(FileView::Load { file: _, rest }) => Ok((Sniff::Load, rest)),
         Ok(FileView::Object(_)) => Ok((Sniff::Object, 0)),
-        Err(fault) => refused(fault),
+        Err(refusal) => refused(refusal.fault),
     }
 }
 

@@ -1,7 +1,7 @@
 //! In which part of a file it is refused, by hand, and what the part is shown as.
 
 use crate::tests::asserts::{assert_equal, assert_equal_at};
-use hunk_files::{FileView, Part, part_at};
+use hunk_files::{FileView, Part};
 use std::alloc::Global;
 use std::process::Abort;
 use std::test::Fail;
@@ -38,6 +38,14 @@ const REFUSED: &[(&str, u64, Numbers, &str)] = &[
         (None, Some(2)),
         "hunk 2",
     ),
+    // In the content of a hunk.
+    ("3F3 0 1 0 0 3 / 3E9 3 1", 36, (None, Some(0)), "hunk 0"),
+    (
+        "3E7 0 / 3EB 1 / 3F2 / 3E9 3 1",
+        32,
+        (Some(0), Some(1)),
+        "unit 0 hunk 1",
+    ),
     // In the name of a unit, after one, after a whole hunk, and in the second unit's second hunk.
     ("3E7 2 61000000", 12, (Some(0), None), "unit 0"),
     (
@@ -63,9 +71,9 @@ const REFUSED: &[(&str, u64, Numbers, &str)] = &[
 
 /// Sees that the bytes are refused at this place, in this part.
 fn expect(rt: &impl Abort, bytes: &[u8], place: u64, part: Part) {
-    let got = FileView::read(bytes).err().map(|fault| fault.place);
-    assert_equal_at(rt, got, Some(place), place);
-    assert_equal_at(rt, part_at(bytes, place), part, place);
+    let got = FileView::read(bytes).err();
+    let got = got.map(|refusal| (refusal.fault.place, refusal.part));
+    assert_equal_at(rt, got, Some((place, part)), place);
 }
 
 /// Sees that the part is shown as this.

@@ -3,7 +3,7 @@
 use crate::tests::asserts::assert_equal_at;
 use crate::tests::loading::loads::START;
 use crate::tests::loading::{AMPLE, cut_at};
-use hunk_files::Part;
+use hunk_files::{Part, Refusal};
 use hunk_scatter::{Limits, LoadRefusal, Packed, load_naming_part};
 use hunk_words::{LoadFault, Reason, Source};
 use std::alloc::Global;
@@ -35,8 +35,12 @@ fn expect<R: Source>(
 ) {
     let (place, reason, part) = want;
     let fault = LoadFault { place, reason };
+    let want = match part {
+        Some(part) => LoadRefusal::Judged(Refusal { fault, part }),
+        None => LoadRefusal::NotJudged(fault),
+    };
     let got = refusal(rt.alloc(), source, limits, placer);
-    assert_equal_at(rt, got, Some(LoadRefusal { fault, part }), place);
+    assert_equal_at(rt, got, Some(want), place);
 }
 
 /// Sees it of readers of 1, 3 and 256 bytes a read.

@@ -1,8 +1,8 @@
 //! Which object files are read, and where the others are refused and why: in lists, and where they lie.
 
 use crate::tests::asserts::{assert_equal, assert_equal_at};
-use crate::tests::decoding::{count_blocks, object_fault};
-use hunk_files::{ObjectFile, ObjectView, UnitView};
+use crate::tests::decoding::object_fault;
+use hunk_files::{Item, ObjectFile, ObjectView};
 use hunk_words::{FileFault, Reason};
 use std::alloc::Global;
 use std::process::Abort;
@@ -24,22 +24,17 @@ fn decoded(alloc: Global, bytes: &[u8]) -> Answer {
     Ok((file.units().len(), hunks, blocks))
 }
 
-fn blocks_in(unit: &UnitView) -> usize {
-    let mut blocks = 0usize;
-    for hunk in unit.hunks() {
-        blocks = blocks.saturating_add(count_blocks(hunk.blocks()));
-    }
-    blocks
-}
-
 fn viewed(bytes: &[u8]) -> Answer {
-    let (mut units, mut hunks, mut blocks) = (0usize, 0usize, 0usize);
-    for unit in ObjectView::read(bytes)?.units() {
-        units = units.saturating_add(1);
-        hunks = hunks.saturating_add(unit.hunks().count());
-        blocks = blocks.saturating_add(blocks_in(&unit));
+    let file = ObjectView::read(bytes)?;
+    let (mut hunks, mut blocks) = (0usize, 0usize);
+    for item in file.items() {
+        match item {
+            Item::Unit { .. } => {}
+            Item::Hunk { .. } => hunks = hunks.saturating_add(1),
+            Item::Block { .. } => blocks = blocks.saturating_add(1),
+        }
     }
-    Ok((units, hunks, blocks))
+    Ok((file.units() as usize, hunks, blocks))
 }
 
 /// Sees that this is answered for the bytes both ways.

@@ -2,7 +2,7 @@
 
 use crate::tests::asserts::{assert_equal, assert_equal_at};
 use crate::tests::decoding::object_file;
-use hunk_files::{HunkView, ObjectFile, ObjectView, Unit, UnitView, UnitViews};
+use hunk_files::{Item, ObjectFile, ObjectView, Unit};
 use std::alloc::{AllocError, Global};
 use std::process::Abort;
 use std::test::Fail;
@@ -14,27 +14,16 @@ type Seen = (u64, u32);
 
 const UNIT: u32 = 0x3E7;
 
-fn push_blocks(seen: &mut Vec<Seen>, hunk: &HunkView) -> Result<(), AllocError> {
-    for block in hunk.blocks() {
-        seen.push((block.place(), block.word().word()))?;
-    }
-    Ok(())
-}
-
-fn push_hunks(seen: &mut Vec<Seen>, unit: &UnitView) -> Result<(), AllocError> {
-    for hunk in unit.hunks() {
-        seen.push((hunk.place(), 0))?;
-        push_blocks(seen, &hunk)?;
-    }
-    Ok(())
-}
-
 /// Where each unit, hunk and block begins, with 0 for the word of a hunk.
 fn seen(alloc: Global, file: &ObjectView) -> Result<Vec<Seen>, AllocError> {
     let mut seen = Vec::new(alloc);
-    for unit in file.units() {
-        seen.push((unit.place(), UNIT))?;
-        push_hunks(&mut seen, &unit)?;
+    for item in file.items() {
+        let word = match &item {
+            Item::Unit { .. } => UNIT,
+            Item::Hunk { .. } => 0,
+            Item::Block { view, .. } => view.word().word(),
+        };
+        seen.push((item.place(), word))?;
     }
     Ok(seen)
 }
@@ -95,19 +84,22 @@ fn units(alloc: Global, count: u32) -> Result<Vec<u8>, AllocError> {
     bytes_of(alloc, &longs)
 }
 
-/// Sees that units of nine longwords follow each other, up to this byte, each with its number as its name and the
-/// longwords of its first hunk.
-fn expect_units(rt: &impl Abort, file: &ObjectView, end: u64) {
-    let mut place: u64 = 0;
-    for unit in file.units() {
-        let name = &(place / 36).to_be_bytes()[4..];
-        assert_equal(rt, (unit.place(), unit.encoded_len()), (place, 36));
-        assert_equal(rt, unit.name().bytes(), name);
-        let content = unit.hunks().peek().map(|hunk| hunk.content_bytes());
-        assert_equal(rt, content, Some(place / 9));
-        place = place.saturating_add(36);
+/// Sees that this unit of nine longwords stands at its place, with its number as its name, or that this first hunk has
+/// as many longwords.
+fn expect_unit(rt: &impl Abort, item: Item) {
+    match item {
+        Item::Unit { number, view } => {
+            let place = number.saturating_mul(36);
+            assert_equal(rt, (view.place(), view.hunks()), (place, 2));
+            assert_equal(rt, view.name().bytes(), &number.to_be_bytes()[4..]);
+        }
+        Item::Hunk {
+            unit,
+            number: 0,
+            view,
+        } => assert_equal(rt, view.content_bytes(), unit.saturating_mul(4)),
+        _ => {}
     }
-    assert_equal(rt, place, end);
 }
 
 /// Sees that the units of the file in lists have these names, too.
@@ -121,9 +113,12 @@ fn expect_names(rt: &impl Abort, file: &ObjectFile) {
 #[test]
 fn many_units(rt: HostRuntime) -> Result<(), Fail> {
     let bytes = units(rt.alloc(), 5_000)?;
-    expect_units(&rt, &ObjectView::read(&bytes)?, 180_000);
+    let view = ObjectView::read(&bytes)?;
+    for item in view.items() {
+        expect_unit(&rt, item);
+    }
     let file = object_file(&rt, rt.alloc(), &bytes);
-    assert_equal(&rt, file.units().len(), 5_000);
+    assert_equal(&rt, (view.units(), file.units().len()), (5_000, 5_000));
     expect_names(&rt, &file);
     Ok(())
 }
@@ -131,36 +126,23 @@ fn many_units(rt: HostRuntime) -> Result<(), Fail> {
 /// One unit, with 5,000 hunks of three longwords.
 const MANY_HUNKS: &[Run] = &[(1, &[UNIT, 0]), (5_000, &[0x3EB, 0, 0x3F2])];
 
-/// Sees that hunks of three longwords follow the unit's header, up to this byte.
-fn expect_hunks(rt: &impl Abort, unit: &UnitView, end: u64) {
-    let mut place: u64 = 8;
-    for hunk in unit.hunks() {
-        assert_equal(rt, (hunk.place(), hunk.encoded_len()), (place, 12));
-        place = place.saturating_add(12);
+/// Sees that the unit has all of the hunks, or that this hunk of three longwords stands at its place.
+fn expect_hunk(rt: &impl Abort, item: Item) {
+    match item {
+        Item::Unit { view, .. } => assert_equal(rt, view.hunks(), 5_000),
+        Item::Hunk { number, view, .. } => {
+            let place = number.saturating_mul(12).saturating_add(8);
+            assert_equal(rt, view.place(), place);
+        }
+        Item::Block { .. } => {}
     }
-    assert_equal(rt, place, end);
 }
 
 #[test]
 fn many_hunks(rt: HostRuntime) -> Result<(), Fail> {
     let bytes = bytes_of_runs(rt.alloc(), &[MANY_HUNKS])?;
-    for unit in ObjectView::read(&bytes)?.units() {
-        expect_hunks(&rt, &unit, 60_008);
+    for item in ObjectView::read(&bytes)?.items() {
+        expect_hunk(&rt, item);
     }
-    Ok(())
-}
-
-/// Where the next hunk of the next unit begins.
-fn next_hunk(units: &UnitViews) -> Option<u64> {
-    units.peek()?.hunks().peek().map(|hunk| hunk.place())
-}
-
-#[test]
-fn peeked_at_and_still_to_come(rt: HostRuntime) -> Result<(), Fail> {
-    let bytes = spelled(rt.alloc(), TWO_UNITS)?;
-    let mut units = ObjectView::read(&bytes)?.units();
-    assert_equal(&rt, next_hunk(&units), Some(12));
-    let _ = units.next();
-    assert_equal(&rt, (units.place(), next_hunk(&units)), (60, None));
     Ok(())
 }

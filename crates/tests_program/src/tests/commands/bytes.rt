@@ -7,6 +7,7 @@ use crate::tests::commands::calls::{
 };
 use crate::tests::commands::samples::{BAD, input};
 use hunk_commands::{Rewritten, RunFault, rewrite_bytes, show_bytes, validate_bytes};
+use hunk_files::Refusal;
 use hunk_words::{Fault, FromWrite, LongWriter};
 use std::process::Abort;
 use std::test::Fail;
@@ -64,7 +65,7 @@ fn refuses(rt: HostRuntime) -> Result<(), Fail> {
         let bytes = input(rt.alloc(), file, *rest)?;
         let (place, reason, part) = (*place, *reason, *part);
         let fault = Fault { place, reason };
-        let fault = RunFault::RefusedIn { fault, part };
+        let fault = RunFault::RefusedIn(Refusal { fault, part });
         for call in [Call::Show, Call::Validate, Call::Rewrite, Call::Strip] {
             let got = made_in_hand(call, &bytes, roomy());
             expect_outcome(&rt, &got, Some(fault), &[]);

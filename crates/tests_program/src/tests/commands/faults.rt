@@ -1,7 +1,7 @@
 //! The lines and statuses of faults.
 use crate::tests::asserts::{assert_equal, assert_equal_at};
 use hunk_commands::RunFault;
-use hunk_files::Part;
+use hunk_files::{Part, Refusal};
 use hunk_words::{Fault, Reason};
 use std::alloc::{AllocError, Global};
 use std::process::Abort;
@@ -25,10 +25,10 @@ const FAULTS: &[(RunFault, &str, u8)] = &[
         1,
     ),
     (
-        RunFault::RefusedIn {
+        RunFault::RefusedIn(Refusal {
             fault: AT_28,
             part: Part::Header,
-        },
+        }),
         "refused at byte 28: NameWord (21)",
         1,
     ),

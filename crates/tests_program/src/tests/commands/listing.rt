@@ -4,7 +4,7 @@ use crate::tests::asserts::assert_equal_at;
 use crate::tests::commands::calls::{Call, LIMIT, expect_outcome, made_of, roomy};
 use crate::tests::commands::samples::{AGAIN, BAD, CHECKED, SHOWN, input};
 use hunk_commands::{Rewritten, RunFault, rewrite, validate};
-use hunk_files::Part;
+use hunk_files::{Part, Refusal};
 use hunk_words::{Fault, FromSlice};
 use std::alloc::Global;
 use std::process::Abort;
@@ -82,7 +82,7 @@ fn rewrites(rt: HostRuntime) -> Result<(), Fail> {
 
 /// Sees that each call that reads the input whole refuses it, and writes nothing.
 fn expect_refused(rt: &impl Abort, alloc: Global, bytes: &[u8], fault: Fault, part: Part) {
-    let fault = RunFault::RefusedIn { fault, part };
+    let fault = RunFault::RefusedIn(Refusal { fault, part });
     for call in [Call::Show, Call::Validate, Call::Rewrite] {
         let got = made_of(alloc, call, bytes, roomy());
         expect_outcome(rt, &got, Some(fault), &[]);

@@ -3,7 +3,7 @@
 use crate::tests::asserts::assert_equal;
 use crate::tests::commands::calls::{Outcome, expect_outcome, roomy};
 use hunk_commands::{RunFault, relocate};
-use hunk_files::Part;
+use hunk_files::{Part, Refusal};
 use hunk_scatter::Limits;
 use hunk_words::{Fault, FromSlice, FromWrite, LongWriter, Reason, Source};
 use std::alloc::Global;
@@ -130,13 +130,13 @@ fn names_the_part(rt: HostRuntime) -> Result<(), Fail> {
     let fault = Fault { place, reason };
     let part = Part::Header;
     let bytes = spelled(rt.alloc(), examples::WRONG_LAST_HUNK)?;
-    let refused = RunFault::RefusedIn { fault, part };
+    let refused = RunFault::RefusedIn(Refusal { fault, part });
     expect(&rt, &bytes, (LIMITS, BASE), Some(refused), "");
     let (place, reason) = (80, Reason::BadTarget);
     let fault = Fault { place, reason };
     let part = Part::Hunk { number: 2 };
     let text = "3F3 0 3 0 2 1 1 1 / 3E9 1 0 / 3F2 / 3EB 1 / 3F2 / 3EA 1 7 / 3EC 1 3";
-    let refused = RunFault::RefusedIn { fault, part };
+    let refused = RunFault::RefusedIn(Refusal { fault, part });
     expect(
         &rt,
         &spelled(rt.alloc(), text)?,

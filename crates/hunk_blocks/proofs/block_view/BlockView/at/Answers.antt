@@ -3,8 +3,7 @@ use Rattle.std.proofs.lemmas.List.{length-drop}
 use Rattle.hunk_words.specs.Longs.{bytes_of, longs}
 use Rattle.hunk_words.proofs.LongLaws.{length-longs}
 use Rattle.hunk_blocks.specs.{BodyViews.{HasListAt, viewed}, Parts.block_text}
-use Rattle.hunk_blocks.proofs.Admitted.{block}
-use Rattle.hunk_blocks.proofs.Decoding.{body_there, read_in_front, read_is_block, read_size, word_read, word_there}
+use Rattle.hunk_blocks.proofs.{Admitted.block, Decoding.{body_there, read_in_front, read_is_block, read_size, word_read, word_there}}
 use Rattle.hunk_blocks.proofs.block_view.BlockView.at.Goals as goal
 
 pub invariant_of-reader : goal.invariant_of-reader

@@ -1,6 +1,5 @@
 use Rattle.hunk_blocks.specs.{Parts.ext_text, Views.entry_of}
-use Rattle.hunk_blocks.proofs.CutLaws.{entries_are_cut}
-use Rattle.hunk_blocks.proofs.ListReading.{first_given, item_first, item_less, none_given}
+use Rattle.hunk_blocks.proofs.{CutLaws.entries_are_cut, ListReading.{first_given, item_first, item_less, none_given}}
 use Rattle.hunk_blocks.proofs.entries.EntriesIterIterator.next.Goals as goal
 
 pub returns-then-peek-eq0-clause-steps : goal.returns-then-peek-eq0-clause-steps

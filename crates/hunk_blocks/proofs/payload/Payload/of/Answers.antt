@@ -1,5 +1,5 @@
 use Rattle.std.proofs.Common.{arith}
-use Rattle.hunk_blocks.proofs.Whole.{bytes_of-longs}
+use Rattle.hunk_blocks.proofs.BytesOfLongs.{bytes_of-longs}
 use Rattle.hunk_blocks.proofs.payload.Payload.of.Goals as goal
 
 pub invariant_of-result : goal.invariant_of-result

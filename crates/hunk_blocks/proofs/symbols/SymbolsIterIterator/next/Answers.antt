@@ -1,6 +1,5 @@
 use Rattle.hunk_blocks.specs.{Parts.symbol_text, Views.symbol_of}
-use Rattle.hunk_blocks.proofs.CutLaws.{symbols_are_cut}
-use Rattle.hunk_blocks.proofs.ListReading.{first_given, item_first, item_less, none_given}
+use Rattle.hunk_blocks.proofs.{CutLaws.symbols_are_cut, ListReading.{first_given, item_first, item_less, none_given}}
 use Rattle.hunk_blocks.proofs.symbols.SymbolsIterIterator.next.Goals as goal
 
 pub returns-then-peek-eq0-clause-steps : goal.returns-then-peek-eq0-clause-steps

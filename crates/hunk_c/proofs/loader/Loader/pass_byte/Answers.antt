@@ -13,9 +13,9 @@ returns-clause-passes c = λ passed.
     let at = standing_in l p in
     let piece = c.args.piece.now in
     let pending = c.take.result.0 in
-    let stood = c.has_stood.ensures.sound c.if-not-has_stood.false in
+    let stood = c.has_stood.ensures.0 c.if-not-has_stood.false in
     let told : loader_position l ≡ Some p = sym c.in-Some.ensures in
-    let s = stands_by l p (stood_at l p stood told) stood.counts (c.is_clean.ensures.sound c.if-not-is_clean.false) in
+    let s = stands_by l p (stood_at l p stood told) stood.counts (c.is_clean.ensures.0 c.if-not-is_clean.false) in
     let counted = pending_counted at.pending (few_pending at.pending (omega (arith, c.if-self-gt2.false))) in
     let short : length (pending_of at.pending ++ get_or piece 0 0 ∷ []) < 4 =
     omega (arith, counted, c.if-self-gt2.false, length-append (pending_of at.pending) (get_or piece 0 0 ∷ [])) in

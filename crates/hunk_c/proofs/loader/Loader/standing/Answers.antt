@@ -20,12 +20,12 @@ returns-in_default-clause-tells c =
 
 pub returns-then-not-has_stood-clause-tells : goal.returns-then-not-has_stood-clause-tells
 returns-then-not-has_stood-clause-tells c =
-    TellsStrange (no_loader c.args.self.now (λ h. absurd (cc (c.has_stood.ensures.complete h, c.if-not-has_stood.true)))) c.strange-then-not-has_stood.ensures
+    TellsStrange (no_loader c.args.self.now (λ h. absurd (cc (c.has_stood.ensures.1 h, c.if-not-has_stood.true)))) c.strange-then-not-has_stood.ensures
 
 pub returns-in-Some-fault-clause-tells : goal.returns-in-Some-fault-clause-tells
 returns-in-Some-fault-clause-tells c =
     let l = c.args.self.now in
     let p = c.in-Some.position in
-    let stood = c.has_stood.ensures.sound c.if-not-has_stood.false in
+    let stood = c.has_stood.ensures.0 c.if-not-has_stood.false in
     let h = stood_at l p stood (sym c.in-Some.ensures) in
     TellsRefusal (standing_in l p) c.in-Some-fault.fault (record { numbers = numbers_are l p h.numbers; may_stand = may_stand_by l p h stood.counts; tells = c.in-Some-fault.ensures }) c.refused.ensures

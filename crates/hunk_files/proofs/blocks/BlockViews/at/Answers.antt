@@ -1,4 +1,4 @@
-use Rattle.hunk_files.proofs.BlocksInPlace.{hunk_value}
+use Rattle.hunk_files.proofs.views.BlocksInPlace.{hunk_value}
 use Rattle.hunk_files.proofs.blocks.BlockViews.at.Goals as goal
 
 pub returns : goal.returns

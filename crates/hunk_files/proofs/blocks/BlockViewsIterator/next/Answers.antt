@@ -4,8 +4,8 @@ use Rattle.hunk_blocks.specs.{declared.body_view.BodyView.BodyView, BodyViews.vi
 use Rattle.hunk_blocks.specs.{Parts.block_text, Placed.Placed, Values.{BlockBody, BlockValue}}
 use Rattle.hunk_blocks.specs.declared.body_view.BodyView.TheVariants as bodies
 use Rattle.hunk_files.specs.{InPlace.GivesPart, LoadFile.standing}
-use Rattle.hunk_files.proofs.BlocksInPlace.{first_begins, gives_last, gives_next, more_begin, none_seen, seen, some_seen}
-use Rattle.hunk_files.proofs.PartsInTurn.{part_less}
+use Rattle.hunk_files.proofs.views.BlocksInPlace.{first_begins, gives_last, gives_next, more_begin, none_seen, seen, some_seen}
+use Rattle.hunk_files.proofs.views.PartsInTurn.{part_less}
 use Rattle.hunk_files.proofs.blocks.BlockViewsIterator.next.Goals as goal
 use Rattle.hunk_files.proofs.blocks.BlockViewsIterator.next.Goals.{in-End, in_default}
 

@@ -2,9 +2,9 @@ use Rattle.std.specs.Prelude.{IfErr}
 use Rattle.std.proofs.Common.{rules, ◌≢◌, ◌∙◌, refl, sym, inl, inr}
 use Rattle.std.proofs.lemmas.{List.length-drop, Result.err_from_is_err_and}
 use Rattle.hunk_words.specs.Longs.{longs}
-use Rattle.hunk_grammar.specs.{declared.file_kind.Sniff.Sniff, declared.file_kind.Sniff.TheVariants.Object}
+use Rattle.hunk_grammar.specs.{declared.file_kind.Sniff.Sniff, declared.file_kind.Sniff.TheVariants.{Load, Object}}
 use Rattle.hunk_grammar.specs.FileKind.{sniffed}
-use Rattle.hunk_files.specs.{Fault.BeginsWithLoadFile, HunkFile.{AreObjectFile, IsLoadRefusal, IsRefusal}}
+use Rattle.hunk_files.specs.{Fault.BeginsWithLoadFile, FileParts.IsPartAt, HunkFile.{AreObjectFile, IsLoadRefusal, IsRefusal}}
 use Rattle.hunk_files.proofs.FileKinds.{load_of, no_load, no_object, not_object}
 use Rattle.hunk_files.proofs.file_view.FileView.read.Goals as goal
 
@@ -25,6 +25,7 @@ returns-in_ok-file-in-Load c =
       file = load_of c.args.bytes.now ok.file ok.size ok.ensures.valid ok.ensures.text ok.ensures.inside _ (sym (length-drop ok.size c.args.bytes.now));
       none = tt;
       refused = tt;
+      part = tt;
       memory = tt;
     }
 
@@ -36,11 +37,13 @@ returns-in_err-file-in-Load c =
     let result = c.from_residual-in_err-file-in-Load.result in
     let p = err_from_is_err_and result c.from_residual-in_err-file-in-Load.ensures.1 in
     let err = c.in_err-file-in-Load.ensures in
-    let refused : IfErr result (IsLoadRefusal bytes) = rw (p.1, p.2) (err.fault, err.own_reasons) in
+    let refused : IfErr result (λ r. IsLoadRefusal bytes r.fault) = rw (p.1, p.2) (err.fault, err.own_reasons) in
+    let part : IfErr result (λ r. IsPartAt Load bytes r.fault.place r.part) = rw (p.1, p.2) err.part in
     let none : IfErr result (λ fault. BeginsWithLoadFile bytes → ⊥) = search rules in
     record {
       file = search rules;
       none = no_load bytes result announced none;
-      refused = not_object (λ (kind : Sniff). IfErr result (IsRefusal kind bytes)) (sniffed (longs bytes)) announced refused refused refused;
+      refused = not_object (λ (kind : Sniff). IfErr result (λ r. IsRefusal kind bytes r.fault)) (sniffed (longs bytes)) announced refused refused refused;
+      part = not_object (λ (kind : Sniff). IfErr result (λ r. IsPartAt kind bytes r.fault.place r.part)) (sniffed (longs bytes)) announced part part part;
       memory = search rules;
     }

@@ -1,6 +1,6 @@
 use Rattle.std.proofs.Common.{◌++◌, ◌∷◌, ◌∙◌, [], List, ap}
 use Rattle.hunk_blocks.specs.{BodyViews.viewed, Parts.block_text, Placed.Placed, Values.BlockValue}
-use Rattle.hunk_files.proofs.{FillingLaws.block_filled, PartsInTurn.part_taken}
+use Rattle.hunk_files.proofs.{image.FillingLaws.block_filled, views.PartsInTurn.part_taken}
 use Rattle.hunk_files.proofs.load.filling.fill_hunk.Goals as goal
 
 pub filling-preserved : goal.filling-preserved

@@ -1,7 +1,7 @@
 use Rattle.std.proofs.Common.{◌≡◌, List, length}
 use Rattle.hunk_blocks.specs.{Parts.block_text, Values.BlockValue}
 use Rattle.hunk_files.specs.Filling.{memory_of}
-use Rattle.hunk_files.proofs.{FillingLaws.LeftToFill, PartsInTurn.Taken}
+use Rattle.hunk_files.proofs.{image.FillingLaws.LeftToFill, views.PartsInTurn.Taken}
 use Rattle.hunk_files.proofs.load.filling.fill_hunk.Given as goal
 
 abbrev pub invariant-filling : goal.invariant-filling

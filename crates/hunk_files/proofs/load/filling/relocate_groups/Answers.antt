@@ -2,7 +2,7 @@ use Rattle.std.proofs.Common.{◌/◌, ◌∙◌, ℕ, List, length, ap, subst, 
 use Rattle.std.specs.List.{AllByRecursion, flat_map}
 use Rattle.hunk_blocks.specs.{Values.RelocGroup, Views.group_of}
 use Rattle.hunk_files.specs.{Image.{group_relocations, relocated}, LoadFile.FitsGroup}
-use Rattle.hunk_files.proofs.FillingLaws.{group_relocated}
+use Rattle.hunk_files.proofs.image.FillingLaws.{group_relocated}
 use Rattle.hunk_files.proofs.load.filling.relocate_groups.Goals as goal
 
 pub relocating-preserved : goal.relocating-preserved

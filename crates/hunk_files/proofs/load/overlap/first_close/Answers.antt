@@ -1,5 +1,5 @@
 use Rattle.std.proofs.Common.{arith}
-use Rattle.hunk_files.proofs.Rising.{none_apart}
+use Rattle.hunk_files.proofs.image.Rising.{none_apart}
 use Rattle.hunk_files.proofs.load.overlap.first_close.Goals as goal
 
 pub returns : goal.returns

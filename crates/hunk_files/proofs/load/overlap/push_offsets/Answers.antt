@@ -3,7 +3,7 @@ use Rattle.std.specs.Slice.Iter.{iter_rest}
 use Rattle.std.proofs.lemmas.List.Folds.{flat_map-map}
 use Rattle.hunk_blocks.specs.{declared.groups.Group.Group, Views.group_of}
 use Rattle.hunk_files.specs.Image.{offsets, group_relocations}
-use Rattle.hunk_files.proofs.OffsetLists.{group_offsets, offsets_done, offsets_first}
+use Rattle.hunk_files.proofs.image.OffsetLists.{group_offsets, offsets_done, offsets_first}
 use Rattle.hunk_files.proofs.load.overlap.push_offsets.Goals as goal
 
 pub pushing-preserved : goal.pushing-preserved

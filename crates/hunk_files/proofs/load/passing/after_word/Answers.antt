@@ -1,7 +1,7 @@
 use Rattle.std.proofs.Common.{◌≡◌, ℕ, ◌+◌, ◌*◌, ◌≤◌, Bool, List, length, slice_index, Some, None, ap, arith, sym, ◌∙◌}
 use Rattle.hunk_words.specs.{Bits.kind, Longs.longs}
 use Rattle.hunk_words.proofs.LongLaws.{length-longs}
-use Rattle.hunk_blocks.specs.{PhaseSteps.begin, declared.phase.Phase.Phase}
+use Rattle.hunk_grammar.specs.{PhaseSteps.begin, declared.phase.Phase.Phase}
 use Rattle.hunk_grammar.specs.Roles.{refuse_word}
 use Rattle.hunk_files.specs.Passing.{BeginsBlock, content, counted, groups, symbols}
 use Rattle.hunk_files.proofs.load.passing.after_word.Goals as goal

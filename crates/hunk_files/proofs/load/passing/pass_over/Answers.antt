@@ -1,5 +1,5 @@
 use Rattle.std.proofs.Common.{rules, ◌≡◌, arith}
-use Rattle.hunk_blocks.specs.{Parts.Part as parts, PhaseSteps.part_at}
+use Rattle.hunk_grammar.specs.{BlockParts.Part as parts, PhaseSteps.part_at}
 use Rattle.hunk_files.specs.Passing.{nothing, passed_rows, passed_blocks}
 use Rattle.hunk_files.proofs.load.passing.pass_over.Goals as goal
 

@@ -1,6 +1,7 @@
-use Rattle.std.proofs.Common.{◌≡◌, ℕ, ◌+◌, ◌*◌, Bool, arith, ap, ap₂, sym, subst, ◌∙◌, slice_index, if◌then◌else◌, Some, IfErr}
+use Rattle.std.proofs.Common.{◌≡◌, ℕ, ◌+◌, ◌*◌, ◌/◌, ◌≤◌, List, length, Bool, arith, ap, ap₂, sym, subst, ◌∙◌, slice_index, if◌then◌else◌, Some, IfErr}
 use Rattle.hunk_words.specs.Longs.{longs, IsBytes}
 use Rattle.hunk_words.specs.Bits.{entry_longs, size_longs}
+use Rattle.std.proofs.lemmas.List.{take_all}
 use Rattle.hunk_words.specs.declared.reason.Reason.{Reason}
 use Rattle.hunk_words.specs.declared.reason.Reason.TheVariants as reasons
 use Rattle.hunk_words.proofs.LongLaws.{length-longs}
@@ -10,10 +11,12 @@ use Rattle.hunk_grammar.specs.Positions.{role_at}
 use Rattle.hunk_grammar.specs.declared.position.Position.{Position}
 use Rattle.hunk_files.specs.Entries.{entry_at, entry_after}
 use Rattle.hunk_files.specs.Fault.{HasFault}
+use Rattle.hunk_files.specs.FileParts.{IsLoadPart}
+use Rattle.hunk_files.specs.ReaderPosition.{part_in}
 use Rattle.hunk_files.specs.declared.load.walk.DeclaredHunk.{DeclaredHunk}
-use Rattle.hunk_files.proofs.LoadWalks.{Walks, start_walk, refused, ends, opens, passes, ends_early}
-use Rattle.hunk_files.proofs.PassedWalks.{walk_over}
-use Rattle.hunk_files.proofs.Passed.{passed_on}
+use Rattle.hunk_files.proofs.walk.LoadWalks.{Walks, start_walk, refused, ends, opens, passes, ends_early, part_here, part_at_end}
+use Rattle.hunk_files.proofs.{parts.FileParts.refuses, walk.PassedWalks.walk_over}
+use Rattle.hunk_files.proofs.walk.Passed.{passed_on}
 use Rattle.hunk_files.proofs.load.walk.walk.Goals as goal
 use Rattle.hunk_files.proofs.load.walk.walk.Goals.{then-is_between_hunks, else-is_between_hunks}
 
@@ -24,8 +27,10 @@ pub returns-in-Err : goal.returns-in-Err
 returns-in-Err c =
     let bytes = c.args.bytes.now in
     let w = c.walking in
-    refused bytes (λ i. omega (arith, c.type_inv.bytes i)) w.at w.position w.entry w.invariant (omega (arith, length-longs bytes)) c.word_at-word.result c.word_at-word.ensures c.in-Err.reason
-    (subst (λ r. IfErr r (λ (reason : Reason). refuse (role_at w.entry.longs w.position) c.word_at-word.result ≡ Some reason)) c.in-Err.is c.step_from.ensures.refusal)
+    let fault = refused bytes (λ i. omega (arith, c.type_inv.bytes i)) w.at w.position w.entry w.invariant (omega (arith, length-longs bytes)) c.word_at-word.result c.word_at-word.ensures c.in-Err.reason
+    (subst (λ r. IfErr r (λ (reason : Reason). refuse (role_at w.entry.longs w.position) c.word_at-word.result ≡ Some reason)) c.in-Err.is c.step_from.ensures.refusal) in
+    refuses (HasFault bytes) IsLoadPart (longs bytes) w.at c.in-Err.reason (part_in w.position) c.refusal_at.result c.refusal_at.ensures.fault c.refusal_at.ensures.part fault
+    (part_here bytes w.at w.position w.entry w.invariant (omega (arith, c.walking-test.true, length-longs bytes)))
 
 pub returns-in-Done : goal.returns-in-Done
 returns-in-Done c =
@@ -82,8 +87,11 @@ pub returns : goal.returns
 returns c =
     let bytes = c.args.bytes.now in
     let w = c.walking in
+    let all : length (longs bytes) ≤ w.at = omega (arith, c.walking-test.false, length-longs bytes) in
     let P : ℕ → Type 0 = λ n. HasFault bytes (4 * n) reasons.Truncated in
-    subst P (length-longs bytes) (ends_early bytes w.at w.position w.entry w.invariant (omega (arith, length-longs bytes)))
+    refuses (HasFault bytes) IsLoadPart (longs bytes) (length bytes / 4) reasons.Truncated (part_in w.position) c.refusal_at-2.result c.refusal_at-2.ensures.fault c.refusal_at-2.ensures.part
+    (subst P (length-longs bytes) (ends_early bytes w.at w.position w.entry w.invariant all))
+    (subst (λ (ws : List ℕ). IsLoadPart ws (part_in w.position)) (sym (take_all (length bytes / 4) (longs bytes) (omega (arith, length-longs bytes)))) (part_at_end bytes w.at w.position w.entry w.invariant all))
 
 pub walking-smaller : goal.walking-smaller
 walking-smaller c =

@@ -1,5 +1,5 @@
 use Rattle.std.proofs.Common.{◌-◌}
-use Rattle.hunk_files.proofs.LoadWalks.{Walks}
+use Rattle.hunk_files.proofs.walk.LoadWalks.{Walks}
 use Rattle.hunk_files.proofs.load.walk.walk.Given as goal
 
 abbrev pub invariant-walking : goal.invariant-walking

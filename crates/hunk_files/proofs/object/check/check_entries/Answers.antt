@@ -1,8 +1,8 @@
 use Rattle.std.proofs.Common.{◌+◌, ◌*◌, ℕ, length, subst, ◌∙◌, arith}
 use Rattle.hunk_blocks.specs.{Parts.ext_text, Values.ExtEntry, Views.entry_of}
 use Rattle.hunk_files.specs.PlacedFindings.{entries_findings_at, entry_findings_at}
-use Rattle.hunk_files.proofs.{FindingSteps.taken_on, OffsetsWithin.{first_is, offsets_within}}
-use Rattle.hunk_files.proofs.PlacedFindingLaws.{item_first}
+use Rattle.hunk_files.proofs.{findings.FindingSteps.taken_on, findings.OffsetsWithin.{first_is, offsets_within}}
+use Rattle.hunk_files.proofs.findings.PlacedFindingLaws.{item_first}
 use Rattle.hunk_files.proofs.object.check.check_entries.Goals as goal
 
 pub check_entry-requires : goal.check_entry-requires

@@ -2,7 +2,7 @@ use Rattle.std.proofs.Common.{length}
 use Rattle.std.specs.List.{AllByRecursion}
 use Rattle.hunk_blocks.specs.Values.{IsExtEntry}
 use Rattle.hunk_files.specs.PlacedFindings.{entries_findings_at}
-use Rattle.hunk_files.proofs.FindingSteps.{TakenUpTo}
+use Rattle.hunk_files.proofs.findings.FindingSteps.{TakenUpTo}
 use Rattle.hunk_files.proofs.object.check.check_entries.Given as goal
 
 abbrev pub invariant-checking : goal.invariant-checking

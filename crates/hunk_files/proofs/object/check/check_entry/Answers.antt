@@ -1,6 +1,6 @@
 use Rattle.std.proofs.Common.{◌+◌, ◌-◌, ◌*◌, ℕ, List, length, ap, arith}
 use Rattle.hunk_files.specs.{Findings.outside, PlacedFindings.{offsets_findings_at, standing_at}}
-use Rattle.hunk_files.proofs.FindingSteps.{taken_on}
+use Rattle.hunk_files.proofs.findings.FindingSteps.{taken_on}
 use Rattle.hunk_files.proofs.object.check.check_entry.Goals as goal
 
 pub checking-preserved : goal.checking-preserved

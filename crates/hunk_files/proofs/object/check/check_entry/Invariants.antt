@@ -1,6 +1,6 @@
 use Rattle.std.proofs.Common.{◌≡◌, ◌+◌, ◌-◌, ◌*◌, length}
 use Rattle.hunk_files.specs.{Findings.outside, PlacedFindings.offsets_findings_at}
-use Rattle.hunk_files.proofs.FindingSteps.{TakenUpTo}
+use Rattle.hunk_files.proofs.findings.FindingSteps.{TakenUpTo}
 use Rattle.hunk_files.proofs.object.check.check_entry.Given as goal
 
 abbrev pub invariant-checking : goal.invariant-checking

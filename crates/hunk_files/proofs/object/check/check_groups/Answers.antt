@@ -1,7 +1,7 @@
 use Rattle.std.proofs.Common.{ℕ, subst}
 use Rattle.hunk_blocks.specs.{Parts.group_text, Views.group_of}
 use Rattle.hunk_files.specs.PlacedFindings.{group_findings_at, groups_findings_at}
-use Rattle.hunk_files.proofs.{FindingSteps.taken_on, PlacedFindingLaws.item_first}
+use Rattle.hunk_files.proofs.{findings.FindingSteps.taken_on, findings.PlacedFindingLaws.item_first}
 use Rattle.hunk_files.proofs.object.check.check_groups.Goals as goal
 
 pub checking-preserved : goal.checking-preserved

@@ -1,6 +1,6 @@
 use Rattle.std.proofs.Common.{◌≡◌, length}
 use Rattle.hunk_files.specs.PlacedFindings.{groups_findings_at}
-use Rattle.hunk_files.proofs.FindingSteps.{TakenUpTo}
+use Rattle.hunk_files.proofs.findings.FindingSteps.{TakenUpTo}
 use Rattle.hunk_files.proofs.object.check.check_groups.Given as goal
 
 abbrev pub invariant-checking : goal.invariant-checking

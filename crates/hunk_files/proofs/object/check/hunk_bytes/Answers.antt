@@ -1,6 +1,6 @@
 use Rattle.std.proofs.Common.{List, ap, ◌∙◌}
 use Rattle.hunk_blocks.specs.{Placed.Placed, Values.{BlockValue, content_bytes}}
-use Rattle.hunk_files.proofs.FindingSteps.{content_found}
+use Rattle.hunk_files.proofs.findings.FindingSteps.{content_found}
 use Rattle.hunk_files.proofs.object.check.hunk_bytes.Goals as goal
 
 pub returns-in-Some-content_bytes : goal.returns-in-Some-content_bytes

@@ -1,4 +1,4 @@
-use Rattle.hunk_files.proofs.FindingSteps.{ContentLeft}
+use Rattle.hunk_files.proofs.findings.FindingSteps.{ContentLeft}
 use Rattle.hunk_files.proofs.object.check.hunk_bytes.Given as goal
 
 abbrev pub invariant-finding : goal.invariant-finding

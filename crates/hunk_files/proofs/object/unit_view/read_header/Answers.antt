@@ -1,7 +1,7 @@
 use Rattle.std.proofs.Common.{◌≡◌, ◌-◌, List, ℕ, length, drop, take, get_or, ap, ◌∙◌, arith}
 use Rattle.std.proofs.lemmas.List.{take_rest, length-drop}
 use Rattle.hunk_words.specs.Longs.{longs}
-use Rattle.hunk_files.proofs.UnitReading.{count_is, header_inside}
+use Rattle.hunk_files.proofs.cuts.UnitReading.{count_is, header_inside}
 use Rattle.hunk_files.proofs.object.unit_view.read_header.Goals as goal
 
 pub slice_bounds-unit-count : goal.slice_bounds-unit-count

@@ -1,9 +1,7 @@
 use Rattle.std.proofs.Common.{◌≡◌, ℕ, zero, suc, ◌-◌, ◌<◌, arith, ap, sym, ◌∙◌, subst}
-use Rattle.hunk_grammar.specs.declared.phase.OpenHunk.{OpenHunk}
-use Rattle.hunk_blocks.specs.declared.phase.Phase.{Phase}
-use Rattle.hunk_grammar.specs.declared.position.Position.{Position}
+use Rattle.hunk_grammar.specs.{declared.position.OpenHunk.OpenHunk, declared.position.Position.Position, Positions.{after, onward, pass, pass_in}}
+use Rattle.hunk_grammar.specs.declared.phase.Phase.{Phase}
 use Rattle.hunk_grammar.specs.declared.position.Position.TheVariants as positions
-use Rattle.hunk_grammar.specs.Positions.{after, onward, pass, pass_in}
 use Rattle.hunk_grammar.proofs.position.Position.pass.Goals as goal
 
 pass_some : (o : OpenHunk) (phase : Phase) (n : ℕ) → 0 < n → pass_in o phase (n - 1) ≡ pass (positions.Body o phase) n

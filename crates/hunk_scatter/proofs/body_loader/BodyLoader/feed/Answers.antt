@@ -1,7 +1,6 @@
 use Rattle.std.proofs.Common.{◌≡◌, ◌++◌, ◌∙◌, ℕ, List, None, Some, Ok, inr, length, take, length-take, ap, refl, sym, arith}
 use Rattle.hunk_words.specs.declared.fault.Fault.{Fault}
-use Rattle.hunk_scatter.specs.BodyLoaderFields.{FeedsOrRefuses, FeedsPiece}
-use Rattle.hunk_scatter.specs.LoaderValues.{BodyLoaderValue, IsBodyRefusal}
+use Rattle.hunk_scatter.specs.{BodyLoaderFields.{FeedsOrRefuses, FeedsPiece}, LoaderValues.{BodyLoaderValue, IsBodyRefusal}}
 use Rattle.hunk_scatter.proofs.Faults.{no_refusal_on}
 use Rattle.hunk_scatter.proofs.body_loader.BodyLoader.feed.Goals.{in-Some-refused, in-None}
 use Rattle.hunk_scatter.proofs.body_loader.BodyLoader.feed.Goals as goal

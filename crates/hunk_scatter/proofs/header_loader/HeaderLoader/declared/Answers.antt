@@ -1,7 +1,6 @@
 use Rattle.std.proofs.Common.{◌≡◌, List, sym, ap, subst, ◌∙◌}
-use Rattle.hunk_scatter.specs.{HeaderBytes.{IsHeaderTable, header_bytes}, LoaderValues.HeaderLoaderValue}
-use Rattle.hunk_scatter.specs.{HeaderLoaderFields.DeclaredInvariant, Rows.entries_of}
-use Rattle.hunk_scatter.proofs.{HeaderFields.{table_declared}, BodyFields.none_of}
+use Rattle.hunk_scatter.specs.{HeaderBytes.{IsHeaderTable, header_bytes}, LoaderValues.HeaderLoaderValue, HeaderLoaderFields.DeclaredInvariant, Rows.entries_of}
+use Rattle.hunk_scatter.proofs.{HeaderFields.table_declared, BodyFields.none_of}
 use Rattle.hunk_files.specs.declared.row.Row.{Row}
 use Rattle.hunk_scatter.proofs.header_loader.HeaderLoader.declared.Goals as goal
 

@@ -4,10 +4,8 @@ use Rattle.hunk_grammar.specs.declared.file_kind.Sniff.TheVariants as sniffs
 use Rattle.hunk_files.specs.FileParts.{IsPartAt}
 use Rattle.hunk_files.specs.declared.part.Part.TheVariants as parts
 use Rattle.hunk_scatter.specs.{HeaderBytes.{IsHeader, MayGoOnInHeader}, HeaderFaults.{ExceedsBudget, IsHeaderFault}}
-use Rattle.hunk_scatter.specs.{HeaderLoaderFields.StopsInPiece, LoaderValues.HeaderLoaderValue}
-use Rattle.hunk_scatter.specs.LoadOutcomes.{GoesPastNoHeader}
-use Rattle.hunk_scatter.proofs.{Faults.{rest_within, fed_on}, HeaderEnds.heading_ends, Feeding.rest_bytes}
-use Rattle.hunk_scatter.proofs.HeaderFields.{piece_within}
+use Rattle.hunk_scatter.specs.{HeaderLoaderFields.StopsInPiece, LoaderValues.HeaderLoaderValue, LoadOutcomes.GoesPastNoHeader}
+use Rattle.hunk_scatter.proofs.{Faults.{rest_within, fed_on}, HeaderEnds.heading_ends, Feeding.rest_bytes, HeaderFields.piece_within}
 use Rattle.hunk_scatter.proofs.HeaderStops.{stop_ends, stop_fault, stop_in_header, stop_over, stop_accepts, stops_on}
 use Rattle.hunk_scatter.proofs.header_loader.HeaderLoader.feed.Goals.{else-loop-taken-test, then-loop-taken-test+in-Ok-eq0}
 use Rattle.hunk_scatter.proofs.header_loader.HeaderLoader.feed.Goals as goal

@@ -1,6 +1,6 @@
 use Rattle.std.proofs.Common.{rules, ◌+◌, ◌-◌, ◌<◌, List, ℕ, ◌++◌, take, drop, length-append, take-append-drop, append_assoc, arith, sym, ap, subst, ◌∙◌}
 use Rattle.hunk_scatter.specs.{HeaderLoaderFields.HeaderStop, LoaderValues.HeaderLoaderValue}
-use Rattle.hunk_scatter.proofs.Completing.{completes}
+use Rattle.hunk_scatter.proofs.CompletedLongs.{completes}
 use Rattle.hunk_scatter.proofs.HeaderFields.{heading_as, heading_word, heading_stop, heading_four, heading_unrefused, heading_seen_whole, heading_seen_not_whole, heading_feeds}
 use Rattle.hunk_scatter.proofs.header_loader.HeaderLoader.take_long.Goals as goal
 

@@ -2,13 +2,11 @@ use Rattle.std.proofs.Common.{inl, inr, ◌*◌, ◌/◌, ◌++◌, length, sym,
 use Rattle.hunk_grammar.specs.declared.file_kind.Sniff.TheVariants as sniffs
 use Rattle.hunk_files.specs.{Fault.IsTruncated, FileParts.IsPartAt}
 use Rattle.hunk_files.specs.declared.part.Part.TheVariants as parts
-use Rattle.hunk_scatter.specs.{HeaderBytes.IsHeader, HeaderFaults.ExceedsBudget}
-use Rattle.hunk_scatter.specs.LoaderValues.{HeaderLoaderValue, HasNoRefusal}
+use Rattle.hunk_scatter.specs.{HeaderBytes.IsHeader, HeaderFaults.ExceedsBudget, LoaderValues.{HeaderLoaderValue, HasNoRefusal}}
 use Rattle.hunk_scatter.specs.HeaderOwing.{HasRowsToCome, HasHeaderToCome}
 use Rattle.hunk_scatter.proofs.BodyFields.{none_of}
 use Rattle.hunk_scatter.proofs.HeaderFields.{heading_clean, heading_truncated, heading_within, heading_not_whole, heading_table, heading_least}
-use Rattle.hunk_scatter.proofs.HeaderOwed.{rows_to_come, header_to_come, no_rows_to_come, no_header_to_come}
-use Rattle.hunk_scatter.proofs.PartLaws.{header_next}
+use Rattle.hunk_scatter.proofs.{HeaderOwed.{rows_to_come, header_to_come, no_rows_to_come, no_header_to_come}, PartLaws.header_next}
 use Rattle.hunk_scatter.proofs.header_loader.HeaderLoader.want.Goals as goal
 
 pub returns-then-is_after_header-clause-clean : goal.returns-then-is_after_header-clause-clean

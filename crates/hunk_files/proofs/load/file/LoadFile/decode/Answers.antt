@@ -1,5 +1,5 @@
 use Rattle.std.proofs.lemmas.Result.{err_from_is_err_and}
-use Rattle.hunk_files.proofs.LoadCuts.{begins}
+use Rattle.hunk_files.proofs.cuts.LoadCuts.{begins}
 use Rattle.hunk_files.proofs.load.file.LoadFile.decode.Goals as goal
 
 pub returns-in_err-file-clause-memory : goal.returns-in_err-file-clause-memory

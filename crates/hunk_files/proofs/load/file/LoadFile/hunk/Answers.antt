@@ -1,6 +1,6 @@
 use Rattle.std.proofs.Common.{List, ℕ, ap, sym, ◌∙◌, Some, get_or, arith}
 use Rattle.hunk_blocks.specs.Values.{BlockValue}
-use Rattle.hunk_files.proofs.FileViews.{blocks_at}
+use Rattle.hunk_files.proofs.views.FileViews.{blocks_at}
 use Rattle.hunk_files.proofs.load.file.LoadFile.hunk.Goals as goal
 
 pub returns : goal.returns

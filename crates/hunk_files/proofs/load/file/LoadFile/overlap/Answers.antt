@@ -4,7 +4,7 @@ use Rattle.std.proofs.lemmas.List.Sorted.{IsNonDecreasingBy-from_sort}
 use Rattle.hunk_blocks.specs.Values.{BlockValue}
 use Rattle.hunk_files.specs.{Image.{offsets, block_relocations}, Overlap.{IsFirstOverlap, AreApart, hunk_offsets}}
 use Rattle.hunk_files.specs.Tables.{hunk_of}
-use Rattle.hunk_files.proofs.{FileViews.hunk_at, OffsetLists.offsets_at, Rising.{apart_in_order, first_in_order}}
+use Rattle.hunk_files.proofs.{views.FileViews.hunk_at, image.OffsetLists.offsets_at, image.Rising.{apart_in_order, first_in_order}}
 use Rattle.hunk_files.proofs.load.file.LoadFile.overlap.Goals as goal
 
 pub first_close-requires : goal.first_close-requires

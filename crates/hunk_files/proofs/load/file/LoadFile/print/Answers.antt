@@ -1,7 +1,7 @@
 use Rattle.std.proofs.Common.{◌++◌, ◌∙◌, map, ap, append_assoc}
 use Rattle.hunk_words.specs.Longs.{bytes_of}
 use Rattle.hunk_files.specs.Tables.{hunk_of, row_texts}
-use Rattle.hunk_files.proofs.TextParts.{all_blocks, printed_two, text_split}
+use Rattle.hunk_files.proofs.cuts.TextParts.{all_blocks, printed_two, text_split}
 use Rattle.hunk_files.proofs.load.file.LoadFile.print.Goals as goal
 
 pub returns : goal.returns

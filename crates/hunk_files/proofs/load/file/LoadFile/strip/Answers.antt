@@ -1,7 +1,7 @@
 use Rattle.std.proofs.Common.{List, map, ap, sym, ◌∙◌, subst, arith}
 use Rattle.hunk_files.specs.{declared.load.hunk.LoadHunk.LoadHunk, Image.HasMemoryOf, LoadFile.{LoadFileValue, IsLoadFile}}
 use Rattle.hunk_files.specs.{Strip.strip_file, Tables.hunk_of}
-use Rattle.hunk_files.proofs.{StripLaws.{file_kept, memory_kept}, FileViews.whole_slice}
+use Rattle.hunk_files.proofs.{strip.StripLaws.{file_kept, memory_kept}, views.FileViews.whole_slice}
 use Rattle.hunk_files.proofs.load.file.LoadFile.strip.Goals as goal
 
 pub invariant_of-result : goal.invariant_of-result

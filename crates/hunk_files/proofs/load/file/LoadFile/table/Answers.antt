@@ -1,5 +1,5 @@
 use Rattle.std.proofs.Common.{ℕ, ap, sym, ◌∙◌, Some, get_or, arith}
-use Rattle.hunk_files.proofs.FileViews.{entry_at}
+use Rattle.hunk_files.proofs.views.FileViews.{entry_at}
 use Rattle.hunk_files.proofs.load.file.LoadFile.table.Goals as goal
 
 pub returns : goal.returns

@@ -1,6 +1,6 @@
 use Rattle.std.proofs.Common.{drop, map}
 use Rattle.hunk_files.specs.{InPlace.BeginsWithHunks, Tables.hunk_of}
-use Rattle.hunk_files.proofs.{HunksInPlace.{hunk_text, seen_hunks}, PartsInTurn.Taken}
+use Rattle.hunk_files.proofs.{views.HunksInPlace.{hunk_text, seen_hunks}, views.PartsInTurn.Taken}
 use Rattle.hunk_files.proofs.load.hunk_views.LoadHunkViews.keep.Given as goal
 
 abbrev pub invariant-keeping : goal.invariant-keeping

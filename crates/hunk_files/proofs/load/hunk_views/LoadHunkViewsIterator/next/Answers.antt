@@ -1,8 +1,8 @@
 use Rattle.std.proofs.Common.{List, drop, sym, ap, ◌∙◌}
 use Rattle.hunk_blocks.specs.{Parts.block_text, Placed.Placed}
 use Rattle.hunk_files.specs.{LoadFile.{TableEntry, LoadFileValue}, Tables.size_entry, InPlace.hunks_in}
-use Rattle.hunk_files.proofs.HunksInPlace.{hunk_gives, hunk_text, hunks_in-nil, next_hunk_of}
-use Rattle.hunk_files.proofs.PartsInTurn.{end_of, end_passed, part_less}
+use Rattle.hunk_files.proofs.views.HunksInPlace.{hunk_gives, hunk_text, hunks_in-nil, next_hunk_of}
+use Rattle.hunk_files.proofs.views.PartsInTurn.{end_of, end_passed, part_less}
 use Rattle.hunk_files.proofs.load.hunk_views.LoadHunkViewsIterator.next.Goals as goal
 
 pub returns-in_default-clause-steps : goal.returns-in_default-clause-steps

@@ -3,7 +3,7 @@ use Rattle.std.proofs.lemmas.List.{take_rest}
 use Rattle.hunk_words.specs.{Bits.entry_longs, Longs.longs}
 use Rattle.hunk_words.proofs.PartLaws.{longs-drop}
 use Rattle.hunk_files.specs.{LoadFile.TableEntry, InPlace.BeginsWithTable, Cuts.table_cut}
-use Rattle.hunk_files.proofs.LoadCuts.{next_entry}
+use Rattle.hunk_files.proofs.cuts.LoadCuts.{next_entry}
 use Rattle.hunk_files.proofs.load.table.TableIterIterator.next.Goals as goal
 
 -- the longwords after the entry

@@ -3,10 +3,10 @@ use Rattle.std.specs.List.{AllByRecursion}
 use Rattle.hunk_blocks.specs.{Placed.Placed, Values.BlockValue}
 use Rattle.hunk_files.specs.{Filling.{Fits, memory_of}, Hunks.block_texts, InPlace.{blocks_in, hunks_in}}
 use Rattle.hunk_files.specs.{LoadFile.{IsHunk, TableEntry}, Tables.size_entry}
-use Rattle.hunk_files.proofs.BlocksInPlace.{hunk_value}
-use Rattle.hunk_files.proofs.FillingLaws.{all_put, hunk_room, image_put, next_fits, no_images, part_size}
-use Rattle.hunk_files.proofs.HunksInPlace.{all_hunks_at, hunks_begin_at, hunks_in-nil, next_hunk_of}
-use Rattle.hunk_files.proofs.LoadCuts.{load_value}
+use Rattle.hunk_files.proofs.views.BlocksInPlace.{hunk_value}
+use Rattle.hunk_files.proofs.image.FillingLaws.{all_put, hunk_room, image_put, next_fits, no_images, part_size}
+use Rattle.hunk_files.proofs.views.HunksInPlace.{all_hunks_at, hunks_begin_at, hunks_in-nil, next_hunk_of}
+use Rattle.hunk_files.proofs.cuts.LoadCuts.{load_value}
 use Rattle.hunk_files.proofs.load.view.LoadView.fill_images.Goals as goal
 
 pub filling-init : goal.filling-init

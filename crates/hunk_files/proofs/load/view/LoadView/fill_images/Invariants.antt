@@ -1,6 +1,6 @@
 use Rattle.std.proofs.Common.{◌≡◌, drop}
 use Rattle.hunk_files.specs.InPlace.{BeginsWithHunks, hunks_in}
-use Rattle.hunk_files.proofs.FillingLaws.{ImagesLeft}
+use Rattle.hunk_files.proofs.image.FillingLaws.{ImagesLeft}
 use Rattle.hunk_files.proofs.load.view.LoadView.fill_images.Given as goal
 
 abbrev pub invariant-filling : goal.invariant-filling

@@ -1,7 +1,7 @@
 use Rattle.std.proofs.Common.{length, sym, ap, subst, ◌∙◌, arith}
 use Rattle.std.proofs.lemmas.List.{length-map}
 use Rattle.hunk_files.specs.LoadFile.{HunkValue, LoadFileValue, IsLoadFile}
-use Rattle.hunk_files.proofs.{LoadCuts.load_value, TableReading.size_is}
+use Rattle.hunk_files.proofs.{cuts.LoadCuts.load_value, cuts.TableReading.size_is}
 use Rattle.hunk_files.proofs.load.view.LoadView.hunks.Goals as goal
 
 pub word_at-requires : goal.word_at-requires

@@ -1,6 +1,6 @@
 use Rattle.std.proofs.Common.{◌≡◌, ◌*◌, ℕ, [], length, ap, sym, subst, ◌∙◌}
 use Rattle.hunk_files.specs.{Items.{ItemsAt, items_at, load_items}, LoadFile.LoadFileValue, Tables.header_text}
-use Rattle.hunk_files.proofs.{ItemStart.{load_items_are, load_start}, LoadCuts.load_value}
+use Rattle.hunk_files.proofs.{views.ItemStart.{load_items_are, load_start}, cuts.LoadCuts.load_value}
 use Rattle.hunk_files.proofs.load.view.LoadView.items.Goals as goal
 
 -- the byte after the header

@@ -1,5 +1,5 @@
 use Rattle.std.proofs.Common.{sym, ◌∙◌}
-use Rattle.hunk_files.proofs.{HunksInPlace.{all_hunks_at, hunks_begin_at}, LoadCuts.load_value}
+use Rattle.hunk_files.proofs.{views.HunksInPlace.{all_hunks_at, hunks_begin_at}, cuts.LoadCuts.load_value}
 use Rattle.hunk_files.proofs.load.view.LoadView.iter.Goals as goal
 
 pub invariant_of-result : goal.invariant_of-result

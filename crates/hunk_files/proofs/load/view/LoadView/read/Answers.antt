@@ -2,23 +2,23 @@ use Rattle.std.proofs.Common.{ℕ, List, [], take, refl, sym, ap, subst, ◌∙�
 use Rattle.std.proofs.lemmas.Result.{err_from_is_err_and}
 use Rattle.hunk_words.specs.Longs.{bytes_of}
 use Rattle.hunk_files.specs.{Fault.HasLoadText, InPlace.AreLoadFile, LoadFile.{LoadFileValue, IsLoadFile}, LoadText.text}
-use Rattle.hunk_files.proofs.{LoadCuts.load_value, Refusals.{fault_not_memory, fault_of_load}, Scan.no_fault}
+use Rattle.hunk_files.proofs.{cuts.LoadCuts.load_value, walk.Refusals.{fault_not_memory, fault_of_load}, walk.Scan.no_fault}
 use Rattle.hunk_files.proofs.load.view.LoadView.read.Goals as goal
 
 pub returns-in_err-size-clause-none : goal.returns-in_err-size-clause-none
 returns-in_err-size-clause-none c =
     let p = err_from_is_err_and c.from_residual.result c.from_residual.ensures.1 in
-    rw p.1 (λ file. no_fault c.args.bytes.now c.in_err-size.field-0.0.place c.in_err-size.field-0.0.reason file c.in_err-size.ensures)
+    rw p.1 (λ file. no_fault c.args.bytes.now c.in_err-size.field-0.0.fault.place c.in_err-size.field-0.0.fault.reason file c.in_err-size.ensures.0)
 
 pub returns-in_err-size-clause-memory : goal.returns-in_err-size-clause-memory
 returns-in_err-size-clause-memory c =
     let p = err_from_is_err_and c.from_residual.result c.from_residual.ensures.1 in
-    rw (p.1, p.2) (fault_not_memory c.args.bytes.now c.in_err-size.field-0.0.place c.in_err-size.field-0.0.reason c.in_err-size.ensures)
+    rw (p.1, p.2) (fault_not_memory c.args.bytes.now c.in_err-size.field-0.0.fault.place c.in_err-size.field-0.0.fault.reason c.in_err-size.ensures.0)
 
 pub returns-in_err-size-clause-own_reasons : goal.returns-in_err-size-clause-own_reasons
 returns-in_err-size-clause-own_reasons c =
     let p = err_from_is_err_and c.from_residual.result c.from_residual.ensures.1 in
-    rw (p.1, p.2) (fault_of_load c.args.bytes.now c.in_err-size.field-0.0.place c.in_err-size.field-0.0.reason c.in_err-size.ensures)
+    rw (p.1, p.2) (fault_of_load c.args.bytes.now c.in_err-size.field-0.0.fault.place c.in_err-size.field-0.0.fault.reason c.in_err-size.ensures.0)
 
 -- The bytes up to the end of the file are the file.
 whole : (bytes : List ℕ) (size : ℕ) → HasLoadText bytes size → AreLoadFile (take size bytes)

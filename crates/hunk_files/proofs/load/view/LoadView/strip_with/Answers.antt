@@ -3,7 +3,7 @@ use Rattle.std.specs.{List.flat_map, Prelude.slice_range}
 use Rattle.hunk_words.specs.Longs.{bytes_of}
 use Rattle.hunk_blocks.specs.Placed.{Placed}
 use Rattle.hunk_files.specs.{Items.{ItemValue, ItemsStand, load_items}, ItemViews.kept_text, LoadFile.LoadFileValue, Tables.header_text}
-use Rattle.hunk_files.proofs.{FileItems.hunks_kept, ItemStart.load_items_stand, LoadCuts.load_value, LoadRanges.{blocks_of, stripped_text}}
+use Rattle.hunk_files.proofs.{views.FileItems.hunks_kept, views.ItemStart.load_items_stand, cuts.LoadCuts.load_value, strip.LoadRanges.{blocks_of, stripped_text}}
 use Rattle.hunk_files.proofs.load.view.LoadView.strip_with.Goals as goal
 
 pub strip_items-requires : goal.strip_items-requires

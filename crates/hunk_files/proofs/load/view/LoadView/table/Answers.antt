@@ -4,7 +4,7 @@ use Rattle.hunk_words.specs.Longs.{longs}
 use Rattle.hunk_words.proofs.PartLaws.{longs-drop}
 use Rattle.hunk_files.specs.{LoadFile.{HunkValue, LoadFileValue}, LoadText.table, InPlace.BeginsWithTable}
 use Rattle.hunk_files.specs.Cuts.{table_cut}
-use Rattle.hunk_files.proofs.{LoadCuts.{load_value, table_begins, table_value}, TableReading.size_is}
+use Rattle.hunk_files.proofs.{cuts.LoadCuts.{load_value, table_begins, table_value}, cuts.TableReading.size_is}
 use Rattle.hunk_files.proofs.load.view.LoadView.table.Goals as goal
 
 pub slice_bounds-result-count : goal.slice_bounds-result-count

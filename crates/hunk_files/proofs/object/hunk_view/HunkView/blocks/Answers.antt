@@ -1,7 +1,7 @@
 use Rattle.std.proofs.Common.{sym, ap, subst, ◌∙◌}
 use Rattle.hunk_blocks.specs.Placed.{Placed}
 use Rattle.hunk_files.specs.ObjectFile.{ObjectHunk, IsObjectHunk}
-use Rattle.hunk_files.proofs.ObjectViewLaws.{hunk_at_is}
+use Rattle.hunk_files.proofs.views.ObjectViewLaws.{hunk_at_is}
 use Rattle.hunk_files.proofs.object.hunk_view.HunkView.blocks.Goals as goal
 
 pub returns-clause-value : goal.returns-clause-value

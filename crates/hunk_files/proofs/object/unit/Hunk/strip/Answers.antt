@@ -1,7 +1,7 @@
 use Rattle.std.proofs.Common.{◌≡◌, rules, sym, subst, ap, ◌∙◌}
 use Rattle.std.proofs.lemmas.List.Elements.{filter_from_retain}
 use Rattle.hunk_files.specs.{ObjectFile.IsObjectHunk, Strip.{is_kept, strip_blocks}}
-use Rattle.hunk_files.proofs.StripSteps.{hunk_kept}
+use Rattle.hunk_files.proofs.strip.StripSteps.{hunk_kept}
 use Rattle.hunk_files.proofs.object.unit.Hunk.strip.Goals as goal
 
 pub invariant_of-self : goal.invariant_of-self

@@ -1,7 +1,7 @@
 use Rattle.std.proofs.Common.{sym, ap, subst, ◌∙◌}
 use Rattle.hunk_files.specs.ObjectFile.{UnitValue, IsUnit}
 use Rattle.hunk_blocks.specs.Placed.{Placed}
-use Rattle.hunk_files.proofs.ObjectViewLaws.{unit_at_is}
+use Rattle.hunk_files.proofs.views.ObjectViewLaws.{unit_at_is}
 use Rattle.hunk_files.proofs.object.unit_view.UnitView.name.Goals as goal
 
 pub returns-clause-value : goal.returns-clause-value

@@ -1,12 +1,11 @@
 use Rattle.std.proofs.Common.{◌≡◌, ◌+◌, length}
-use Rattle.hunk_files.specs.PlacedFindings.{placed_findings, units_findings_at}
-use Rattle.hunk_files.proofs.FindingSteps.{TakenUpTo}
+use Rattle.hunk_files.specs.PlacedFindings.{placed_findings}
+use Rattle.hunk_files.proofs.{findings.FindingSteps.TakenUpTo, findings.PlacedFindingLaws.items_findings_at, cuts.UnitCounts.units_left}
 use Rattle.hunk_files.proofs.object.view.ObjectView.check_in_place.Given as goal
 
 abbrev pub invariant-checking : goal.invariant-checking
 invariant-checking g l =
-    (l.number + length l.units.value ≡ length l.fn.self)
-    × TakenUpTo g.T.Takes.takes l.fn.taker l.taker (units_findings_at l.number l.units.place l.units.value) (placed_findings l.fn.self)
-
-abbrev pub decreases-checking : goal.decreases-checking
-decreases-checking g l = length l.units.value
+    (goal.iterator-checking g).can_next l.item-iterator
+    × (goal.iterator-checking g).is_finite l.item-iterator
+    × (l.units + units_left l.item-iterator.value ≡ length l.fn.self)
+    × TakenUpTo g.T.Takes.takes l.fn.taker l.taker (items_findings_at l.spot l.item-iterator.place l.item-iterator.value) (placed_findings l.fn.self)

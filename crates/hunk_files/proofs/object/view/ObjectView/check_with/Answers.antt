@@ -1,7 +1,7 @@
 use Rattle.std.proofs.Common.{List, length, ap, arith}
 use Rattle.std.proofs.lemmas.List.{length-map}
 use Rattle.hunk_files.specs.{Findings.FindingValue, PlacedFindings.placed_findings}
-use Rattle.hunk_files.proofs.PlacedFindingLaws.{findings_placed}
+use Rattle.hunk_files.proofs.findings.PlacedFindingLaws.{findings_placed}
 use Rattle.hunk_files.proofs.object.view.ObjectView.check_with.Goals as goal
 
 pub returns-clause-few : goal.returns-clause-few

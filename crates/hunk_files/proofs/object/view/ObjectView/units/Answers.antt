@@ -1,28 +1,20 @@
-use Rattle.std.proofs.Common.{length, ap, sym, subst, ◌∙◌, arith}
-use Rattle.hunk_words.proofs.LongLaws.{length-bytes_of}
+use Rattle.std.proofs.Common.{List, ap, arith, ◌∙◌}
 use Rattle.hunk_blocks.specs.Placed.{Placed}
-use Rattle.hunk_files.specs.ObjectFile.{IsObjectFile, ObjectFileValue, object_text}
-use Rattle.hunk_files.proofs.{UnitCounts.fewer_units, UnitViewLaws.{units_of_is}}
+use Rattle.hunk_files.specs.{Items.ItemValue, ItemViews.item_seen}
+use Rattle.hunk_files.proofs.cuts.UnitCounts.{begins_unit, fewer_units, units_counted, units_left}
 use Rattle.hunk_files.proofs.object.view.ObjectView.units.Goals as goal
 
-pub returns-clause-file : goal.returns-clause-file
-returns-clause-file c =
-    subst IsObjectFile (sym (sym c.self.view_is ∙ units_of_is c.self.inside.bytes.now c.self.invariant)) c.self.invariant.is_object_file
+pub counting-init : goal.counting-init
+counting-init c =
+    (tt, tt, omega (arith, ap (λ (p : Placed (List ItemValue)). units_left p.value) (c.into_iter-item-iterator.ensures.into_iter_gives ∙ c.items-item-items.ensures.value), units_counted 0 c.args.self.now))
 
-pub returns-clause-few : goal.returns-clause-few
-returns-clause-few c =
+pub overflow_add-units : goal.overflow_add-units
+overflow_add-units c =
     omega (
       arith,
-      fewer_units c.self.inside.bytes.now c.self.invariant,
-      ap (λ (us : Placed ObjectFileValue). length us.value) c.at.ensures,
-      ap (λ (us : ObjectFileValue). length us) (units_of_is c.self.inside.bytes.now c.self.invariant),
-    )
-
-pub returns-clause-size : goal.returns-clause-size
-returns-clause-size c =
-    omega (
-      arith,
-      ap length c.self.invariant.text_is,
-      length-bytes_of (object_text c.self.invariant.value),
-      ap (λ (us : ObjectFileValue). length (object_text us)) (sym c.self.view_is ∙ units_of_is c.self.inside.bytes.now c.self.invariant),
+      c.counting.invariant.2,
+      ap (λ (p : Placed (List ItemValue)). units_left p.value) c.in-Some.ensures.steps.0,
+      ap (λ item. begins_unit (item_seen item).value) c.in-Unit.is,
+      c.items-item-items.ensures.size,
+      fewer_units c.args.self.now,
     )

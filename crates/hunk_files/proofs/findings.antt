@@ -1,0 +1,5 @@
+pub mod FindingCounts
+pub mod FindingSteps
+pub mod OffsetsWithin
+pub mod PlacedFindingLaws
+pub mod PlacedOffsets

@@ -1,0 +1,5 @@
+pub mod AddAt
+pub mod FillingLaws
+pub mod OffsetLists
+pub mod Rising
+pub mod Summed

@@ -1,0 +1,4 @@
+pub mod BlockPlaces
+pub mod HunkKeeping
+pub mod LoadKeeping
+pub mod UnitKeeping

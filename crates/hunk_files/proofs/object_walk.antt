@@ -1,0 +1,9 @@
+pub mod EntrySteps
+pub mod ObjectGoesOn
+pub mod ObjectOutcome
+pub mod ObjectPlaces
+pub mod ObjectProgress
+pub mod ObjectRefusals
+pub mod ObjectWalks
+pub mod OneObjectFault
+pub mod UnitFaults

@@ -1,0 +1,5 @@
+pub mod LoadRanges
+pub mod RangeLaws
+pub mod StripLaws
+pub mod StripSteps
+pub mod StripText

@@ -1,0 +1,12 @@
+pub mod BlocksInPlace
+pub mod FileItems
+pub mod FileViews
+pub mod HunkBlocks
+pub mod HunksInPlace
+pub mod ItemBlocks
+pub mod ItemLaws
+pub mod ItemStart
+pub mod ObjectViewLaws
+pub mod PartsInTurn
+pub mod PlaceLaws
+pub mod UnitViewLaws
