@@ -19,16 +19,16 @@ IsZero p = p.1 ≡ 0
 pub record Completes (n : BlockNext) : Type 0 where
   pub parts : List (Part × ℕ)
   pub body : BlockBody
-  pub run : Follows n parts (Whole body)
+  pub follows : Follows n parts (Whole body)
   pub go : AllByRecursion PartGoes parts
   pub zeros : AllByRecursion IsZero parts
 
 whole : (b : BlockBody) → Completes (Whole b)
-whole b = record { parts = []; body = b; run = refl; go = tt; zeros = tt }
+whole b = record { parts = []; body = b; follows = refl; go = tt; zeros = tt }
 
 -- a zero is read
 on_zero : (x : Inside) → refuse_inside (part_of x) 0 ≡ None → Completes (step_inside x 0) → Completes (Open x)
-on_zero x ok c = record { parts = (part_of x, 0) ∷ c.parts; body = c.body; run = (refl, c.run); go = ((omega arith, ok), c.go); zeros = (refl, c.zeros) }
+on_zero x ok c = record { parts = (part_of x, 0) ∷ c.parts; body = c.body; follows = (refl, c.follows); go = ((omega arith, ok), c.go); zeros = (refl, c.zeros) }
 
 filled : (f : Filling) (done : List ℕ) (owed : ℕ) → Completes (fill f done owed)
 filled f done zero = whole (filled_body f done)
@@ -106,12 +106,12 @@ completes (InExtOffsets entries word name value done owed) = referred entries wo
 
 -- What is read so is a body that fits, and its text is the longwords.
 pub run_fits : (word : ℕ) (n : BlockNext) (ps : List (Part × ℕ)) (b : BlockBody) → NextFits word n → AllByRecursion PartGoes ps → Follows n ps (Whole b) → FitsWord word b × (body_parts b ≡ read_next n ++ ps)
-run_fits word n [] b h go run = (subst (NextFits word) run h, sym (ap read_next run) ∙ sym (append-nil (read_next n)))
-run_fits word (Whole c) (p ∷ ps) b h go run = absurd run
-run_fits word (Open x) (p ∷ ps) b h go run =
-    let ok : refuse_inside (part_of x) p.1 ≡ None = ap (λ (part : Part). refuse_inside part p.1) run.0 ∙ go.0.1 in
-    let next = run_fits word (step_inside x p.1) ps b (step_fits word x p.1 h go.0.0 ok) go.1 run.1 in
-    let part : ◌≡◌ {A = Part × ℕ} (part_of x, p.1) p = λ i. (run.0 i, p.1) in (
+run_fits word n [] b h go follows = (subst (NextFits word) follows h, sym (ap read_next follows) ∙ sym (append-nil (read_next n)))
+run_fits word (Whole c) (p ∷ ps) b h go follows = absurd follows
+run_fits word (Open x) (p ∷ ps) b h go follows =
+    let ok : refuse_inside (part_of x) p.1 ≡ None = ap (λ (part : Part). refuse_inside part p.1) follows.0 ∙ go.0.1 in
+    let next = run_fits word (step_inside x p.1) ps b (step_fits word x p.1 h go.0.0 ok) go.1 follows.1 in
+    let part : ◌≡◌ {A = Part × ℕ} (part_of x, p.1) p = λ i. (follows.0 i, p.1) in (
       next.0,
       next.1 ∙ ap (λ l. l ++ ps) (step_reads word x p.1 h ok) ∙ append_assoc (read_inside x) ((part_of x, p.1) ∷ []) ps ∙ ap (λ (q : Part × ℕ). read_inside x ++ q ∷ ps) part,
     )

@@ -12,7 +12,7 @@ use Rattle.hunk_blocks.specs.BlockSteps.{Inside, BlockNext, Open, Whole, part_of
 use Rattle.hunk_blocks.proofs.{Admitted.block, BlockCompletion.{completes, run_fits}, BlockLongs.block_longs, BlockPrefix.block_prefix}
 use Rattle.hunk_blocks.proofs.BlockProgress.{read_inside, read_next, NextFits, step_fits, step_reads}
 use Rattle.hunk_blocks.proofs.OneBlockFault.{Alone, AtWord, After, alone, block_reads, alone_inside, part_not_word}
-use Rattle.hunk_blocks.proofs.Outcomes.{Keeps, run, front, judged, completed}
+use Rattle.hunk_blocks.proofs.Outcomes.{Keeps, state_after, front, judged, completed}
 use Rattle.hunk_blocks.proofs.{BodyFaults.expects_word, Decoding.{front_bytes, no_block}, FaultLaws.words-append}
 
 -- ---- what is read so far
@@ -34,12 +34,12 @@ module _ (mode : Mode) where
   block_is word b l ok fits = search rules
 
   pub expects_inside : (x : Inside) (word : ℕ) (ws : List ℕ) → Inner mode (Open x) word ws → Expects (blocks mode) ws (part_of x)
-  expects_inside x word ws h = let c = completes x in go c.parts c.body c.run (run_fits word (Open x) c.parts c.body h.inside c.go c.run)
+  expects_inside x word ws h = let c = completes x in go c.parts c.body c.follows (run_fits word (Open x) c.parts c.body h.inside c.go c.follows)
     where
       go : (ps : List (Part × ℕ)) (b : BlockBody) → Follows (Open x) ps (Whole b) → FitsWord word b × (body_parts b ≡ read_inside x ++ ps) → Expects (blocks mode) ws (part_of x)
-      go [] b run k = absurd cc
-      go (p ∷ ps) b run k =
-          let part : ◌≡◌ {A = Part × ℕ} p (part_of x, p.1) = λ i. (sym run.0 i, p.1) in
+      go [] b follows k = absurd cc
+      go (p ∷ ps) b follows k =
+          let part : ◌≡◌ {A = Part × ℕ} p (part_of x, p.1) = λ i. (sym follows.0 i, p.1) in
           record {
             value = block word b;
             is = block_is word b h.fits h.ok k.0;
@@ -112,7 +112,7 @@ unfolding Begun keeps
 some_outcome mode bytes fit = elim (judged (blocks mode) alone (keeps mode) (longs bytes) (longs_fit bytes fit)) [
   | inl h ↦ inl (begun mode bytes h.value h.rest fit h.is.0 h.is.1 h.split)
   | inr (inl h) ↦ inr (h.at, h.reason, inl h.refusal)
-  | inr (inr h) ↦ all_read (run alone AtWord (longs bytes)) h (alone.expects (run alone AtWord (longs bytes))) refl
+  | inr (inr h) ↦ all_read (state_after alone AtWord (longs bytes)) h (alone.expects (state_after alone AtWord (longs bytes))) refl
 ]
   where
     all_read : (s : Alone) → SoFar mode s (longs bytes) → (o : Option Part) → alone.expects s ≡ o → Begun mode bytes ⊎ ((at : ℕ) × (reason : Reason) × HasBlockFault mode bytes at reason)

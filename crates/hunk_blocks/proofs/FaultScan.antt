@@ -54,27 +54,27 @@ module _ {State Role : Type 0} (m : Machine State Role) (refuse : Role → ℕ �
   scan_refused : (s t : State) (done : List (Role × ℕ)) (role : Role) (v w : ℕ) (more : List (Role × ℕ)) (after : List ℕ) (at : ℕ) (reason : Reason) → Leads m s (done ++ (role, v) ∷ more) t → Passes (done ++ (role, v) ∷ more) → refuse role w ≡ Some reason →
       first_refused s at (words done ++ w ∷ after) ≡ Some (at + 4 * length (words done), reason)
   unfolding first_refused
-  scan_refused s t [] role v w more after at reason run ok bad = search rules
-  scan_refused s t (d ∷ done) role v w more after at reason run ok bad =
-      search (rules, scan_refused (m.step s d.1) t done role v w more after (at + 4) reason run.1 ok.1 bad)
+  scan_refused s t [] role v w more after at reason leads ok bad = search rules
+  scan_refused s t (d ∷ done) role v w more after at reason leads ok bad =
+      search (rules, scan_refused (m.step s d.1) t done role v w more after (at + 4) reason leads.1 ok.1 bad)
 
   -- Nothing of what a text begins with is refused.
   scan_front : (s t : State) (ls : List (Role × ℕ)) (ws more : List ℕ) (at : ℕ) → Leads m s ls t → Passes ls → words ls ≡ ws ++ more → first_refused s at ws ≡ None
   unfolding first_refused
-  scan_front s t ls [] more at run ok e = refl
-  scan_front s t [] (w ∷ ws) more at run ok e = absurd cc
-  scan_front s t (l ∷ ls) (w ∷ ws) more at run ok e =
+  scan_front s t ls [] more at leads ok e = refl
+  scan_front s t [] (w ∷ ws) more at leads ok e = absurd cc
+  scan_front s t (l ∷ ls) (w ∷ ws) more at leads ok e =
       let same : l.1 ≡ w = cc in
       let tail : words ls ≡ ws ++ more = cc in
-      passed l.0 w at (m.expects s) (first_refused (m.step s w) (at + 4) ws) run.0 (ap (refuse l.0) (sym same) ∙ ok.0)
-      ∙ scan_front (m.step s w) t ls ws more (at + 4) (subst (λ (x : ℕ). Leads m (m.step s x) ls t) same run.1) ok.1 tail
+      passed l.0 w at (m.expects s) (first_refused (m.step s w) (at + 4) ws) leads.0 (ap (refuse l.0) (sym same) ∙ ok.0)
+      ∙ scan_front (m.step s w) t ls ws more (at + 4) (subst (λ (x : ℕ). Leads m (m.step s x) ls t) same leads.1) ok.1 tail
 
   -- Nor of what has a text in front, after which nothing is expected.
   scan_whole : (s t : State) (ls : List (Role × ℕ)) (ws : List ℕ) (at : ℕ) → Leads m s ls t → Passes ls → m.expects t ≡ None → first_refused s at (words ls ++ ws) ≡ None
   unfolding first_refused
-  scan_whole s t [] [] at run ok end = refl
-  scan_whole s t [] (w ∷ ws) at run ok end = ap (λ (x : Option Role). by_role x w at (first_refused (m.step s w) (at + 4) ws)) (ap m.expects run ∙ end)
-  scan_whole s t (l ∷ ls) ws at run ok end = passed l.0 l.1 at (m.expects s) (first_refused (m.step s l.1) (at + 4) (words ls ++ ws)) run.0 ok.0 ∙ scan_whole (m.step s l.1) t ls ws (at + 4) run.1 ok.1 end
+  scan_whole s t [] [] at leads ok end = refl
+  scan_whole s t [] (w ∷ ws) at leads ok end = ap (λ (x : Option Role). by_role x w at (first_refused (m.step s w) (at + 4) ws)) (ap m.expects leads ∙ end)
+  scan_whole s t (l ∷ ls) ws at leads ok end = passed l.0 l.1 at (m.expects s) (first_refused (m.step s l.1) (at + 4) (words ls ++ ws)) leads.0 ok.0 ∙ scan_whole (m.step s l.1) t ls ws (at + 4) leads.1 ok.1 end
 
 -- The machine reads the texts of the grammar, and no longword of them is refused.
 pub record Reads {Value State Role : Type 0} (g : Grammar Value Role) (m : Machine State Role) : Type 0 where

@@ -15,13 +15,13 @@ pub record Keeps {Value State Role : Type 0} (g : Grammar Value Role) (m : Machi
 
 module _ {State Role : Type 0} (m : Machine State Role) where
   -- where longwords lead
-  abbrev pub run : State → List ℕ → State
-  run s [] = s
-  run s (w ∷ ws) = run (m.step s w) ws
+  abbrev pub state_after : State → List ℕ → State
+  state_after s [] = s
+  state_after s (w ∷ ws) = state_after (m.step s w) ws
 
-  pub leads_run : (s t : State) (ls : List (Role × ℕ)) → Leads m s ls t → run s (words ls) ≡ t
-  leads_run s t [] h = h
-  leads_run s t (l ∷ ls) h = leads_run (m.step s l.1) t ls h.1
+  pub leads_state : (s t : State) (ls : List (Role × ℕ)) → Leads m s ls t → state_after s (words ls) ≡ t
+  leads_state s t [] h = h
+  leads_state s t (l ∷ ls) h = leads_state (m.step s l.1) t ls h.1
 
   cut : (s t : State) (ks ls : List (Role × ℕ)) → Leads m s (ks ++ ls) t → (x : State) × Leads m s ks x × Leads m x ls t
   cut s t [] ls h = (s, refl, h)
@@ -29,8 +29,8 @@ module _ {State Role : Type 0} (m : Machine State Role) where
 
 module _ {Value State Role : Type 0} (g : Grammar Value Role) (m : Machine State Role) (r : Reads g m) where
   -- What a text has after these longwords is what the machine expects there.
-  pub expected_role : (before : List ℕ) (role : Role) → Expects g before role → m.expects (run m m.start before) ≡ Some role
-  expected_role before role e = search (rules, cut, leads_run)
+  pub expected_role : (before : List ℕ) (role : Role) → Expects g before role → m.expects (state_after m m.start before) ≡ Some role
+  expected_role before role e = search (rules, cut, leads_state)
 
 module _ {Value State Role : Type 0} (g : Grammar Value Role) (m : Machine State Role) (k : Keeps g m) where
   -- Some text begins with what was read.
@@ -63,10 +63,10 @@ module _ {Value State Role : Type 0} (g : Grammar Value Role) (m : Machine State
   abbrev pub Judged : State → List ℕ → Type 0
   Judged s ws = Ends ws ⊎ (IsRefused ws ⊎ k.SoFar s ws)
 
-  judged_word : (s : State) (before : List ℕ) (w : ℕ) (ws : List ℕ) → k.SoFar s before → IsLong w → ((t : State) (done : List ℕ) → k.SoFar t done → Judged (run m t ws) (done ++ ws)) → Judged (run m s (w ∷ ws)) (before ++ w ∷ ws)
+  judged_word : (s : State) (before : List ℕ) (w : ℕ) (ws : List ℕ) → k.SoFar s before → IsLong w → ((t : State) (done : List ℕ) → k.SoFar t done → Judged (state_after m t ws) (done ++ ws)) → Judged (state_after m s (w ∷ ws)) (before ++ w ∷ ws)
   judged_word s before w ws h l rest = by_role (m.expects s) refl
     where
-      by_test : (role : Role) → m.expects s ≡ Some role → (o : Option Reason) → g.refuse role w ≡ o → Judged (run m s (w ∷ ws)) (before ++ w ∷ ws)
+      by_test : (role : Role) → m.expects s ≡ Some role → (o : Option Reason) → g.refuse role w ≡ o → Judged (state_after m s (w ∷ ws)) (before ++ w ∷ ws)
       by_test role e (Some reason) r =
           inr (inl (record {
             at = 4 * length before;
@@ -74,25 +74,25 @@ module _ {Value State Role : Type 0} (g : Grammar Value Role) (m : Machine State
             refusal = record { before = before; word = w; after = ws; role = role; split = refl; place = refl; expects = k.expects s before role h e; refuses = r };
           }))
       by_test role e None r =
-          subst (Judged (run m (m.step s w) ws)) (append_assoc before (w ∷ []) ws) (rest (m.step s w) (before ++ w ∷ []) (k.goes_on s before role w h e l r))
+          subst (Judged (state_after m (m.step s w) ws)) (append_assoc before (w ∷ []) ws) (rest (m.step s w) (before ++ w ∷ []) (k.goes_on s before role w h e l r))
 
-      by_role : (o : Option Role) → m.expects s ≡ o → Judged (run m s (w ∷ ws)) (before ++ w ∷ ws)
+      by_role : (o : Option Role) → m.expects s ≡ o → Judged (state_after m s (w ∷ ws)) (before ++ w ∷ ws)
       by_role (Some role) e = by_test role e (g.refuse role w) refl
       by_role None e = let v = k.ends s before h e in inl (record { state = s; stops = e; value = v.0; is = v.1; rest = w ∷ ws; split = ap (λ ys. ys ++ w ∷ ws) (sym v.2) })
 
-  judged_from : (s : State) (before ws : List ℕ) → k.SoFar s before → AreLongs ws → Judged (run m s ws) (before ++ ws)
+  judged_from : (s : State) (before ws : List ℕ) → k.SoFar s before → AreLongs ws → Judged (state_after m s ws) (before ++ ws)
   judged_from s before [] h l = inr (inr (subst (k.SoFar s) (sym (append-nil before)) h))
   judged_from s before (w ∷ ws) h l = judged_word s before w ws h l.0 (λ t done d. judged_from t done ws d l.1)
 
-  pub judged : (ws : List ℕ) → AreLongs ws → Judged (run m m.start ws) ws
+  pub judged : (ws : List ℕ) → AreLongs ws → Judged (state_after m m.start ws) ws
   judged ws l = judged_from m.start [] ws k.begins l
 
   -- ---- an accepted longword goes on
 
   kept : (s t : State) (before : List ℕ) (ls : List (Role × ℕ)) → k.SoFar s before → Leads m s ls t → Passes m g.refuse ls → AreLongs (words ls) → k.SoFar t (before ++ words ls)
-  kept s t before [] h run ok l = subst (λ (x : State). k.SoFar x (before ++ [])) run (subst (k.SoFar s) (sym (append-nil before)) h)
-  kept s t before (x ∷ ls) h run ok l =
-      subst (k.SoFar t) (append_assoc before (x.1 ∷ []) (words ls)) (kept (m.step s x.1) t (before ++ x.1 ∷ []) ls (k.goes_on s before x.0 x.1 h run.0 l.0 ok.0) run.1 ok.1 l.1)
+  kept s t before [] h leads ok l = subst (λ (x : State). k.SoFar x (before ++ [])) leads (subst (k.SoFar s) (sym (append-nil before)) h)
+  kept s t before (x ∷ ls) h leads ok l =
+      subst (k.SoFar t) (append_assoc before (x.1 ∷ []) (words ls)) (kept (m.step s x.1) t (before ++ x.1 ∷ []) ls (k.goes_on s before x.0 x.1 h leads.0 l.0 ok.0) leads.1 ok.1 l.1)
 
   left_passes : (ks ls : List (Role × ℕ)) → Passes m g.refuse (ks ++ ls) → Passes m g.refuse ks
   left_passes [] ls h = tt

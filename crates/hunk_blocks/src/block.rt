@@ -11,7 +11,8 @@ ghost use Rattle.hunk_blocks.specs.Parts.{block_text};
 ghost use Rattle.hunk_blocks.specs.Modes.{is_block_refusal};
 ghost use Rattle.hunk_grammar.specs.Modes.{refuse_alone_word};
 ghost use Rattle.hunk_blocks.specs.Faults.{HasBlockFault};
-ghost use Rattle.hunk_blocks.specs.Begins.{BeginsWithBlock, BeginsWithNoBlock, first_long, BeginsWithSomeBlock, IsFrontBlock};
+ghost use Rattle.hunk_blocks.specs.Begins.{BeginsWithBlock, BeginsWithNoBlock, first_long};
+ghost use Rattle.hunk_blocks.specs.Begins.{BeginsWithSomeBlock, IsFrontBlock};
 ghost use Rattle.hunk_blocks.specs.Begins.{LacksItem, LacksItemAt, LacksItemOfMode};
 ghost use Rattle.hunk_blocks.specs.Views.{body_of};
 

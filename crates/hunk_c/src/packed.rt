@@ -4,7 +4,8 @@ ghost use Rattle.hunk_files.specs.LoadFile.{TableEntry};
 ghost use Rattle.hunk_scatter.specs.HeaderBytes.{BeginsWithHeader};
 ghost use Rattle.hunk_scatter.specs.Placing.{IsFirstUnplaced, packed_from};
 ghost use Rattle.hunk_c.specs.Loads.{AreBasesOf};
-ghost use Rattle.hunk_c.specs.Packs.{AreMarksTo, AreNearTo, ArePacked, HasRow, IsRow, bases_in, hunks_a_mark, most_marks};
+ghost use Rattle.hunk_c.specs.Packs.{AreMarksTo, AreNearTo, ArePacked, HasRow, IsRow, bases_in, hunks_a_mark};
+ghost use Rattle.hunk_c.specs.Packs.{most_marks};
 ghost use Rattle.hunk_c.specs.Tables.{BeginsWithTableOf};
 
 use hunk_files::Bases;

@@ -1,6 +1,7 @@
 //! The relocations of a file.
 ghost use Rattle.std.specs.Prelude.{◌≡◌, ◌+◌, ◌*◌, ◌<◌, ◌^◌, length};
-ghost use Rattle.hunk_c.specs.Relocations.{block_rows, group_rows, offset_rows, relocated, relocation_row, relocations_in};
+ghost use Rattle.hunk_c.specs.Relocations.{block_rows, group_rows, offset_rows, relocated, relocation_row};
+ghost use Rattle.hunk_c.specs.Relocations.{relocations_in};
 ghost use Rattle.hunk_c.specs.Rows.{ListsWhatFits, Tabulates};
 
 use crate::answer::Answer;

@@ -6,7 +6,8 @@ ghost use Rattle.clap.specs.Simple.{subcommand_rows_of};
 ghost use Rattle.hunk_command_line.specs.Command as spec;
 ghost use Rattle.hunk_command_line.specs.Asked.{AnswersOrder, FollowsClap, IsHelp, IsLineOf, IsMemoryOr, RefusesOrder};
 ghost use Rattle.hunk_command_line.specs.FaultTexts.{told_fault, unwanted_text};
-ghost use Rattle.hunk_command_line.specs.Line.{entered_order, order_of, relocate_order, rewrite_order, show_order, validate_order};
+ghost use Rattle.hunk_command_line.specs.Line.{entered_order, order_of, relocate_order, rewrite_order};
+ghost use Rattle.hunk_command_line.specs.Line.{show_order, validate_order};
 ghost use Rattle.hunk_command_line.specs.Line.{words_read};
 ghost use Rattle.hunk_command_line.specs.declared.asked.OrderFault.TheVariants.{Memory, Version};
 

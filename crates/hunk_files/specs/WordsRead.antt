@@ -20,6 +20,6 @@ AreAccepted ls = AllByRecursion IsAccepted ls
 -- These longwords were read, none was refused, and they lead here.
 pub record HasRead (ws : List ℕ) (n : Next) : Type 0 where
   pub done : Labelled
-  pub run : Leads (More AtFirst) done n
+  pub leads : Leads (More AtFirst) done n
   pub accepted : AreAccepted done
   pub all : words done ≡ ws

@@ -5,7 +5,8 @@ ghost use Rattle.hunk_words.specs.declared.reason.Reason.TheVariants as reasons;
 ghost use Rattle.hunk_grammar.specs.FileKind.{sniffed};
 ghost use Rattle.hunk_files.specs.FileParts.{IsPartAt};
 ghost use Rattle.hunk_files.specs.FileView.{file_of};
-ghost use Rattle.hunk_files.specs.HunkFile.{AreFile, IsFileOf, IsRefusal, EndsFilePart, bytes_after, file_bytes, stripped};
+ghost use Rattle.hunk_files.specs.HunkFile.{AreFile, IsFileOf, IsRefusal, EndsFilePart, bytes_after};
+ghost use Rattle.hunk_files.specs.HunkFile.{file_bytes, stripped};
 ghost use Rattle.hunk_files.specs.Lacks.{EndsAt};
 ghost use Rattle.hunk_files.specs.StandingBlocks.{file_items};
 

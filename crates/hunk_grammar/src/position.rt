@@ -1,7 +1,8 @@
 //! Positions in a load file.
 ghost use Rattle.std.specs.Prelude.{◌≡◌, ◌≤◌, ◌<◌, ◌^◌, false};
 ghost use Rattle.hunk_grammar.specs.Positions as positions;
-ghost use Rattle.hunk_grammar.specs.Positions.{step, run, pass, least_longs, is_done, is_after_header, is_between_hunks};
+ghost use Rattle.hunk_grammar.specs.Positions.{step, run, pass, least_longs, is_done, is_after_header};
+ghost use Rattle.hunk_grammar.specs.Positions.{is_between_hunks};
 
 use crate::phase::Phase;
 use hunk_words::SizeWord;

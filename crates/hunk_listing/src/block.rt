@@ -4,7 +4,8 @@ ghost use Rattle.hunk_words.specs.Prints.{Prints};
 ghost use Rattle.hunk_words.specs.Longs.{longs};
 ghost use Rattle.hunk_blocks.specs.Values.{Ext, Reloc, Symbol, offset_count};
 ghost use Rattle.hunk_blocks.specs.Views.{group_of, symbol_of};
-ghost use Rattle.hunk_listing.specs.BlockLines.{advisory_line, block_lines, body_lines, group_lines, head, name_line, symbol_line};
+ghost use Rattle.hunk_listing.specs.BlockLines.{advisory_line, block_lines, body_lines, group_lines, head};
+ghost use Rattle.hunk_listing.specs.BlockLines.{name_line, symbol_line};
 ghost use Rattle.hunk_listing.specs.BlockNames.{memory_flags};
 
 use crate::entry::print_entry;

@@ -4,7 +4,8 @@ ghost use Rattle.hunk_words.specs.Prints.{Prints};
 ghost use Rattle.std.specs.List.{flat_map};
 ghost use Rattle.hunk_grammar.specs.ExtKinds.{ext_name};
 ghost use Rattle.hunk_blocks.specs.Views.{entry_of};
-ghost use Rattle.hunk_listing.specs.BlockLines.{common_line, definition_line, entry_line, entry_lines, offset_line, reference_line};
+ghost use Rattle.hunk_listing.specs.BlockLines.{common_line, definition_line, entry_line, entry_lines};
+ghost use Rattle.hunk_listing.specs.BlockLines.{offset_line, reference_line};
 
 use crate::line::Line;
 use crate::text::print_named;

@@ -4,7 +4,8 @@ ghost use Rattle.std.proofs.Common.{◌∙◌, refl};
 ghost use Rattle.hunk_words.specs.Prints.{Prints};
 ghost use Rattle.hunk_files.specs.Findings.{findings};
 ghost use Rattle.hunk_listing.specs.Printed.{hexadecimal};
-ghost use Rattle.hunk_listing.specs.ReportLines.{finding_front, finding_line, finding_name, load_summary, object_report, totals_line};
+ghost use Rattle.hunk_listing.specs.ReportLines.{finding_front, finding_line, finding_name, load_summary};
+ghost use Rattle.hunk_listing.specs.ReportLines.{object_report, totals_line};
 ghost use Rattle.hunk_listing.specs.Reporting.{Reports, reports_none, reports_more};
 
 use crate::line::Line;

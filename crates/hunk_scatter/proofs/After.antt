@@ -12,9 +12,9 @@ use Rattle.hunk_files.proofs.walk.Scan.{read_front}
 use Rattle.hunk_scatter.proofs.{Forget.step_after, HeaderTexts.header_read}
 
 after_leads : (n : Next) → IsAfterHeader n → (ls : Labelled) (p : Progress) → Leads n ls (More p) → IsAfterHeader (More p)
-after_leads n b [] p run = subst IsAfterHeader run b
-after_leads (More q) b (l ∷ ls) p run = after_leads (step_file q l.1) (step_after q l.1 b) ls p run.1
-after_leads (Finished v) b (l ∷ ls) p run = absurd run
+after_leads n b [] p leads = subst IsAfterHeader leads b
+after_leads (More q) b (l ∷ ls) p leads = after_leads (step_file q l.1) (step_after q l.1 b) ls p leads.1
+after_leads (Finished v) b (l ∷ ls) p leads = absurd leads
 
 -- What follows a header is read in the body.
 pub stays_after : (ws more : List ℕ) (n : Next) (p : Progress) → HasRead ws n → IsAfterHeader n → HasRead (ws ++ more) (More p) → IsAfterHeader (More p)
@@ -27,7 +27,7 @@ pub no_size_word : (ws more : List ℕ) (n : Next) → HasRead ws n → IsAfterH
 no_size_word ws more n h b e =
     let place = expected_place (ws ++ more) roles.SizeWord e in
     in_block place.0
-    (stays_after ws more n place.0 h b (record { done = e.done; run = place.1.run; accepted = place.1.accepted; all = e.begins }))
+    (stays_after ws more n place.0 h b (record { done = e.done; leads = place.1.leads; accepted = place.1.accepted; all = e.begins }))
     place.1.role_is
 
 pub table_after : (t : List TableEntry) → IsHeaderTable t → IsAfterHeader (open_hunk (length t) [] t)

@@ -9,7 +9,7 @@ use Rattle.hunk_grammar.specs.declared.phase.Phase.{Phase}
 use Rattle.hunk_files.specs.{Fault.IsTruncated, Image.{image, images}, LoadFile.{HunkValue, LoadFileValue, IsLoadFile}}
 use Rattle.hunk_files.specs.{LoadText.{text, table}, FileSteps.{Progress, Next, More, Finished, Leads}}
 use Rattle.hunk_files.specs.{WordsRead.{HasRead, Labelled}, declared.row.Row.Row, ReaderPosition.{position_of, IsAfterHeader}}
-use Rattle.hunk_grammar.specs.{Roles.Role, declared.position.OpenHunk.OpenHunk, declared.position.Position.Position, Positions.{is_done, least_longs, run}}
+use Rattle.hunk_grammar.specs.{Roles.Role, declared.position.OpenHunk.OpenHunk, declared.position.Position.Position, Positions.{is_done, least_longs}}
 use Rattle.hunk_scatter.specs.{LoadOutcomes.GoesPastNoFile, Owing.{BytesToCome, FileOwes, run_of}}
 use Rattle.hunk_scatter.specs.{declared.store.BodyState.BodyState, StoreContent.HasSizedImage, BodyLoaderFields.{IsFed, StandsAfter}}
 use Rattle.hunk_scatter.specs.{declared.stream.Standing.Standing, LoaderValues.{IsWholeFile, IsImageOf, HasNoRefusal, segments_in}}
@@ -37,8 +37,8 @@ none_after u v is in_front more e =
     go r.0 r.1 r.3
   where
     go : (ls : Labelled) → Leads (Finished v) ls (Finished u) → words ls ≡ more → more ≡ []
-    go [] run same = sym same
-    go (l ∷ ls) run same = absurd run
+    go [] leads same = sym same
+    go (l ∷ ls) leads same = absurd leads
 
 cut_images : (bases : List ℕ) (v : List HunkValue) → AllByRecursion (HasSizedImage bases) v → segments_in (sizes_of (table v)) (images bases v) ≡ map (image bases) v
 cut_images bases [] h = refl

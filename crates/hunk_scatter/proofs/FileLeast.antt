@@ -38,16 +38,16 @@ one_more : (ws : List ℕ) (w n : ℕ) → EndsIn (ws ++ w ∷ []) n → EndsIn 
 one_more ws w n e = search (rules, append_assoc)
 
 run_ends : (n : Next) (ws : List ℕ) (ls : Labelled) (v : LoadFileValue) → HasRead ws n → IsAfterHeader n → AllByRecursion IsOwed ls → Leads n ls (Finished v) → EndsIn ws (least_longs (position_of n))
-run_ends (Finished u) ws [] v h b ok run =
+run_ends (Finished u) ws [] v h b ok leads =
     let e = read_ended ws u h in
     record { value = u; is_load_file = e.0; more = []; begins = e.1 ∙ sym (append-nil ws); count = refl }
-run_ends (Finished u) ws (l ∷ ls) v h b ok run = absurd run
-run_ends (More p) ws [] v h b ok run = absurd cc
-run_ends (More p) ws (l ∷ ls) v h b ok run =
-    let pass : refuse (role_of p) l.1 ≡ None = ap (λ (r : Role). refuse r l.1) run.0 ∙ ok.0.0.1 in
-    let rest = run_ends (step_file p l.1) (ws ++ l.1 ∷ []) ls v (step_read ws p l.1 h ok.0.0.0 pass) (step_after p l.1 b) ok.1 run.1 in
-    subst (EndsIn ws) (sym (one_least p l.1 b (reads h).0 (ok.0.1 ∙ ap completing (sym run.0)))) (one_more ws l.1 _ rest)
+run_ends (Finished u) ws (l ∷ ls) v h b ok leads = absurd leads
+run_ends (More p) ws [] v h b ok leads = absurd cc
+run_ends (More p) ws (l ∷ ls) v h b ok leads =
+    let pass : refuse (role_of p) l.1 ≡ None = ap (λ (r : Role). refuse r l.1) leads.0 ∙ ok.0.0.1 in
+    let rest = run_ends (step_file p l.1) (ws ++ l.1 ∷ []) ls v (step_read ws p l.1 h ok.0.0.0 pass) (step_after p l.1 b) ok.1 leads.1 in
+    subst (EndsIn ws) (sym (one_least p l.1 b (reads h).0 (ok.0.1 ∙ ap completing (sym leads.0)))) (one_more ws l.1 _ rest)
 
 -- What was read is the beginning of a load file that ends in the least number of longwords.
 pub file_ends : (ws : List ℕ) (n : Next) → HasRead ws n → IsAfterHeader n → EndsIn ws (least_longs (position_of n))
-file_ends ws n h b = let c = completes n (reads h).0 in run_ends n ws c.labels c.value h b c.accepted c.run
+file_ends ws n h b = let c = completes n (reads h).0 in run_ends n ws c.labels c.value h b c.accepted c.leads

@@ -22,9 +22,9 @@ use Rattle.hunk_scatter.proofs.{HeaderStops.header_longs, HeaderTexts.{header_re
 -- ---- one header
 
 after_table : (n c : Next) → IsAfterHeader n → (ls : Labelled) → Leads n ls c → table_of c ≡ table_of n
-after_table n c b [] run = ap table_of (sym run)
-after_table (More q) c b (l ∷ ls) run = after_table (step_file q l.1) c (step_after q l.1 b) ls run.1 ∙ step_table q l.1 b
-after_table (Finished v) c b (l ∷ ls) run = absurd run
+after_table n c b [] leads = ap table_of (sym leads)
+after_table (More q) c b (l ∷ ls) leads = after_table (step_file q l.1) c (step_after q l.1 b) ls leads.1 ∙ step_table q l.1 b
+after_table (Finished v) c b (l ∷ ls) leads = absurd leads
 
 opened : (t : List TableEntry) → IsHeaderTable t → table_of (open_hunk (length t) [] t) ≡ t
 opened t is = search rules
@@ -81,36 +81,36 @@ module _ (t : List TableEntry) (is : IsHeaderTable t) where
 
   word_total : (p : Progress) (l : Role × ℕ) (ls : Labelled) → TotalsTo (step_file p l.1) ls → ProgressFits p → AreAccepted (l ∷ ls) → Leads (More p) (l ∷ ls) (open_hunk (length t) [] t) → IsInHeader p →
       declared_so_far (More p) + declares (position_of (More p)) l.1 ≤ declared_bytes t
-  word_total p l ls rest f ok run e = search (rules, step_keeps, step_declares)
+  word_total p l ls rest f ok leads e = search (rules, step_keeps, step_declares)
 
   past_total : (p : Progress) (ls : Labelled) → OpensFirst (More p) → is_after_header (position_of (More p)) ≡ true → Leads (More p) ls (open_hunk (length t) [] t) → declared_so_far (More p) ≤ declared_bytes t
-  past_total p ls o e run = search (rules, after_table)
+  past_total p ls o e leads = search (rules, after_table)
 
   run_total : (ls : Labelled) (n : Next) → TotalsTo n ls
-  run_total [] n f o ok run = omega (arith, ap declared_so_far run, rows_total (length t) t 0)
-  run_total (l ∷ ls) (Finished v) f o ok run = absurd run
-  run_total (l ∷ ls) (More p) f o ok run = go (run_total ls (step_file p l.1)) (is_after_header (position_of (More p))) refl
+  run_total [] n f o ok leads = omega (arith, ap declared_so_far leads, rows_total (length t) t 0)
+  run_total (l ∷ ls) (Finished v) f o ok leads = absurd leads
+  run_total (l ∷ ls) (More p) f o ok leads = go (run_total ls (step_file p l.1)) (is_after_header (position_of (More p))) refl
     where
       go : TotalsTo (step_file p l.1) ls → (b : Bool) → is_after_header (position_of (More p)) ≡ b → declared_so_far (More p) ≤ declared_bytes t
-      go rest true e = past_total p (l ∷ ls) o e run
-      go rest false e = let le = word_total p l ls rest f ok run e in omega (arith, le)
+      go rest true e = past_total p (l ∷ ls) o e leads
+      go rest false e = let le = word_total p l ls rest f ok leads e in omega (arith, le)
 
   -- the longword that a run from a size word goes by
   first_word : (p : Progress) (before : List ℕ) (word : ℕ) (after : List ℕ) → HasRead before (More p) → role_of p ≡ roles.SizeWord → (ls : Labelled) → AreAccepted ls → words ls ≡ word ∷ after →
       Leads (More p) ls (open_hunk (length t) [] t) → declared_bytes (entries_so_far before) + 4 * size_longs word ≤ declared_bytes t
-  first_word p before word after h role [] ok e run = absurd cc
-  first_word (AtSizeWord hunks done owed) before word after h role (l ∷ ls) ok e run =
+  first_word p before word after h role [] ok e leads = absurd cc
+  first_word (AtSizeWord hunks done owed) before word after h role (l ∷ ls) ok e leads =
       let same : l.1 ≡ word = cc in
       let rows = rows_read (More (AtSizeWord hunks done owed)) before h (λ b. absurd cc) in
-      let le = word_total (AtSizeWord hunks done owed) l ls (run_total ls (step_file (AtSizeWord hunks done owed) l.1)) (reads h).0 ok run refl in
+      let le = word_total (AtSizeWord hunks done owed) l ls (run_total ls (step_file (AtSizeWord hunks done owed) l.1)) (reads h).0 ok leads refl in
       omega (arith, le, ap declared_bytes rows, ap size_longs same)
-  first_word _ before word after h role (l ∷ ls) ok e run = absurd cc
+  first_word _ before word after h role (l ∷ ls) ok e leads = absurd cc
 
   -- The size words of a header keep to its declared bytes.
   pub header_within : IsWithinBudget (declared_bytes t) (header_words t)
   header_within before after word e x =
       let place = expected_place before roles.SizeWord x in
-      let h : HasRead before (More place.0) = record { done = x.done; run = place.1.run; accepted = place.1.accepted; all = x.begins } in
+      let h : HasRead before (More place.0) = record { done = x.done; leads = place.1.leads; accepted = place.1.accepted; all = x.begins } in
       let r = rest_read before (More place.0) h (header_words t) (open_hunk (length t) [] t) (header_read t is) (word ∷ after) e in
       first_word place.0 before word after h place.1.role_is r.0 r.2 r.3 r.1
 

@@ -26,11 +26,11 @@ pub header_falls : (p : Progress) (w : ℕ) → refuse (role_of p) w ≡ None �
 header_falls p w ok = search rules
 
 run_least : (n last : Next) (ls : Labelled) → NextFits n → AreAccepted ls → Leads n ls last → header_least last ≡ 0 → header_least n ≤ length ls
-run_least n last [] f ok run e = omega (arith, e, ap header_least run)
-run_least (Finished v) last (l ∷ ls) f ok run e = absurd run
-run_least (More p) last (l ∷ ls) f ok run e =
-    let pass = ap (λ (r : Role). refuse r l.1) run.0 ∙ ok.0.1 in
-    let rest = run_least (step_file p l.1) last ls (step_keeps p l.1 f ok.0.0 pass).0 ok.1 run.1 e in
+run_least n last [] f ok leads e = omega (arith, e, ap header_least leads)
+run_least (Finished v) last (l ∷ ls) f ok leads e = absurd leads
+run_least (More p) last (l ∷ ls) f ok leads e =
+    let pass = ap (λ (r : Role). refuse r l.1) leads.0 ∙ ok.0.1 in
+    let rest = run_least (step_file p l.1) last ls (step_keeps p l.1 f ok.0.0 pass).0 ok.1 leads.1 e in
     omega (arith, header_falls p l.1 pass)
 
 open_least : (t : List TableEntry) → header_least (open_hunk (length t) [] t) ≡ 0

@@ -16,7 +16,7 @@ use Rattle.hunk_scatter.specs.{HeaderBytes.{IsHeaderTable, header_words, entries
 
 -- The header of a table leads to its first hunk.
 pub header_read : (t : List TableEntry) → IsHeaderTable t → HasRead (header_words t) (open_hunk (length t) [] t)
-header_read t h = record { done = header_labelled t; run = header_leads t h.each; accepted = header_accepted t h.some h.most h.each; all = refl }
+header_read t h = record { done = header_labelled t; leads = header_leads t h.each; accepted = header_accepted t h.some h.most h.each; all = refl }
 
 -- ---- a header that was read
 

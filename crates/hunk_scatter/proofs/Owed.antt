@@ -21,10 +21,10 @@ run_at (More (InBody o word x)) = run_in x
 run_at _ = 0
 
 run_is : (n : Next) (ls : Labelled) (v : LoadFileValue) → Leads n ls (Finished v) → run_of ls ≡ run_at n
-run_is (More p) [] v run = absurd cc
-run_is (Finished u) [] v run = refl
-run_is (Finished u) (l ∷ ls) v run = absurd run
-run_is (More p) (l ∷ ls) v run = search (rules, run_is (step_file p l.1) ls v run.1)
+run_is (More p) [] v leads = absurd cc
+run_is (Finished u) [] v leads = refl
+run_is (Finished u) (l ∷ ls) v leads = absurd leads
+run_is (More p) (l ∷ ls) v leads = search (rules, run_is (step_file p l.1) ls v leads.1)
 
 run_least : (p : Progress) → run_at (More p) ≤ least_longs (position_of (More p))
 run_least p = search rules
@@ -33,7 +33,7 @@ run_least p = search rules
 pub to_come : (ws : List ℕ) (n : Next) → HasRead ws n → (v : LoadFileValue) → IsLoadFile v → (done more : Labelled) → labelled v ≡ done ++ more → words done ≡ ws → run_of more ≡ run_at n
 to_come ws n h v is done more e d =
     let cut = Leads-split (More AtFirst) (Finished v) done more (subst (λ (ls : Labelled). Leads (More AtFirst) ls (Finished v)) e (file_leads v is)) in
-    let same = Leads-same (More AtFirst) cut.0 n done h.done cut.1 h.run (d ∙ sym h.all) in
+    let same = Leads-same (More AtFirst) cut.0 n done h.done cut.1 h.leads (d ∙ sym h.all) in
     run_is n more v (subst (λ (m : Next). Leads m more (Finished v)) same.1 cut.2)
 
 pub to_come_least : (ws : List ℕ) (p : Progress) → HasRead ws (More p) → (v : LoadFileValue) → IsLoadFile v → (done more : Labelled) → labelled v ≡ done ++ more → words done ≡ ws → run_of more ≤ least_longs (position_of (More p))

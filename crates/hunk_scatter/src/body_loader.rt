@@ -1,5 +1,6 @@
 //! The loader of a body.
-ghost use Rattle.std.specs.Prelude.{◌≡◌, ℕ, ◌+◌, ◌*◌, ◌/◌, ◌<◌, ◌≤◌, List, ◌++◌, length, take, Some, None, Ok, Err, IfOk, IfErr, OnOk};
+ghost use Rattle.std.specs.Prelude.{◌≡◌, ℕ, ◌+◌, ◌*◌, ◌/◌, ◌<◌, ◌≤◌, List, ◌++◌, length, take, Some, None};
+ghost use Rattle.std.specs.Prelude.{Ok, Err, IfOk, IfErr, OnOk};
 ghost use Rattle.std.specs.Prelude.{OnErr, IsOk, IsTrue, ◌⊎◌};
 ghost use Rattle.hunk_words.specs.Carriers.{saturated};
 ghost use Rattle.hunk_words.specs.Longs.{bytes_of};
@@ -12,7 +13,8 @@ ghost use Rattle.hunk_files.specs.Image.{declared_bytes};
 ghost use Rattle.hunk_files.specs.LoadFile.{LoadFileValue, IsLoadFile};
 ghost use Rattle.hunk_files.specs.LoadText.{text};
 ghost use Rattle.hunk_scatter.specs.LoaderReasons.{is_of_body};
-ghost use Rattle.hunk_scatter.specs.LoaderValues.{FeedsFront, HasNoRefusal, IsImageOf, IsWholeFile, IsHunkRefusal, MayGoOnInFile};
+ghost use Rattle.hunk_scatter.specs.LoaderValues.{FeedsFront, HasNoRefusal, IsImageOf, IsWholeFile};
+ghost use Rattle.hunk_scatter.specs.LoaderValues.{IsHunkRefusal, MayGoOnInFile};
 ghost use Rattle.hunk_scatter.specs.BodyLoaderFields.{FeedsOrRefuses};
 ghost use Rattle.hunk_scatter.specs.LoadOutcomes.{GoesPastNoFile};
 ghost use Rattle.hunk_scatter.specs.Owing.{BytesToCome, most_want};

@@ -1,6 +1,7 @@
 //! Where a reader of the header stands, a few numbers; and the size of a header, read with no memory
 //! for its rows.
-ghost use Rattle.std.specs.Prelude.{◌≡◌, ◌+◌, ◌<◌, ◌≤◌, ◌^◌, ◌++◌, IfOk, IfErr, OnOk, IfSome, IfNone, [], ◌∷◌, map, false};
+ghost use Rattle.std.specs.Prelude.{◌≡◌, ◌+◌, ◌<◌, ◌≤◌, ◌^◌, ◌++◌, IfOk, IfErr, OnOk, IfSome, IfNone, []};
+ghost use Rattle.std.specs.Prelude.{◌∷◌, map, false};
 ghost use Rattle.hunk_words.specs.declared.reason.Reason.TheVariants as reasons;
 ghost use Rattle.hunk_grammar.specs.Positions.{is_after_header};
 ghost use Rattle.hunk_scatter.specs.HeaderLoaderFields as heading;

@@ -1,5 +1,6 @@
 //! A load from a source.
-ghost use Rattle.std.specs.Prelude.{◌≡◌, ℕ, ◌+◌, ◌<◌, ◌≤◌, Bool, List, ◌++◌, length, [], take, None, IfOk, IfErr, OnOk, OnErr};
+ghost use Rattle.std.specs.Prelude.{◌≡◌, ℕ, ◌+◌, ◌<◌, ◌≤◌, Bool, List, ◌++◌, length, [], take, None, IfOk};
+ghost use Rattle.std.specs.Prelude.{IfErr, OnOk, OnErr};
 ghost use Rattle.std.specs.Prelude.{IsErrAnd, MatchResult};
 ghost use Rattle.std.specs.Io.KnownBytes.{Consumes};
 ghost use Rattle.hunk_words.specs.declared.reason.Reason.TheVariants as reasons;
@@ -8,8 +9,10 @@ ghost use Rattle.hunk_files.specs.declared.part.Part.TheVariants.{Header, Hunk};
 ghost use Rattle.hunk_scatter.specs.HeaderBytes.{IsHeaderTable, header_bytes};
 ghost use Rattle.hunk_scatter.specs.HeaderFaults.{IsOverBudget};
 ghost use Rattle.hunk_scatter.specs.LoaderValues.{IsImageOf};
-ghost use Rattle.hunk_scatter.specs.LoadOutcomes.{Gives, GoesPastNoFile, GoesPastNoHeader, HasFileWithin, IsBodyStop, IsHeaderStop};
-ghost use Rattle.hunk_scatter.specs.LoadOutcomes.{IsReadFault, Loads, PassesBudget, StopsAfterFile, StopsAfterHeader, TellsFailure};
+ghost use Rattle.hunk_scatter.specs.LoadOutcomes.{Gives, GoesPastNoFile, GoesPastNoHeader, HasFileWithin};
+ghost use Rattle.hunk_scatter.specs.LoadOutcomes.{IsBodyStop, IsHeaderStop};
+ghost use Rattle.hunk_scatter.specs.LoadOutcomes.{IsReadFault, Loads, PassesBudget, StopsAfterFile};
+ghost use Rattle.hunk_scatter.specs.LoadOutcomes.{StopsAfterHeader, TellsFailure};
 ghost use Rattle.hunk_scatter.specs.LoadRefusals.{IsFaultIn, LoadsOrNames, NamesPart, fault_of, without_part};
 ghost use Rattle.hunk_scatter.specs.Owing.{most_want};
 

@@ -1,5 +1,6 @@
 //! The one store, where the loader of a body stands in it, and what each longword does to it.
-ghost use Rattle.std.specs.Prelude.{◌≡◌, ◌+◌, ◌≤◌, ◌<◌, ◌*◌, ◌/◌, ◌%◌, ◌^◌, length, take, Some, None, IfNone, IfSome, IfOk, slice_index};
+ghost use Rattle.std.specs.Prelude.{◌≡◌, ◌+◌, ◌≤◌, ◌<◌, ◌*◌, ◌/◌, ◌%◌, ◌^◌, length, take, Some, None, IfNone};
+ghost use Rattle.std.specs.Prelude.{IfSome, IfOk, slice_index};
 ghost use Rattle.std.specs.Prelude.{true, false};
 ghost use Rattle.hunk_words.specs.Limits.{content_limit};
 ghost use Rattle.hunk_words.specs.Longs.{longs};

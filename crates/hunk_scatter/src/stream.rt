@@ -3,13 +3,15 @@
 //!
 //! The numbers may be any. Those that lead out of the rows or the store are found out, each in
 //! constant time, before the store is touched.
-ghost use Rattle.std.specs.Prelude.{◌≡◌, ◌+◌, ◌<◌, ◌≤◌, ℕ, List, [], length, take, true, IfErr, IfOk, OnErr, Some, replicate};
+ghost use Rattle.std.specs.Prelude.{◌≡◌, ◌+◌, ◌<◌, ◌≤◌, ℕ, List, [], length, take, true, IfErr, IfOk, OnErr};
+ghost use Rattle.std.specs.Prelude.{Some, replicate};
 ghost use Rattle.hunk_words.specs.Limits.{most_hunks};
 ghost use Rattle.hunk_words.specs.Carriers.{saturated};
 ghost use Rattle.hunk_words.specs.PendingBytes.{pending_of};
 ghost use Rattle.hunk_grammar.specs.Positions.{is_done, open_next};
 ghost use Rattle.hunk_scatter.specs.StopLine.{stop_line};
-ghost use Rattle.hunk_scatter.specs.Streaming.{BeginsLoading, EndsLoading, FitsStore, IsFed, IsWithin, MayTake, StandsOn, StillOwes};
+ghost use Rattle.hunk_scatter.specs.Streaming.{BeginsLoading, EndsLoading, FitsStore, IsFed, IsWithin};
+ghost use Rattle.hunk_scatter.specs.Streaming.{MayTake, StandsOn, StillOwes};
 ghost use Rattle.hunk_scatter.specs.Streaming.{StopsAtLong, StopsForBody, TakesOn, TakesPart, UnlessStrange};
 
 pub use crate::header_state::{HeaderSize, NoHeader, header_size};

@@ -4,7 +4,7 @@ use Rattle.hunk_words.specs.{declared.reason.Reason.Reason, Longs.{longs, bytes_
 use Rattle.hunk_words.specs.declared.reason.Reason.TheVariants as reasons
 use Rattle.hunk_words.proofs.LongLaws.{length-bytes_of, longs_fit, spelled}
 use Rattle.hunk_blocks.specs.Faults.{Expects, IsFront}
-use Rattle.hunk_blocks.proofs.Outcomes.{Keeps, run, leads_run, front, judged, completed}
+use Rattle.hunk_blocks.proofs.Outcomes.{Keeps, state_after, leads_state, front, judged, completed}
 use Rattle.hunk_files.specs.ObjectFile.{ObjectFileValue, IsObjectFile, IsNoObjectFile, object_text}
 use Rattle.hunk_grammar.specs.declared.object_position.WordPlace.TheVariants.{BeforeUnits, BetweenHunks, InHunk}
 use Rattle.hunk_grammar.specs.ObjectRoles.{ObjectRole, refuse_object}
@@ -17,10 +17,10 @@ unfoldable pub keeps : Keeps objects reader
 keeps = record { SoFar = SoFar; begins = begins; expects = expected; goes_on = goes_on; ends = λ s before h e. absurd (never s e) }
 
 -- The longwords of an object file lead between hunks, and nowhere else.
-pub leads_there : (bytes : List ℕ) (o : ObjectFileValue) → IsObjectFile o → bytes ≡ bytes_of (object_text o) → run reader (AtWord BeforeUnits) (longs bytes) ≡ AtWord BetweenHunks
+pub leads_there : (bytes : List ℕ) (o : ObjectFileValue) → IsObjectFile o → bytes ≡ bytes_of (object_text o) → state_after reader (AtWord BeforeUnits) (longs bytes) ≡ AtWord BetweenHunks
 leads_there bytes o is e =
-    ap (run reader (AtWord BeforeUnits)) (text_longs bytes o is.units e ∙ sym (units_words BeforeUnits o))
-    ∙ leads_run reader (AtWord BeforeUnits) (AtWord BetweenHunks) (units_labelled BeforeUnits o) (file_leads o is)
+    ap (state_after reader (AtWord BeforeUnits)) (text_longs bytes o is.units e ∙ sym (units_words BeforeUnits o))
+    ∙ leads_state reader (AtWord BeforeUnits) (AtWord BetweenHunks) (units_labelled BeforeUnits o) (file_leads o is)
 
 -- one to three bytes over
 over_none : (bytes over : List ℕ) (ws : List ℕ) → bytes ≡ bytes_of ws ++ over → 0 < length over → length over < 4 → IsNoObjectFile bytes
@@ -37,7 +37,7 @@ module _ (bytes : List ℕ) (fit : IsBytes bytes) where
   cut_short s h none = inr (4 * length (longs bytes), reasons.Truncated, inr (refl, record { place = refl; not_whole = none; front = front objects reader keeps s (longs bytes) h }))
 
   -- elsewhere than between hunks no object file ends
-  elsewhere : (s : ObjectState) → run reader (AtWord BeforeUnits) (longs bytes) ≡ s → s ≢ AtWord BetweenHunks → IsNoObjectFile bytes
+  elsewhere : (s : ObjectState) → state_after reader (AtWord BeforeUnits) (longs bytes) ≡ s → s ≢ AtWord BetweenHunks → IsNoObjectFile bytes
   elsewhere s e ne o is same = ne (sym e ∙ leads_there bytes o is same)
 
   -- between hunks the longwords are an object file
@@ -51,7 +51,7 @@ module _ (bytes : List ℕ) (fit : IsBytes bytes) where
           inl (o.0, o.1, split ∙ append-nil (bytes_of (longs bytes)) ∙ ap bytes_of o.2)
       go (b ∷ over) few split = cut_short (AtWord BetweenHunks) h (over_none bytes (b ∷ over) (longs bytes) split (omega arith) few)
 
-  all_read : (s : ObjectState) → run reader (AtWord BeforeUnits) (longs bytes) ≡ s → SoFar s (longs bytes) → Outcome bytes
+  all_read : (s : ObjectState) → state_after reader (AtWord BeforeUnits) (longs bytes) ≡ s → SoFar s (longs bytes) → Outcome bytes
   all_read (AtWord BetweenHunks) e h = whole h
   all_read (AtWord BeforeUnits) e h = cut_short (AtWord BeforeUnits) h (elsewhere (AtWord BeforeUnits) e (λ c. cc))
   all_read (AtWord (InHunk has)) e h = cut_short (AtWord (InHunk has)) h (elsewhere (AtWord (InHunk has)) e (λ c. cc))
@@ -64,7 +64,7 @@ unfolding Outcome keeps
 some_outcome bytes fit = elim (judged objects reader keeps (longs bytes) (longs_fit bytes fit)) [
   | inl h ↦ absurd (never h.state h.stops)
   | inr (inl h) ↦ inr (h.at, h.reason, inl h.refusal)
-  | inr (inr h) ↦ all_read bytes fit (run reader (AtWord BeforeUnits) (longs bytes)) refl h
+  | inr (inr h) ↦ all_read bytes fit (state_after reader (AtWord BeforeUnits) (longs bytes)) refl h
 ]
 
 -- An accepted longword goes on.

@@ -9,7 +9,7 @@ use Rattle.hunk_grammar.specs.declared.phase.Phase.{Phase}
 use Rattle.hunk_grammar.specs.declared.phase.Phase.TheVariants as phases
 use Rattle.hunk_blocks.proofs.BlockPhases.{no_run, one_of_run, same_part}
 use Rattle.hunk_blocks.proofs.{FaultScan.{Leads, front_passes}, Fronts.All-left, Lists.{passes_else, passes_then}}
-use Rattle.hunk_blocks.proofs.Outcomes.{judged, leads_run, run}
+use Rattle.hunk_blocks.proofs.Outcomes.{judged, leads_state, state_after}
 use Rattle.hunk_files.specs.Machines.{is_free_in_object, leading, leads_to, object_at}
 use Rattle.hunk_grammar.specs.declared.object_position.WordPlace.TheVariants.{BeforeUnits, BetweenHunks, InHunk}
 use Rattle.hunk_grammar.specs.ObjectRoles.{ObjectRole, UnitName, Within, refuse_object}
@@ -26,7 +26,7 @@ use Rattle.hunk_files.proofs.{object_walk.UnitFaults.units_words, cuts.UnitReadi
 
 -- ---- the end
 
-position_from : (s : ObjectState) (ws : List ℕ) → leads_to scan.step (position_of s) ws ≡ position_of (run reader s ws)
+position_from : (s : ObjectState) (ws : List ℕ) → leads_to scan.step (position_of s) ws ≡ position_of (state_after reader s ws)
 position_from s [] = refl
 position_from s (w ∷ ws) = ap (λ (p : ObjectPosition). leads_to scan.step p ws) (sym (step_position s w)) ∙ position_from (reader.step s w) ws
 
@@ -42,7 +42,7 @@ object_ends AtCount ws b h = absurd cc
 object_ends (InName owed) ws b h = absurd cc
 object_ends (InBlock next x) ws b h = absurd cc
 
-object_read : (ws : List ℕ) → AreLongs ws → IsFront objects ws → SoFar (run reader reader.start ws) ws
+object_read : (ws : List ℕ) → AreLongs ws → IsFront objects ws → SoFar (state_after reader reader.start ws) ws
 unfolding keeps
 object_read ws l front = elim (judged objects reader keeps ws l) [
   | inl h ↦ absurd (never h.state h.stops)
@@ -50,8 +50,8 @@ object_read ws l front = elim (judged objects reader keeps ws l) [
   | inr (inr h) ↦ h
 ]
 
-object_whole : (o : ObjectFileValue) → IsObjectFile o → run reader reader.start (object_text o) ≡ AtWord BetweenHunks
-object_whole o is = ap (run reader reader.start) (sym (units_words BeforeUnits o)) ∙ leads_run reader reader.start (AtWord BetweenHunks) (units_labelled BeforeUnits o) (file_leads o is)
+object_whole : (o : ObjectFileValue) → IsObjectFile o → state_after reader reader.start (object_text o) ≡ AtWord BetweenHunks
+object_whole o is = ap (state_after reader reader.start) (sym (units_words BeforeUnits o)) ∙ leads_state reader reader.start (AtWord BetweenHunks) (units_labelled BeforeUnits o) (file_leads o is)
 
 -- A file may end where the longwords are one.
 pub end_tells : (o : ObjectFileValue) (ws more : List ℕ) → IsObjectFile o → object_text o ≡ ws ++ more → scan.may_end (object_at ws) ≡ true ↔ AreObject ws
@@ -59,10 +59,10 @@ end_tells o ws more is e = (
   λ b.
       let front : IsFront objects ws = record { value = o; is = (is.some, is.units); more = more; begins = units_words BeforeUnits o ∙ e } in
       let fit : AreLongs ws = All-left IsLong ws more (subst AreLongs e (object_longs o is.units)) in
-      object_ends (run reader reader.start ws) ws (ap scan.may_end (sym (position_from reader.start ws)) ∙ b) (object_read ws fit front),
+      object_ends (state_after reader reader.start ws) ws (ap scan.may_end (sym (position_from reader.start ws)) ∙ b) (object_read ws fit front),
   λ u.
       ap scan.may_end (position_from reader.start ws)
-      ∙ ap (λ (xs : List ℕ). scan.may_end (position_of (run reader reader.start xs))) (sym u.2)
+      ∙ ap (λ (xs : List ℕ). scan.may_end (position_of (state_after reader reader.start xs))) (sym u.2)
       ∙ ap (λ (s : ObjectState). scan.may_end (position_of s)) (object_whole u.0 u.1),
 )
 
@@ -124,7 +124,7 @@ run_leads s (l ∷ ls) h = go (scan.run (position_of s)) refl (run_leads (reader
         let next : left ≡ leading is_free_in_object ls = sym (one_off (position_of s) left l.1 e).run_is ∙ ap scan.run (sym (step_position s l.1)) ∙ rest in
         e ∙ ap suc next ∙ sym (passes_then (is_free_in_object l.0) (suc (leading is_free_in_object ls)) 0 (free_role s l.0 h.0 ∙ ap is_some e))
 
-rest_leads : (s : ObjectState) (done more : List (ObjectRole × ℕ)) → Leads reader s (done ++ more) (AtWord BetweenHunks) → Leads reader (run reader s (words done)) more (AtWord BetweenHunks)
+rest_leads : (s : ObjectState) (done more : List (ObjectRole × ℕ)) → Leads reader s (done ++ more) (AtWord BetweenHunks) → Leads reader (state_after reader s (words done)) more (AtWord BetweenHunks)
 rest_leads s [] more h = h
 rest_leads s (l ∷ done) more h = rest_leads (reader.step s l.1) done more h.1
 
@@ -132,7 +132,7 @@ rest_leads s (l ∷ done) more h = rest_leads (reader.step s l.1) done more h.1
 pub run_is : (o : ObjectFileValue) → IsObjectFile o → (done more : List (ObjectRole × ℕ)) → units_labelled BeforeUnits o ≡ done ++ more → scan.run (object_at (words done)) ≡ leading is_free_in_object more
 run_is o is done more e =
     ap scan.run (position_from reader.start (words done))
-    ∙ run_leads (run reader reader.start (words done)) more (rest_leads reader.start done more (subst (λ ls. Leads reader reader.start ls (AtWord BetweenHunks)) e (file_leads o is)))
+    ∙ run_leads (state_after reader reader.start (words done)) more (rest_leads reader.start done more (subst (λ ls. Leads reader reader.start ls (AtWord BetweenHunks)) e (file_leads o is)))
 
 within_passes : (part : Part) (w : ℕ) → is_free_in_object (Within part) ≡ true → refuse_object (Within part) w ≡ None
 within_passes parts.Payload w e = refl

@@ -9,7 +9,7 @@ use Rattle.hunk_blocks.specs.BlockSteps.{BlockNext, Open, Whole, part_of}
 use Rattle.hunk_grammar.specs.PhaseSteps.{part_at, longest_run_of, pass_longest_run_of}
 use Rattle.hunk_blocks.specs.ReaderPhase.{phase_of, next_phase}
 use Rattle.hunk_grammar.specs.declared.phase.Phase.{Phase}
-use Rattle.hunk_blocks.proofs.{FaultScan.Machine, Outcomes.{Keeps, run, front}}
+use Rattle.hunk_blocks.proofs.{FaultScan.Machine, Outcomes.{Keeps, state_after, front}}
 use Rattle.hunk_blocks.proofs.BlockPhases.{step_phase, refuse_phase, longest_runs_inside, no_run}
 use Rattle.hunk_blocks.proofs.KeptWalks.{OnePasses, HasRuns, StandsAt, Walks, starts, stands, word_refused, word_passes}
 use Rattle.hunk_grammar.specs.declared.object_position.ObjectPosition.{ObjectPosition}
@@ -97,13 +97,13 @@ reached AtCount n ws h = h
 reached (InName owed) n ws h = h
 reached (InBlock next x) n ws h = h
 
-run_more : (s : ObjectState) (ws : List ℕ) (w : ℕ) → run reader s (ws ++ w ∷ []) ≡ reader.step (run reader s ws) w
+run_more : (s : ObjectState) (ws : List ℕ) (w : ℕ) → state_after reader s (ws ++ w ∷ []) ≡ reader.step (state_after reader s ws) w
 run_more s [] w = refl
 run_more s (v ∷ ws) w = run_more (reader.step s v) ws w
 
 -- What was read is counted, and led there.
 abbrev pub SoFar : State → List ℕ → Type 0
-SoFar c ws = Counted c.0 (counts_at c).0 (counts_at c).1 ws × (run reader reader.start ws ≡ c.0)
+SoFar c ws = Counted c.0 (counts_at c).0 (counts_at c).1 ws × (state_after reader reader.start ws ≡ c.0)
 
 pub counts : Keeps objects counter
 counts =

@@ -23,16 +23,16 @@ abbrev pub stepped : Position → List ℕ → Position
 stepped p ws = leads_to scan.step p ws
 
 follows : (n m : Next) (ls : Labelled) → NextFits n → AreAccepted ls → Leads n ls m → position_of m ≡ stepped (position_of n) (words ls)
-follows n m [] fits ok run = ap position_of (sym run)
-follows (Finished v) m (l ∷ ls) fits ok run = absurd run
-follows (More p) m (l ∷ ls) fits ok run =
-    let next = step_keeps p l.1 fits ok.0.0 (ap (λ (r : Role). refuse r l.1) run.0 ∙ ok.0.1) in
-    follows (step_file p l.1) m ls next.0 ok.1 run.1
+follows n m [] fits ok leads = ap position_of (sym leads)
+follows (Finished v) m (l ∷ ls) fits ok leads = absurd leads
+follows (More p) m (l ∷ ls) fits ok leads =
+    let next = step_keeps p l.1 fits ok.0.0 (ap (λ (r : Role). refuse r l.1) leads.0 ∙ ok.0.1) in
+    follows (step_file p l.1) m ls next.0 ok.1 leads.1
     ∙ ap (λ (q : Position). stepped q (words ls)) (step_position p l.1 fits)
 
 -- Longwords that are read lead to the position.
 pub read_stepped : (ws : List ℕ) (n : Next) → HasRead ws n → position_of n ≡ stepped positions.FirstLong ws
-read_stepped ws n h = follows (More AtFirst) n h.done tt h.accepted h.run ∙ ap (stepped positions.FirstLong) h.all
+read_stepped ws n h = follows (More AtFirst) n h.done tt h.accepted h.leads ∙ ap (stepped positions.FirstLong) h.all
 
 -- ---- the part
 
@@ -66,4 +66,4 @@ part_fits _ f = refl
 pub expects_read : (before : List ℕ) (role : Role) → Expects before role → (p : Progress) × HasRead before (More p)
 expects_read before role e =
     let r = expected_place before role e in
-    (r.0, record { done = e.done; run = r.1.run; accepted = r.1.accepted; all = e.begins })
+    (r.0, record { done = e.done; leads = r.1.leads; accepted = r.1.accepted; all = e.begins })

@@ -7,7 +7,7 @@ use Rattle.hunk_blocks.specs.{Values.{BlockBody, BlockValue, IsBlock}, Parts.{bl
 use Rattle.hunk_grammar.specs.BlockParts.{Part as BlockPart}
 use Rattle.hunk_blocks.specs.BlockSteps.{BlockNext, Open, Whole, begin_body, step_inside, Follows}
 use Rattle.hunk_blocks.specs.Faults.{Expects, words}
-use Rattle.hunk_blocks.proofs.{BlockText.body_follows, FaultLaws.words-append, FaultScan.Machine, Outcomes.run}
+use Rattle.hunk_blocks.proofs.{BlockText.body_follows, FaultLaws.words-append, FaultScan.Machine, Outcomes.state_after}
 use Rattle.hunk_files.specs.LoadFile.{standing, AreInOrder}
 use Rattle.hunk_files.specs.FileParts.{IsInHeader, IsUnitPart}
 use Rattle.hunk_grammar.specs.declared.object_position.WordPlace.{WordPlace}
@@ -41,7 +41,7 @@ counter =
     }
 
 abbrev along : State → List ℕ → State
-along c ws = run counter c ws
+along c ws = state_after counter c ws
 
 along-append : (c : State) (xs ys : List ℕ) → along c (xs ++ ys) ≡ along (along c xs) ys
 along-append c [] ys = refl

@@ -46,9 +46,9 @@ one_counts p w = one_more (is_between (step_file p w)) _ _ (moves_count p (step_
 
 -- No hunk is opened twice.
 pub leads_count : (n m : Next) (ls : Labelled) → Leads n ls m → opened_count n ≤ opened_count m
-leads_count n m [] run = omega (arith, ap opened_count run)
-leads_count (Finished v) m (l ∷ ls) run = absurd run
-leads_count (More p) m (l ∷ ls) run = omega (arith, (one_counts p l.1).0, leads_count (step_file p l.1) m ls run.1)
+leads_count n m [] leads = omega (arith, ap opened_count leads)
+leads_count (Finished v) m (l ∷ ls) leads = absurd leads
+leads_count (More p) m (l ∷ ls) leads = omega (arith, (one_counts p l.1).0, leads_count (step_file p l.1) m ls leads.1)
 
 -- one, where there are any
 abbrev pub some : Labelled → ℕ
@@ -57,13 +57,13 @@ some (l ∷ ls) = 1
 
 -- Where the last longword opens a hunk, one more is.
 pub leads_some : (n m : Next) (ls : Labelled) → is_between m ≡ true → Leads n ls m → opened_count n + some ls ≤ opened_count m
-leads_some n m [] b run = omega (arith, ap opened_count run)
-leads_some (Finished v) m (l ∷ ls) b run = absurd run
-leads_some (More p) m (l ∷ []) b run = omega (arith, (one_counts p l.1).1 (ap is_between run.1 ∙ b), ap opened_count run.1)
-leads_some (More p) m (l ∷ k ∷ ls) b run = omega (arith, (one_counts p l.1).0, leads_some (step_file p l.1) m (k ∷ ls) b run.1)
+leads_some n m [] b leads = omega (arith, ap opened_count leads)
+leads_some (Finished v) m (l ∷ ls) b leads = absurd leads
+leads_some (More p) m (l ∷ []) b leads = omega (arith, (one_counts p l.1).1 (ap is_between leads.1 ∙ b), ap opened_count leads.1)
+leads_some (More p) m (l ∷ k ∷ ls) b leads = omega (arith, (one_counts p l.1).0, leads_some (step_file p l.1) m (k ∷ ls) b leads.1)
 
 pub leads_open : (p : Progress) (m : Next) (l : Role × ℕ) (ls : Labelled) → is_between m ≡ true → Leads (More p) (l ∷ ls) m → length (opened p) < opened_count m
-leads_open p m l ls b run = omega (arith, leads_some (More p) m (l ∷ ls) b run)
+leads_open p m l ls b leads = omega (arith, leads_some (More p) m (l ∷ ls) b leads)
 
 -- ---- where a hunk opens
 

@@ -79,7 +79,7 @@ hunks_read whole ahead is =
     let split : labelled v ≡ (header ++ front) ++ back = ap (λ (l : Labelled). header ++ l) (flat_map-append (hunk_labelled n) whole ahead) ∙ sym (append_assoc header front back) in
     record {
       done = header ++ front;
-      run =
+      leads =
           Leads-append (More AtFirst) (open_hunk n [] (table v)) (open_hunk n whole (table ahead)) header front (table_read v is)
           (subst (λ (t : List TableEntry). Leads (open_hunk n [] t) front (open_hunk n whole (table ahead))) (sym (map-append (λ (h : HunkValue). h.entry) whole ahead))
           (hunks_lead n [] whole (table ahead) (All-left (IsHunk n) whole ahead is.each)));
@@ -93,7 +93,7 @@ record IsReadTo (before : List ℕ) (last : Next) : Type 0 where
   read : HasRead before (More progress)
   label : Role × ℕ
   rest : Labelled
-  run : Leads (More progress) (label ∷ rest) last
+  leads : Leads (More progress) (label ∷ rest) last
 
 read_to : (before : List ℕ) (w : ℕ) (more : List ℕ) (last : Next) → HasRead (before ++ w ∷ more) last → IsReadTo before last
 read_to before w more last h =
@@ -102,10 +102,10 @@ read_to before w more last h =
     go f.0 f.1 r.0 r.1 r.3
   where
     go : (n : Next) → HasRead before n → (ls : Labelled) → Leads n ls last → words ls ≡ w ∷ more → IsReadTo before last
-    go (More p) k (l ∷ ls) run e = record { progress = p; read = k; label = l; rest = ls; run = run }
-    go (Finished v) k (l ∷ ls) run e = absurd run
-    go (More p) k [] run e = absurd cc
-    go (Finished v) k [] run e = absurd cc
+    go (More p) k (l ∷ ls) leads e = record { progress = p; read = k; label = l; rest = ls; leads = leads }
+    go (Finished v) k (l ∷ ls) leads e = absurd leads
+    go (More p) k [] leads e = absurd cc
+    go (Finished v) k [] leads e = absurd cc
 
 -- ---- in the header
 
@@ -113,7 +113,7 @@ pub header_place : (before : List ℕ) → IsInLoadHeader before → (p : Progre
 header_place before h =
     let n : Next = open_hunk (length h.value) [] (table h.value) in
     let r = read_to before h.next h.more n (subst (λ (ws : List ℕ). HasRead ws n) (append-nil (header_text h.value) ∙ h.split) (hunks_read [] h.value h.is_load_file)) in
-    let few = leads_open r.progress n r.label r.rest (opens_between (length h.value) [] (table h.value)) r.run in
+    let few = leads_open r.progress n r.label r.rest (opens_between (length h.value) [] (table h.value)) r.leads in
     (r.progress, r.read, omega (arith, few, opens_count (length h.value) [] (table h.value)))
 
 -- ---- in a hunk
@@ -151,7 +151,7 @@ module _ (before : List ℕ) (hunk : ℕ) (h : IsInLoadHunk before hunk) where
   pub hunk_place : (p : Progress) × HasRead before (More p) × (length (opened p) ≡ suc hunk)
   hunk_place =
       let r = read_to before h.next h.more in_rest read_after in
-      let most = leads_open r.progress in_rest r.label r.rest (opens_between (length (with_open ++ h.ahead)) with_open (table h.ahead)) r.run in
+      let most = leads_open r.progress in_rest r.label r.rest (opens_between (length (with_open ++ h.ahead)) with_open (table h.ahead)) r.leads in
       let open_read = hunks_read h.whole (h.hunk_open ∷ h.ahead) h.is_load_file in
       let front = rest_read (header_text file ++ hunk_texts h.whole) here open_read before (More r.progress) r.read h.front (h.split ∙ sym (append_assoc (header_text file) (hunk_texts h.whole) h.front)) in
       let least = leads_count here (More r.progress) front.0 front.1 in (
@@ -178,9 +178,9 @@ module _ (before : List ℕ) (hunk : ℕ) (h : IsInLoadHunk before hunk) where
       go front.0 front.1 front.3 (omega (arith, ap opened_count same, place.2))
     where
       go : (ls : Labelled) → Leads here ls (More p) → words ls ≡ h.front → opened_count (More p) ≡ suc hunk → h.front ≡ []
-      go [] run e count = sym e
-      go (l ∷ ls) run e count =
-          absurd (omega (arith, leads_some here (More p) (l ∷ ls) b run, count, h.hunk_is, opens_count (length file) h.whole (table (h.hunk_open ∷ h.ahead))))
+      go [] leads e count = sym e
+      go (l ∷ ls) leads e count =
+          absurd (omega (arith, leads_some here (More p) (l ∷ ls) b leads, count, h.hunk_is, opens_count (length file) h.whole (table (h.hunk_open ∷ h.ahead))))
 
 -- ---- the part
 

@@ -24,11 +24,11 @@ IsOwed l = IsAccepted l × (l.1 ≡ completing l.0)
 pub record Completes (n : Next) : Type 0 where
   pub value : LoadFileValue
   pub labels : Labelled
-  pub run : Leads n labels (Finished value)
+  pub leads : Leads n labels (Finished value)
   pub accepted : AllByRecursion IsOwed labels
 
 on_step : (p : Progress) (w : ℕ) → IsLong w → refuse (role_of p) w ≡ None → w ≡ completing (role_of p) → Completes (step_file p w) → Completes (More p)
-on_step p w l ok e c = record { value = c.value; labels = (role_of p, w) ∷ c.labels; run = (refl, c.run); accepted = (((l, ok), e), c.accepted) }
+on_step p w l ok e c = record { value = c.value; labels = (role_of p, w) ∷ c.labels; leads = (refl, c.leads); accepted = (((l, ok), e), c.accepted) }
 
 -- ---- hunks
 
@@ -48,7 +48,7 @@ filled_and_ended o e c =
     (on_step (InBody o 0x3EB (AtSize ForBss)) 0 (omega arith) (size_zero_passes (place_of o)) refl (end_completes (with_block o (block 0x3EB (Bss 0)) true) refl c))
 
 hunks_complete : (hunks : ℕ) (finished : List HunkValue) (ahead : List TableEntry) → Completes (open_hunk hunks finished ahead)
-hunks_complete hunks finished [] = record { value = finished; labels = []; run = refl; accepted = tt }
+hunks_complete hunks finished [] = record { value = finished; labels = []; leads = refl; accepted = tt }
 hunks_complete hunks finished (e ∷ ahead) =
     filled_and_ended (record { hunks = hunks; finished = finished; entry = e; blocks = []; has_content = false; ahead = ahead }) refl
     (hunks_complete hunks (finished ++ hunk e (block 0x3EB (Bss 0) ∷ block 0x3F2 End ∷ []) ∷ []) ahead)
@@ -82,15 +82,15 @@ zero_completes p _ = refl
 
 module _ (o : HunkSoFar) (word : ℕ) (some : 0 < o.hunks) where
   parts_complete : (n : BlockNext) (ps : List (Part × ℕ)) (body : BlockBody) → NextFits (place_of o) word n → AllByRecursion inside.IsZero ps → Follows n ps (Whole body) → Completes (after o word n)
-  parts_complete n [] body f z run = subst (λ (m : BlockNext). Completes (after o word m)) (sym run) (close_completes o (block word body) (standing body))
-  parts_complete (Whole b) (p ∷ ps) body f z run = absurd run
-  parts_complete (Open x) (p ∷ ps) body f z run =
+  parts_complete n [] body f z leads = subst (λ (m : BlockNext). Completes (after o word m)) (sym leads) (close_completes o (block word body) (standing body))
+  parts_complete (Whole b) (p ∷ ps) body f z leads = absurd leads
+  parts_complete (Open x) (p ∷ ps) body f z leads =
       let ok = zero_passes (place_of o) word x some f.1 in
       on_step (InBody o word x) 0 (omega arith) ok (zero_completes (place_of o) x)
-      (parts_complete (step_inside x 0) ps body (step_fits (place_of o) word x 0 f (omega arith) ok) z.1 (subst (λ (w : ℕ). Follows (step_inside x w) ps (Whole body)) z.0 run.1))
+      (parts_complete (step_inside x 0) ps body (step_fits (place_of o) word x 0 f (omega arith) ok) z.1 (subst (λ (w : ℕ). Follows (step_inside x w) ps (Whole body)) z.0 leads.1))
 
   body_completes : (x : Inside) → NextFits (place_of o) word (Open x) → Completes (More (InBody o word x))
-  body_completes x f = let c = inside.completes x in parts_complete (Open x) c.parts c.body f c.zeros c.run
+  body_completes x f = let c = inside.completes x in parts_complete (Open x) c.parts c.body f c.zeros c.follows
 
 -- ---- everything
 
@@ -122,4 +122,4 @@ completes (More (AtSizeWord hunks done n)) h = rows_complete hunks done (suc n)
 completes (More (AtAttributes hunks done word n)) h = on_step (AtAttributes hunks done word n) 0 (omega arith) refl refl (rows_complete hunks (done ++ table_entry word 0 ∷ []) n)
 completes (More (AtBlock o)) h = open_completes o
 completes (More (InBody o word x)) h = body_completes o word h.0.front_fits.hunks_fit.0 x h.2
-completes (Finished v) h = record { value = v; labels = []; run = refl; accepted = tt }
+completes (Finished v) h = record { value = v; labels = []; leads = refl; accepted = tt }

@@ -104,12 +104,12 @@ step_falls longs (positions.Body o phase) w ok = phase_falls o longs phase w ok
 step_falls longs _ w ok = omega arith
 
 run_least : (n : Next) (ls : Labelled) (v : LoadFileValue) → NextFits n → AreAccepted ls → Leads n ls (Finished v) → least_longs (position_of n) ≤ length ls
-run_least (More p) [] v h ok run = absurd cc
-run_least (Finished u) [] v h ok run = omega arith
-run_least (Finished u) (l ∷ ls) v h ok run = absurd run
-run_least (More p) (l ∷ ls) v h ok run =
-    let pass = ap (λ (r : Role). refuse r l.1) run.0 ∙ ok.0.1 in
-    let rest = run_least (step_file p l.1) ls v (step_keeps p l.1 h ok.0.0 pass).0 ok.1 run.1 in
+run_least (More p) [] v h ok leads = absurd cc
+run_least (Finished u) [] v h ok leads = omega arith
+run_least (Finished u) (l ∷ ls) v h ok leads = absurd leads
+run_least (More p) (l ∷ ls) v h ok leads =
+    let pass = ap (λ (r : Role). refuse r l.1) leads.0 ∙ ok.0.1 in
+    let rest = run_least (step_file p l.1) ls v (step_keeps p l.1 h ok.0.0 pass).0 ok.1 leads.1 in
     omega (arith, rest, ap least_longs (step_position p l.1 h), step_falls (open_longs p) (position_of (More p)) l.1 (sym (refuse_same p l.1 h) ∙ pass))
 
 -- No load text that begins with what was read ends in fewer longwords.

@@ -44,25 +44,25 @@ free_role AtFirst f = refl
 free_role _ f = refl
 
 run_leads : (n : Next) (ls : Labelled) (v : LoadFileValue) → NextFits n → AreAccepted ls → Leads n ls (Finished v) → scan.run (position_of n) ≡ leading is_free ls
-run_leads (Finished u) [] v f ok run = refl
-run_leads (More p) [] v f ok run = absurd cc
-run_leads (Finished u) (l ∷ ls) v f ok run = absurd run
-run_leads (More p) (l ∷ ls) v f ok run =
-    let pass = ap (λ (r : Role). refuse r l.1) run.0 ∙ ok.0.1 in
-    go (scan.run (position_of (More p))) refl (run_leads (step_file p l.1) ls v (step_keeps p l.1 f ok.0.0 pass).0 ok.1 run.1)
+run_leads (Finished u) [] v f ok leads = refl
+run_leads (More p) [] v f ok leads = absurd cc
+run_leads (Finished u) (l ∷ ls) v f ok leads = absurd leads
+run_leads (More p) (l ∷ ls) v f ok leads =
+    let pass = ap (λ (r : Role). refuse r l.1) leads.0 ∙ ok.0.1 in
+    go (scan.run (position_of (More p))) refl (run_leads (step_file p l.1) ls v (step_keeps p l.1 f ok.0.0 pass).0 ok.1 leads.1)
   where
     go : (r : ℕ) → scan.run (position_of (More p)) ≡ r → scan.run (position_of (step_file p l.1)) ≡ leading is_free ls → scan.run (position_of (More p)) ≡ cond (is_free l.0) (suc (leading is_free ls)) 0
-    go zero e rest = e ∙ sym (passes_else (is_free l.0) (suc (leading is_free ls)) 0 (ap is_free (sym run.0) ∙ free_role p f ∙ ap is_some e))
+    go zero e rest = e ∙ sym (passes_else (is_free l.0) (suc (leading is_free ls)) 0 (ap is_free (sym leads.0) ∙ free_role p f ∙ ap is_some e))
     go (suc left) e rest =
         let next : left ≡ leading is_free ls = sym (one_of_run (position_of (More p)) 0 left l.1 e).run_is ∙ ap scan.run (sym (step_position p l.1 f)) ∙ rest in
-        e ∙ ap suc next ∙ sym (passes_then (is_free l.0) (suc (leading is_free ls)) 0 (ap is_free (sym run.0) ∙ free_role p f ∙ ap is_some e))
+        e ∙ ap suc next ∙ sym (passes_then (is_free l.0) (suc (leading is_free ls)) 0 (ap is_free (sym leads.0) ∙ free_role p f ∙ ap is_some e))
 
 -- The run is as long as the free longwords that come next.
 pub run_is : (v : LoadFileValue) → IsLoadFile v → (done more : Labelled) → labelled v ≡ done ++ more → scan.run (load_at (words done)) ≡ leading is_free more
 run_is v is done more e =
     let ok = subst AreAccepted e (labelled_accepted v is) in
     let cut = Leads-split (More AtFirst) (Finished v) done more (subst (λ (ls : Labelled). Leads (More AtFirst) ls (Finished v)) e (file_leads v is)) in
-    let h : HasRead (words done) cut.0 = record { done = done; run = cut.1; accepted = All-left IsAccepted done more ok; all = refl } in
+    let h : HasRead (words done) cut.0 = record { done = done; leads = cut.1; accepted = All-left IsAccepted done more ok; all = refl } in
     ap scan.run (position_at (words done) cut.0 h) ∙ run_leads cut.0 more v (reads h).0 (All-right IsAccepted done more ok) cut.2
 
 -- ---- free longwords

@@ -29,15 +29,15 @@ longs_same (InBody o word x) = refl
 longs_same _ = refl
 
 load_from : (n m : Next) (before ls : Labelled) → Reads n before → AreAccepted ls → Leads n ls m → GoesAlong refuse_in_load refuse load.step (position_of n) ls (position_of m)
-load_from n m before [] h ok run = ap position_of run
-load_from (Finished v) m before (l ∷ ls) h ok run = absurd run
-load_from (More p) m before (l ∷ ls) h ok run =
-    let passes = subst (λ (r : Role). refuse r l.1 ≡ None) (sym run.0) ok.0.1 in (
+load_from n m before [] h ok leads = ap position_of leads
+load_from (Finished v) m before (l ∷ ls) h ok leads = absurd leads
+load_from (More p) m before (l ∷ ls) h ok leads =
+    let passes = subst (λ (r : Role). refuse r l.1 ≡ None) (sym leads.0) ok.0.1 in (
       λ w.
-          subst (λ (r : Role). refuse (load.role_at (longs_of r) (position_of (More p))) w ≡ refuse r w) run.0
+          subst (λ (r : Role). refuse (load.role_at (longs_of r) (position_of (More p))) w ≡ refuse r w) leads.0
           (ap (λ (longs : ℕ). refuse (load.role_at longs (position_of (More p))) w) (longs_same p) ∙ sym (refuse_same p w h.0)),
       subst (λ (q : Position). GoesAlong refuse_in_load refuse load.step q ls (position_of m)) (step_position p l.1 h.0)
-          (load_from (step_file p l.1) m (read_progress p ++ (role_of p, l.1) ∷ []) ls (step_keeps p l.1 h.0 ok.0.0 passes) ok.1 run.1),
+          (load_from (step_file p l.1) m (read_progress p ++ (role_of p, l.1) ∷ []) ls (step_keeps p l.1 h.0 ok.0.0 passes) ok.1 leads.1),
     )
 
 pub load_along : (v : LoadFileValue) → IsLoadFile v → GoesAlong refuse_in_load refuse load.step positions.FirstLong (labelled v) positions.Done

@@ -146,10 +146,10 @@ module _ (v : LoadFileValue) where
   before _ w h = tt
 
   leads_of : (n : Next) (ls : Labelled) → Leads n ls (Finished v) → IsNextOf n
-  leads_of (Finished u) [] run = let same : u ≡ v = cc in same
-  leads_of (More p) [] run = absurd cc
-  leads_of (Finished u) (l ∷ ls) run = absurd run
-  leads_of (More p) (l ∷ ls) run = before p l.1 (leads_of (step_file p l.1) ls run.1)
+  leads_of (Finished u) [] leads = let same : u ≡ v = cc in same
+  leads_of (More p) [] leads = absurd cc
+  leads_of (Finished u) (l ∷ ls) leads = absurd leads
+  leads_of (More p) (l ∷ ls) leads = before p l.1 (leads_of (step_file p l.1) ls leads.1)
 
 -- What was read is of each load file that begins with it.
 pub read_of : (ws more : List ℕ) (p : Progress) (v : LoadFileValue) → HasRead ws (More p) → IsLoadFile v → text v ≡ ws ++ more → IsOf v p

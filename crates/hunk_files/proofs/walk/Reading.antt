@@ -15,7 +15,7 @@ use Rattle.hunk_blocks.proofs.{Fronts.{All-left, All-right}}
 
 -- The longwords alone determine where they lead.
 pub one_place : (ws : List ℕ) (n m : Next) → HasRead ws n → HasRead ws m → n ≡ m
-one_place ws n m h k = (Leads-same (More AtFirst) n m h.done k.done h.run k.run (h.all ∙ sym k.all)).1
+one_place ws n m h k = (Leads-same (More AtFirst) n m h.done k.done h.leads k.leads (h.all ∙ sym k.all)).1
 
 -- A longword that is refused here is the fault.
 pub read_refused : (bytes ws : List ℕ) (p : Progress) (w : ℕ) (after : List ℕ) (reason : Reason) → HasRead ws (More p) → longs bytes ≡ ws ++ w ∷ after → refuse (role_of p) w ≡ Some reason →
@@ -41,8 +41,8 @@ module _ (ws : List ℕ) (n : Next) (h : HasRead ws n) (all : List ℕ) (last : 
   pub rest_read : (ls : Labelled) × Leads n ls last × AreAccepted ls × (words ls ≡ more)
   rest_read =
       let s = words_split k.done ws more (k.all ∙ e) in
-      let cut = Leads-split (More AtFirst) last s.front s.back (subst (λ (ls : Labelled). Leads (More AtFirst) ls last) s.split k.run) in
-      let same = Leads-same (More AtFirst) cut.0 n s.front h.done cut.1 h.run (s.front_words ∙ sym h.all) in (
+      let cut = Leads-split (More AtFirst) last s.front s.back (subst (λ (ls : Labelled). Leads (More AtFirst) ls last) s.split k.leads) in
+      let same = Leads-same (More AtFirst) cut.0 n s.front h.done cut.1 h.leads (s.front_words ∙ sym h.all) in (
         s.back,
         subst (λ (m : Next). Leads m s.back last) same.1 cut.2,
         All-right IsAccepted s.front s.back (subst AreAccepted s.split k.accepted),
@@ -53,16 +53,16 @@ module _ (ws : List ℕ) (n : Next) (h : HasRead ws n) (all : List ℕ) (last : 
 pub front_read : (ws more : List ℕ) (last : Next) → HasRead (ws ++ more) last → (n : Next) × HasRead ws n
 front_read ws more last h =
     let s = words_split h.done ws more h.all in
-    let cut = Leads-split (More AtFirst) last s.front s.back (subst (λ (ls : Labelled). Leads (More AtFirst) ls last) s.split h.run) in
-    (cut.0, record { done = s.front; run = cut.1; accepted = All-left IsAccepted s.front s.back (subst AreAccepted s.split h.accepted); all = s.front_words })
+    let cut = Leads-split (More AtFirst) last s.front s.back (subst (λ (ls : Labelled). Leads (More AtFirst) ls last) s.split h.leads) in
+    (cut.0, record { done = s.front; leads = cut.1; accepted = All-left IsAccepted s.front s.back (subst AreAccepted s.split h.accepted); all = s.front_words })
 
 -- A load text is read to its end.
 pub file_read : (v : LoadFileValue) → IsLoadFile v → HasRead (text v) (Finished v)
-file_read v is = record { done = labelled v; run = file_leads v is; accepted = labelled_accepted v is; all = refl }
+file_read v is = record { done = labelled v; leads = file_leads v is; accepted = labelled_accepted v is; all = refl }
 
 first_passes : (p : Progress) (ls : Labelled) (v : LoadFileValue) (w : ℕ) (more : List ℕ) → Leads (More p) ls (Finished v) → AreAccepted ls → words ls ≡ w ∷ more → refuse (role_of p) w ≡ None
-first_passes p [] v w more run ok e = absurd cc
-first_passes p (l ∷ ls) v w more run ok e = search rules
+first_passes p [] v w more leads ok e = absurd cc
+first_passes p (l ∷ ls) v w more leads ok e = search rules
 
 -- No longword of a load text that goes on from here is refused.
 pub read_passes : (ws : List ℕ) (p : Progress) → HasRead ws (More p) → (v : LoadFileValue) → IsLoadFile v → (w : ℕ) (more : List ℕ) → text v ≡ ws ++ w ∷ more → refuse (role_of p) w ≡ None

@@ -30,31 +30,31 @@ Leads-same (More p) b c (l ∷ ls) (m ∷ ms) h k e =
 
 -- A run over longwords that pass keeps what fits, and adds them to the text.
 pub Leads-keeps : (a b : Next) (before ls : Labelled) → Reads a before → AreAccepted ls → Leads a ls b → Reads b (before ++ ls)
-Leads-keeps a b before [] h ok run = subst (λ (x : Next). Reads x (before ++ [])) run (h.0, h.1 ∙ sym (append-nil before))
-Leads-keeps (Finished v) b before (l ∷ ls) h ok run = absurd run
-Leads-keeps (More p) b before (l ∷ ls) h ok run =
-    let role : role_of p ≡ l.0 = run.0 in
+Leads-keeps a b before [] h ok leads = subst (λ (x : Next). Reads x (before ++ [])) leads (h.0, h.1 ∙ sym (append-nil before))
+Leads-keeps (Finished v) b before (l ∷ ls) h ok leads = absurd leads
+Leads-keeps (More p) b before (l ∷ ls) h ok leads =
+    let role : role_of p ≡ l.0 = leads.0 in
     let one = step_keeps p l.1 h.0 ok.0.0 (subst (λ (r : Role). refuse r l.1 ≡ None) (sym role) ok.0.1) in
     subst (λ (ms : Labelled). Reads b ms) (append_assoc before (l ∷ []) ls)
     (Leads-keeps (step_file p l.1) b (before ++ l ∷ []) ls
     (one.0, one.1 ∙ ap₂ (λ (ms : Labelled) (r : Role). ms ++ (r, l.1) ∷ []) h.1 role)
-    ok.1 run.1)
+    ok.1 leads.1)
 
 -- ---- what was read
 
 -- What was read fits, and is the text so far.
 pub reads : {ws : List ℕ} {n : Next} (h : HasRead ws n) → Reads n h.done
-reads {ws} {n} h = Leads-keeps (More AtFirst) n [] h.done (tt, refl) h.accepted h.run
+reads {ws} {n} h = Leads-keeps (More AtFirst) n [] h.done (tt, refl) h.accepted h.leads
 
 pub start_read : HasRead [] (More AtFirst)
-start_read = record { done = []; run = refl; accepted = tt; all = refl }
+start_read = record { done = []; leads = refl; accepted = tt; all = refl }
 
 -- One more longword is read.
 pub step_read : (ws : List ℕ) (p : Progress) (w : ℕ) → HasRead ws (More p) → IsLong w → refuse (role_of p) w ≡ None → HasRead (ws ++ w ∷ []) (step_file p w)
 step_read ws p w h l ok =
     record {
       done = h.done ++ (role_of p, w) ∷ [];
-      run = Leads-append (More AtFirst) (More p) (step_file p w) h.done ((role_of p, w) ∷ []) h.run (refl, refl);
+      leads = Leads-append (More AtFirst) (More p) (step_file p w) h.done ((role_of p, w) ∷ []) h.leads (refl, refl);
       accepted = All-append IsAccepted h.done ((role_of p, w) ∷ []) h.accepted ((l, ok), tt);
       all = map-append (λ (x : Role × ℕ). x.1) h.done ((role_of p, w) ∷ []) ∙ ap (λ (xs : List ℕ). xs ++ w ∷ []) h.all;
     }

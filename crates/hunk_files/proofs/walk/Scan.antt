@@ -10,7 +10,7 @@ use Rattle.hunk_files.specs.FileSteps.{Progress, AtFirst, Next, More, Finished, 
 use Rattle.hunk_files.specs.WordsRead.{HasRead, Labelled, IsAccepted, AreAccepted}
 use Rattle.hunk_grammar.specs.Roles.{Role, refuse}
 use Rattle.hunk_blocks.proofs.FaultScan.{Machine, Leads as LeadsOf, Reads as ReadsOf, one_fault as one_of, front_passes, whole_passes, ends_together}
-use Rattle.hunk_blocks.proofs.{Outcomes.{Keeps, run, front, judged, expected_role}, Fronts.All-left}
+use Rattle.hunk_blocks.proofs.{Outcomes.{Keeps, state_after, front, judged, expected_role}, Fronts.All-left}
 use Rattle.hunk_blocks.specs.Faults.{IsFront, words}
 use Rattle.hunk_files.proofs.{walk.FileText.file_leads, walk.FileProgress.{Reads, step_keeps}, walk.Runs.{Leads-split, Leads-keeps, reads, start_read, step_read}}
 use Rattle.hunk_files.proofs.{walk.Accepted.labelled_accepted, walk.Completion.{IsOwed, completes}}
@@ -19,7 +19,7 @@ use Rattle.hunk_words.proofs.LongLaws.{longs-bytes_of, bytes_of-append, spelled,
 -- ---- a place in a load text
 
 pub record IsReached (done : Labelled) (role : Role) (p : Progress) : Type 0 where
-  pub run : Leads (More AtFirst) done (More p)
+  pub leads : Leads (More AtFirst) done (More p)
   pub role_is : role_of p ≡ role
   pub reads : Reads (More p) done
   pub accepted : AreAccepted done
@@ -34,7 +34,7 @@ place_in v h done l more e = go cut.0 cut.1 cut.2
     ok = All-left IsAccepted done (l ∷ more) (subst AreAccepted e (labelled_accepted v h))
 
     go : (b : Next) → Leads (More AtFirst) done b → Leads b (l ∷ more) (Finished v) → (p : Progress) × IsReached done l.0 p
-    go (More p) a c = (p, record { run = a; role_is = c.0; reads = Leads-keeps (More AtFirst) (More p) [] done (tt, refl) ok a; accepted = ok })
+    go (More p) a c = (p, record { leads = a; role_is = c.0; reads = Leads-keeps (More AtFirst) (More p) [] done (tt, refl) ok a; accepted = ok })
     go (Finished x) a c = absurd c
 
 pub expected_place : (before : List ℕ) (role : Role) → (e : Expects before role) → (p : Progress) × IsReached e.done role p
@@ -55,13 +55,13 @@ accepted_of (l ∷ ls) h = (h.0.0, accepted_of ls h.1)
 
 -- a run to the end ends in a load file of this text
 ends_in : (n : Next) (done labels : Labelled) (v : LoadFileValue) → Reads n done → AllByRecursion IsOwed labels → Leads n labels (Finished v) → IsLoadFile v × (labelled v ≡ done ++ labels)
-ends_in n done labels v h ok run = Leads-keeps n (Finished v) done labels h (accepted_of labels ok) run
+ends_in n done labels v h ok leads = Leads-keeps n (Finished v) done labels h (accepted_of labels ok) leads
 
 front_by : (p : Progress) (done : Labelled) (v : LoadFileValue) → Reads (More p) done → (ls : Labelled) → Leads (More p) ls (Finished v) → AllByRecursion IsOwed ls → IsBegun done p
-front_by p done v h [] run ok = absurd cc
-front_by p done v h (l ∷ ls) run ok =
-    let e : (l.0, l.1) ≡ (role_of p, l.1) = λ i. (sym run.0 i, l.1) in
-    let kept = ends_in (More p) done (l ∷ ls) v h ok run in
+front_by p done v h [] leads ok = absurd cc
+front_by p done v h (l ∷ ls) leads ok =
+    let e : (l.0, l.1) ≡ (role_of p, l.1) = λ i. (sym leads.0 i, l.1) in
+    let kept = ends_in (More p) done (l ∷ ls) v h ok leads in
     record {
       value = v;
       is_load_file = kept.0;
@@ -72,7 +72,7 @@ front_by p done v h (l ∷ ls) run ok =
     }
 
 pub front_of : (p : Progress) (done : Labelled) → Reads (More p) done → IsBegun done p
-front_of p done h = let c = completes (More p) h.0 in front_by p done c.value h c.labels c.run c.accepted
+front_of p done h = let c = completes (More p) h.0 in front_by p done c.value h c.labels c.leads c.accepted
 
 pub expects_of : (p : Progress) (done : Labelled) → Reads (More p) done → Expects (words done) (role_of p)
 expects_of p done h =
@@ -128,7 +128,7 @@ completed before role word e l ok =
     let done : Labelled = e.done ++ (role_of p, word) ∷ [] in
     let kept : Reads (step_file p word) done = (k.0, k.1 ∙ ap (λ (ls : Labelled). ls ++ (role_of p, word) ∷ []) r.reads.1) in
     let c = completes (step_file p word) kept.0 in
-    let end = ends_in (step_file p word) done c.labels c.value kept c.accepted c.run in
+    let end = ends_in (step_file p word) done c.labels c.value kept c.accepted c.leads in
     record {
       value = c.value;
       is_load_file = end.0;
@@ -246,7 +246,7 @@ unfolding keeps
 some_outcome bytes fit = elim (judged load_files load_reader keeps (longs bytes) (longs_fit bytes fit)) [
   | inl h ↦ inl (begins_with bytes fit h.value h.is h.rest h.split)
   | inr (inl h) ↦ inr (h.at, h.reason, inl h.refusal)
-  | inr (inr h) ↦ all_read (run load_reader (More AtFirst) (longs bytes)) h
+  | inr (inr h) ↦ all_read (state_after load_reader (More AtFirst) (longs bytes)) h
 ]
   where
     all_read : (n : Next) → HasRead (longs bytes) n → BeginsWithLoadFile bytes ⊎ ((at : ℕ) × (reason : Reason) × HasFault bytes at reason)

@@ -108,11 +108,11 @@ pub fn agrees(alloc: Global, bytes: &[u8], cut: usize) -> Result<bool, AllocErro
 type Answer = Option<(u64, Reason)>;
 
 /// A file, what the decoder answers for it, and what a load has to answer.
-type Row = (&'static str, Answer, Answer);
+type Case = (&'static str, Answer, Answer);
 
 /// The budget is passed at the first row, which declares 1,004 bytes, or at the second after one of 1,000: in files
 /// that the decoder accepts, or refuses after that row.
-const PASSED: &[Row] = &[
+const PASSED: &[Case] = &[
     (
         "3F3 0 1 0 0 FB / 3E9 0 / 3F2",
         None,
@@ -147,7 +147,7 @@ const PASSED: &[Row] = &[
 
 /// It is not: the table ends before, at a block word or at attributes that are more than 1,000 as a size, or the
 /// input does; or a longword of the header is refused before such a row.
-const NOT_PASSED: &[Row] = &[
+const NOT_PASSED: &[Case] = &[
     ("3F3 0 1 0 0 FA / 3E9 0 / 3F2", None, None),
     (ONE_HUNK, None, None),
     (WITH_ATTRIBUTES, None, None),
@@ -216,7 +216,7 @@ fn expect_fits(rt: &impl Abort, bytes: &[u8], decoded: Option<LoadFault>, want: 
 
 /// Sees that the decoder answers what the row says, that nothing but the row's answer of a load fits that, and that
 /// `load` answers it.
-fn expect(rt: &impl Abort, alloc: Global, (text, decodes, loads): &Row) -> Result<(), Fail> {
+fn expect(rt: &impl Abort, alloc: Global, (text, decodes, loads): &Case) -> Result<(), Fail> {
     let bytes = spelled(alloc, text)?;
     let decoded = LoadFile::decode(alloc, &bytes).err();
     assert_equal_at(rt, decoded, fault_of(*decodes), text);

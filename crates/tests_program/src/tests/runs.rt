@@ -35,7 +35,7 @@ enum At {
 }
 
 /// The words of a command, where it is to find its bytes, what it prints and its status.
-type Row = (&'static str, At, &'static str, u8);
+type Case = (&'static str, At, &'static str, u8);
 
 /// What came of a run.
 #[derive(Drop)]
@@ -72,7 +72,7 @@ fn ran(alloc: Global, given: Given<'_>, room: usize, line: &str) -> Result<Outco
 
 /// Sees that a run over these bytes, at their place, prints what its row says, ends with its
 /// status, and creates no file. At the other place are the bytes of `OTHER`.
-fn expect(rt: &impl Abort, alloc: Global, bytes: &[u8], row: &Row) -> Result<(), Fail> {
+fn expect(rt: &impl Abort, alloc: Global, bytes: &[u8], row: &Case) -> Result<(), Fail> {
     let (line, at, want, status) = *row;
     let (input, content) = match at {
         At::Input => (bytes, OTHER.as_slice()),

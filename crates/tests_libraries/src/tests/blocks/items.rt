@@ -139,7 +139,7 @@ fn read_of(alloc: Global, body: BodyView<'_>) -> Result<Read, AllocError> {
 
 /// A text, its word and flags, how many bytes of content it has, what stands after the word, and where its items
 /// begin, counted from its first byte.
-type Row = (
+type Case = (
     &'static str,
     (u32, u8),
     Option<u64>,
@@ -148,7 +148,7 @@ type Row = (
 );
 
 /// Examples 33 and 44, and blocks of each kind of list.
-const ROWS: &[Row] = &[
+const ROWS: &[Case] = &[
     ("200003F2", (0x2000_03F2, 1), None, &[], &[]),
     ("3EB 80000002", (0x3EB, 0), Some(8), &[0x8000_0002], &[]),
     (
@@ -224,7 +224,7 @@ fn view_at(bytes: &[u8], place: usize) -> Result<BlockView<'_>, BlockFault>
 }
 
 /// Sees that the block after the two longwords is read as its row says.
-fn expect_view(rt: &impl Abort, alloc: Global, bytes: &[u8], row: &Row) -> Result<(), Fail> {
+fn expect_view(rt: &impl Abort, alloc: Global, bytes: &[u8], row: &Case) -> Result<(), Fail> {
     let (text, word, content, told, places) = row;
     assert!(rt; bytes.len() >= 8);
     let view = view_at(bytes, 8)?;
@@ -242,7 +242,7 @@ fn expect_view(rt: &impl Abort, alloc: Global, bytes: &[u8], row: &Row) -> Resul
 }
 
 /// Sees that the block tells what its row says.
-fn expect_block(rt: &impl Abort, alloc: Global, block: &Block<'_>, row: &Row) -> Result<(), Fail> {
+fn expect_block(rt: &impl Abort, alloc: Global, block: &Block<'_>, row: &Case) -> Result<(), Fail> {
     let (text, word, content, told, _) = row;
     assert_equal_at(rt, (block.word().word(), block.word().flags()), *word, text);
     assert_equal_at(rt, block.body().content_bytes(), *content, text);

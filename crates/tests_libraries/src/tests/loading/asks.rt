@@ -138,8 +138,8 @@ fn expect_pulls(
 /// row of 12 bytes a hunk and once for the declared bytes: `tests/growths/sizes` counts that.
 ///
 /// Each pulls 24 bytes of the header, and 12, the least that a hunk has: the word, the count and a longword of the
-/// content. The word of the DEBUG block is pulled as END would be, by 4, and its count with an END, by 8, which brings a
-/// longword of its data. Then both have as many bytes to come as the content or the data have, END among them, which
+/// content. The word of the DEBUG block is pulled as END would be, by 4, and its count with an END, by 8, which brings
+/// a longword of its data. Then both have as many bytes to come as the content or the data have, END among them, which
 /// are pulled by 256.
 fn loads(rt: &impl Abort, alloc: Global, bytes: u32) -> Result<(), Fail> {
     let (longs, pieces) = (bytes / 4, bytes.div_ceil(256));

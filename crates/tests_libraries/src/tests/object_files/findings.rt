@@ -84,10 +84,10 @@ fn kept(rt: &impl Abort, alloc: Global, bytes: &[u8]) -> Result<Vec<Finding>, Fa
 }
 
 /// What is wrong with an offset, and the byte at which it stands.
-type Row = (FindingKind, u32, u64);
+type Case = (FindingKind, u32, u64);
 
 /// The worked examples of findings, 14, 29, 34, 35 and 45.
-const FINDINGS: &[(&str, &[Row])] = &[
+const FINDINGS: &[(&str, &[Case])] = &[
     (examples::OBJECT, &[]),
     (
         examples::OBJECT_WITH_AN_OFFSET_OUTSIDE,
@@ -129,7 +129,7 @@ fn expect(
 }
 
 /// The same of rows of the first hunk.
-fn expect_rows(rt: &impl Abort, alloc: Global, text: &str, rows: &[Row]) -> Result<(), Fail> {
+fn expect_rows(rt: &impl Abort, alloc: Global, text: &str, rows: &[Case]) -> Result<(), Fail> {
     let (mut findings, mut places) = (Vec::new(alloc), Vec::new(alloc));
     for (fault, offset, place) in rows {
         findings.push(Finding {

@@ -11,7 +11,7 @@ use std::test::Fail;
 use test_helpers::{examples, spelled};
 
 /// What stands in the file `a`, the words, the bytes that standard output takes, and what is said.
-type Row = (&'static [u8], &'static str, usize, &'static str);
+type Case = (&'static [u8], &'static str, usize, &'static str);
 
 /// A load file of two hunks of a longword. A list of the second has the offset 1.
 const IN_HUNK_1: &[u8] = b"\0\0\x03\xF3\0\0\0\0\0\0\0\x02\0\0\0\0\0\0\0\x01\0\0\0\x01\0\0\0\x01\
@@ -19,7 +19,7 @@ const IN_HUNK_1: &[u8] = b"\0\0\x03\xF3\0\0\0\0\0\0\0\x02\0\0\0\0\0\0\0\x01\0\0\
     \0\0\x03\xEA\0\0\0\x01\0\0\0\0\
     \0\0\x03\xEC\0\0\0\x01\0\0\0\0\0\0\0\x01\0\0\0\0\0\0\x03\xF2";
 
-const SAID: &[Row] = &[
+const SAID: &[Case] = &[
     // Nothing where all is done.
     (OTHER, "hunkinfo show a", ANY, ""),
     (OTHER, "hunkinfo --help", ANY, ""),

@@ -53,10 +53,10 @@ fn ran<'x>(alloc: Global, line: &str, file: &'x [u8], input: &'x [u8]) -> Result
 }
 
 /// The words of a command, what it prints and its status.
-type Row = (&'static str, &'static str, u8);
+type Case = (&'static str, &'static str, u8);
 
 /// Over example 1 in the file `a`, and no hunk file at standard input.
-const OF_FILES: &[Row] = &[
+const OF_FILES: &[Case] = &[
     ("hunkinfo validate a", "load file 1 hunks 4 bytes\n", 0),
     ("hunkinfo validate b", "load file 1 hunks 8 bytes\n", 0),
     (
