@@ -9,7 +9,7 @@ use std::test::Fail;
 use test_helpers::{examples, spelled};
 
 /// A block with the number of its bytes, or with the place and the reason of a refusal.
-pub(in crate::tests) type Row = (&'static str, u64, Option<Reason>);
+pub(in crate::tests) type Case = (&'static str, u64, Option<Reason>);
 
 /// What `Block::decode` answers, without the block.
 pub(in crate::tests) fn answer(
@@ -32,7 +32,7 @@ pub(in crate::tests) fn wanted(number: u64, reason: Option<Reason>) -> Result<us
 }
 
 /// Sees that each block is answered in this mode as its row says, walked over and decoded.
-fn expect(rt: &impl Abort, alloc: Global, rows: &[Row], mode: Mode) -> Result<(), Fail> {
+fn expect(rt: &impl Abort, alloc: Global, rows: &[Case], mode: Mode) -> Result<(), Fail> {
     for (text, number, reason) in rows {
         let bytes = spelled(alloc, text)?;
         let want = wanted(*number, *reason);
@@ -43,7 +43,7 @@ fn expect(rt: &impl Abort, alloc: Global, rows: &[Row], mode: Mode) -> Result<()
 }
 
 /// The worked rows of single blocks that are answered alike in both modes.
-const IN_BOTH_MODES: &[Row] = &[
+const IN_BOTH_MODES: &[Case] = &[
     ("", 0, Some(Reason::Truncated)),
     ("3E7", 0, Some(Reason::Misplaced)),
     ("3FA", 0, Some(Reason::Library)),
@@ -72,14 +72,14 @@ fn in_both_modes(rt: HostRuntime) -> Result<(), Fail> {
 }
 
 /// Relocations and external symbols in a load file: the block word comes before a type that is refused.
-const IN_LOAD_FILES: &[Row] = &[
+const IN_LOAD_FILES: &[Case] = &[
     ("3F7 0", 0, Some(Reason::ShortReloc)),
     ("3FD 0", 0, Some(Reason::NotInLoadFile)),
     ("3EF 3000001", 0, Some(Reason::NotInLoadFile)),
 ];
 
 /// The same in an object file. A type is refused before the name that it has, but not after a name that is cut short.
-const IN_OBJECT_FILES: &[Row] = &[
+const IN_OBJECT_FILES: &[Case] = &[
     ("3F7 0", 8, None),
     ("3FD 0", 8, None),
     ("3EF 3000001", 4, Some(Reason::ExtKind)),

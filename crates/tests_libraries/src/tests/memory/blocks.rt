@@ -2,7 +2,7 @@
 //! the fifth.
 
 use crate::tests::asserts::{assert_equal, assert_equal_at};
-use crate::tests::blocks::answers::{Row, answer, wanted};
+use crate::tests::blocks::answers::{Case, answer, wanted};
 use hunk_blocks::{Block, Mode};
 use hunk_words::{BlockFault, Reason};
 use std::alloc::{AllocError, Global};
@@ -65,7 +65,7 @@ fn starved(alloc: Global, text: &str, mode: Mode) -> Result<Result<usize, BlockF
 }
 
 /// Sees that each block is answered in this mode as its row says, with the first growth refused.
-fn expect_starved(rt: &impl Abort, alloc: Global, rows: &[Row], mode: Mode) -> Result<(), Fail> {
+fn expect_starved(rt: &impl Abort, alloc: Global, rows: &[Case], mode: Mode) -> Result<(), Fail> {
     for (text, number, reason) in rows {
         let got = starved(alloc, text, mode)?;
         assert_equal_at(rt, got, wanted(*number, *reason), text);
@@ -75,7 +75,7 @@ fn expect_starved(rt: &impl Abort, alloc: Global, rows: &[Row], mode: Mode) -> R
 
 /// Only groups and entries of a whole block take memory, at their last longword, and no count does.
 /// Memory hides no fault after.
-const WITHOUT_MEMORY: &[Row] = &[
+const WITHOUT_MEMORY: &[Case] = &[
     ("3E8 1 61000000", 12, None),
     ("3E9 1 4E754E71", 12, None),
     ("3EA 1 4E754E71", 12, None),
@@ -104,7 +104,7 @@ fn refused_at_the_first_growth(rt: HostRuntime) -> Result<(), Fail> {
 }
 
 /// Example 40: in a load file, too, a content takes no memory, and symbols do.
-const IN_A_LOAD_FILE: &[Row] = &[
+const IN_A_LOAD_FILE: &[Case] = &[
     ("3E9 1 4E754E71", 12, None),
     ("3F0 1 5F6D0000 0 0", 12, Some(Reason::OutOfMemory)),
 ];

@@ -1,6 +1,6 @@
 //! What runs print of their inputs, and the statuses that they end with.
 
-use crate::tests::runs::{At, Row, expect};
+use crate::tests::runs::{At, Case, expect};
 use std::alloc::Global;
 use std::process::Abort;
 use std::test::Fail;
@@ -13,7 +13,7 @@ const REPORT: &str = "load file 1 hunks 4 bytes\n";
 const AT_0: &str = "hunk 0 base 0x00000000 4 bytes\n  4e754e71\n";
 
 /// Of example 1.
-const OF_ONE_HUNK: &[Row] = &[
+const OF_ONE_HUNK: &[Case] = &[
     ("hunkinfo show", At::Input, LISTING, 0),
     ("hunkinfo show a", At::File, LISTING, 0),
     ("hunkinfo validate", At::Input, REPORT, 0),
@@ -36,7 +36,7 @@ const OF_ONE_HUNK: &[Row] = &[
 ];
 
 /// Of the text that spells it, with examples 32 and 38.
-const OF_ITS_TEXT: &[Row] = &[
+const OF_ITS_TEXT: &[Case] = &[
     ("hunkinfo show --hex", At::Input, LISTING, 0),
     ("hunkinfo show --hex a", At::File, LISTING, 0),
     ("hunkinfo validate --hex", At::Input, REPORT, 0),
@@ -70,7 +70,7 @@ const OF_ITS_TEXT: &[Row] = &[
 const ENDS_AT_0: &str = "refused at byte 0: Truncated (26)\n";
 
 /// Of no byte, and of a text that spells none.
-const OF_NOTHING: &[Row] = &[
+const OF_NOTHING: &[Case] = &[
     ("hunkinfo show a", At::File, ENDS_AT_0, 1),
     ("hunkinfo validate", At::Input, ENDS_AT_0, 1),
     (
@@ -81,19 +81,19 @@ const OF_NOTHING: &[Row] = &[
     ),
 ];
 
-const OF_BLANKS: &[Row] = &[("hunkinfo", At::Input, ENDS_AT_0, 1)];
+const OF_BLANKS: &[Case] = &[("hunkinfo", At::Input, ENDS_AT_0, 1)];
 
 const FINDINGS: &str = "unit 0 hunk 0 offset 0x00000002 BadTarget\n\
     unit 0 hunk 0 offset 0x00000002 OutsideHunk\nobject file 1 units 2 findings\n";
 
 /// Of example 29.
-const OF_FINDINGS: &[Row] = &[
+const OF_FINDINGS: &[Case] = &[
     ("hunkinfo validate", At::Input, FINDINGS, 1),
     ("hunkinfo validate a", At::File, FINDINGS, 1),
 ];
 
 /// Example 10: what follows a file is told, and is no fault.
-const OF_MORE: &[Row] = &[(
+const OF_MORE: &[Case] = &[(
     "hunkinfo validate a",
     At::File,
     "load file 1 hunks 4 bytes\nrest 7 bytes\n",
@@ -103,10 +103,10 @@ const OF_MORE: &[Row] = &[(
 const ADDRESS: &str = "hunk 0 base 0x00001000 4 bytes\n  00000ffc\n";
 
 /// Example 30: the longword FFFFFFFC is relocated by 1000.
-const OF_ADDRESS: &[Row] = &[("hunkinfo relocate --base 00001000", At::Input, ADDRESS, 0)];
+const OF_ADDRESS: &[Case] = &[("hunkinfo relocate --base 00001000", At::Input, ADDRESS, 0)];
 
 /// The same as text, with blanks and line ends.
-const OF_ADDRESS_IN_TEXT: &[Row] = &[(
+const OF_ADDRESS_IN_TEXT: &[Case] = &[(
     "hunkinfo relocate --hex --base 00001000 a",
     At::File,
     ADDRESS,
@@ -119,7 +119,7 @@ const ADDRESS_IN_TEXT: &str = "000003F3 00000000 00000001 00000000 00000000 0000
     000003F2\n";
 
 /// Sees each row for a run over these bytes.
-fn expect_each(rt: &impl Abort, alloc: Global, bytes: &[u8], rows: &[Row]) -> Result<(), Fail> {
+fn expect_each(rt: &impl Abort, alloc: Global, bytes: &[u8], rows: &[Case]) -> Result<(), Fail> {
     for row in rows {
         expect(rt, alloc, bytes, row)?;
     }
