@@ -1,14 +1,15 @@
 #!/usr/bin/env python3
 """make.py KIND MIB OUT: a valid hunk file of about MIB MiB, the same at each call.
 
-Load files: code, debug, offsets, hunks (65,536 of them from 2 MiB on), symbols, blocks (DEBUG blocks of nothing).
+Load files: code, debug, offsets, hunks (65,536 of them from 2 MiB on), targets (hunks that are relocated to any other), symbols,
+blocks (DEBUG blocks of nothing), program (what a linker makes of some modules: 12 hunks, or 3 below 16 KiB).
 Object files: units, findings (relocations at no hunk, outside theirs).
 For memory: entry, symbol, group (blocks with one of these), unit and hunk (the smallest ones)."""
 import array
 import random
 import sys
 
-UNIT, CODE, BSS, RELOC32, EXT = 0x3E7, 0x3E9, 0x3EB, 0x3EC, 0x3EF
+UNIT, CODE, DATA, BSS, RELOC32, EXT = 0x3E7, 0x3E9, 0x3EA, 0x3EB, 0x3EC, 0x3EF
 SYMBOL, DEBUG, END, HEADER = 0x3F0, 0x3F1, 0x3F2, 0x3F3
 
 # one hunk of one longword, open after its code
@@ -41,14 +42,34 @@ def offsets(longs, content):
     yield [0, END]
 
 
-def hunks(longs, content):
+def hunks(longs, content, target=lambda i, count: i ^ 1):
     count = min(65536, longs // 8 + 8)
     size = max(1, longs // count - 8)
     yield [HEADER, 0, count, 0, count - 1] + [size] * count
     for i in range(count):
         yield [CODE, size]
         yield content(size)
-        yield [RELOC32, 1, i ^ 1, 0, 0, END]
+        yield [RELOC32, 1, target(i, count), 0, 0, END]
+
+
+def targets(longs, content):
+    chance = random.Random(20261128)
+    yield from hunks(longs, content, lambda _, count: chance.randrange(count))
+
+
+def program(longs, content):
+    count = 12 if longs > 4096 else 3
+    size = longs * 5 // 6 // count
+    offsets = size // 8
+    yield [HEADER, 0, count, 0, count - 1] + [size] * count
+    for i in range(count):
+        yield [DATA if i % 3 else CODE, size]
+        yield content(size)
+        yield [RELOC32]
+        for part in range(2):
+            yield [offsets // 2, (i + part) % count]
+            yield [4 * (8 * at + part) for at in range(offsets // 2)]
+        yield [0, END]
 
 
 def symbols(longs, content):
@@ -80,7 +101,7 @@ def repeated(front, part, back):
     return lambda longs, _: iter([front, part * (longs // len(part)), back])
 
 
-KINDS = {make.__name__: make for make in (code, debug, offsets, hunks, symbols, blocks, units, findings)} | {
+KINDS = {make.__name__: make for make in (code, debug, offsets, hunks, targets, symbols, blocks, program, units, findings)} | {
     "entry": repeated([UNIT, 0, CODE, 1, 0], [EXT, 0x01000000, 0, 0], [END]),
     "symbol": repeated(ONE_HUNK, [SYMBOL, 1, 0x61000000, 0, 0], [END]),
     "group": repeated(ONE_HUNK, [RELOC32, 1, 0, 0, 0], [END]),

@@ -165,21 +165,28 @@ module _ (bytes : List ℕ) (hunks start : ℕ) (marks : List Mark) (p : ArePack
     pub none_near : (near : List ℕ) (base : ℕ) → base ≡ (get_or marks number no_mark).base → NearSoFar p number near (hunks_a_mark * number) (get_or marks number no_mark).longword base
     none_near near base e = search rules
 
-  module _ (number : ℕ) (near : List ℕ) (hunk at base : ℕ) (s : NearSoFar p number near hunk at base) (less : hunk < hunks) where
+  module _ (hunk at base : ℕ) (r : IsRow p.header start hunk at base) (less : hunk < hunks) where
     inside : hunk < length p.table
     inside = omega (arith, less, p.hunks_are)
 
     pub base_low : base < 2 ^ 32
-    base_low = omega (arith, s.is_row.base_is, p.each hunk less)
+    base_low = omega (arith, r.base_is, p.each hunk less)
+
+    pub base_found : base ≡ get_or (bases_in start hunks bytes) hunk 0
+    base_found = r.base_is ∙ sym (bases_get bytes p.table p.header start hunks p.hunks_are hunk inside)
 
     pub has_row : HasRow bytes (record { longword = at; base = base })
-    has_row = record { table = p.table; header = p.header; start = start; hunk = hunk; few = p.few; inside = inside; is_row = s.is_row }
+    has_row = record { table = p.table; header = p.header; start = start; hunk = hunk; few = p.few; inside = inside; is_row = r }
 
-    pub near_next : (at2 base2 : ℕ) → hunk / hunks_a_mark ≡ number → length near ≡ hunks_a_mark → (hunk < length p.table → IsRow p.header start hunk at base → IsRow p.header start (hunk + 1) at2 base2) → NearSoFar p number (set near (hunk % hunks_a_mark) base) (hunk + 1) at2 base2
-    near_next at2 base2 here long next = record {
-      is_row = next inside s.is_row;
-      are_near = near_more (bases_in start hunks bytes) near number hunk base here long (s.is_row.base_is ∙ sym (bases_get bytes p.table p.header start hunks p.hunks_are hunk inside)) s.are_near;
-    }
+    pub row_after : (at2 base2 : ℕ) → (hunk < length p.table → IsRow p.header start hunk at base → IsRow p.header start (hunk + 1) at2 base2) → IsRow p.header start (hunk + 1) at2 base2
+    row_after at2 base2 next = next inside r
+
+  pub near_next : (number : ℕ) (near : List ℕ) (hunk at base : ℕ) (s : NearSoFar p number near hunk at base) → hunk < hunks → (at2 base2 : ℕ) → hunk / hunks_a_mark ≡ number → length near ≡ hunks_a_mark →
+      (hunk < length p.table → IsRow p.header start hunk at base → IsRow p.header start (hunk + 1) at2 base2) → NearSoFar p number (set near (hunk % hunks_a_mark) base) (hunk + 1) at2 base2
+  near_next number near hunk at base s less at2 base2 here long next = record {
+    is_row = row_after hunk at base s.is_row less at2 base2 next;
+    are_near = near_more (bases_in start hunks bytes) near number hunk base here long (base_found hunk at base s.is_row less) s.are_near;
+  }
 
 -- ---- lists of bases
 

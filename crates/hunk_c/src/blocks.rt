@@ -48,6 +48,7 @@ impl InBlock for BlockRow {
 }
 
 /// What the caller sees of a block.
+#[inline(always)]
 fn block_row(unit: u64, hunk: u64, block: &BlockView<'_>) -> BlockRow
     ensures { result ≡ block_row (record { unit = unit; hunk = hunk; block = block.now }) }
 {
@@ -76,6 +77,7 @@ struct Span {
 }
 
 /// The bytes that hold the block's content, its name or its data; none, at 0, where it has none.
+#[inline(always)]
 fn content(block: &BlockView<'_>) -> Span
     ensures { result ≡ content block.now.place block.now.value.body }
 {
@@ -86,6 +88,7 @@ fn content(block: &BlockView<'_>) -> Span
 }
 
 /// The longwords after a count, of a body that has them.
+#[inline(always)]
 fn payload<'a, 'b>(body: &'b BodyView<'a>) -> Option<&'b Payload<'a>>
     ensures { option_map (λ payload. longs payload.now) result ≡ payload_of (viewed body.now) }
 {
@@ -100,6 +103,7 @@ fn payload<'a, 'b>(body: &'b BodyView<'a>) -> Option<&'b Payload<'a>>
 }
 
 /// The payload's bytes, which end at this byte of the file.
+#[inline(always)]
 fn span_before(end: u64, payload: &Payload<'_>) -> Span
     requires { 4 * length (longs payload.now) ≤ end }
     ensures place { result.place + result.bytes ≡ end }

@@ -1,5 +1,6 @@
 //! Hunks one right after the other, by a table that is read where it lies.
-ghost use Rattle.std.specs.Prelude.{◌≡◌, ◌≤◌, ◌+◌, ◌*◌, ◌<◌, ◌^◌, ℕ, List, length, IfErr, OnOk};
+ghost use Rattle.std.specs.Prelude.{◌≡◌, ◌≤◌, ◌+◌, ◌*◌, ◌<◌, ◌^◌, ℕ, List, get_or, length};
+ghost use Rattle.std.specs.Prelude.{IfErr, OnOk};
 ghost use Rattle.hunk_files.specs.LoadFile.{TableEntry};
 ghost use Rattle.hunk_scatter.specs.HeaderBytes.{BeginsWithHeader};
 ghost use Rattle.hunk_scatter.specs.Placing.{IsFirstUnplaced, packed_from};
@@ -48,16 +49,17 @@ const END: u64 = 1 << 32;
 
 /// The bases of hunks one right after the other. Contracts see the list of them.
 ///
-/// It keeps where every 64th row stands, and the bases of the hunks from one of these to the next,
-/// so that a base costs at most 64 rows, and none where the one before was near.
+/// It keeps where every 64th row stands, and, once two bases in turn lie between the same two of
+/// these, the bases of all hunks there. So a base costs fewer than 64 rows, and none near others.
 #[derive(Drop)]
 pub(crate) struct PackedBases<'a> {
     bytes: &'a [u8],
     hunks: u32,
     start: u32,
     marks: &'a [Mark],
-    /// The number of the mark that the bases in `near` begin at: before the first one is asked
-    /// for, `MARKS`, after which no hunk lies.
+    /// The number of the mark before the hunk that was asked for last, and of the mark that the
+    /// bases in `near` begin at: of none yet `MARKS`, after which no hunk lies.
+    last: usize,
     number: usize,
     near: [u32; HUNKS_A_MARK],
 }
@@ -162,6 +164,27 @@ fn put_near(near: &mut [u32; HUNKS_A_MARK], bytes: &[u8], hunks: u32, marks: &[M
     }
 }
 
+/// The base of this hunk, by the rows from the mark before it.
+#[inline(never)]
+fn base_of(bytes: &[u8], hunks: u32, marks: &[Mark], hunk: usize) -> u32
+    requires packed { (start : ℕ) × ArePacked bytes.now hunks start marks.now }
+    requires inside { hunk < hunks }
+    ensures { (start : ℕ) → ArePacked bytes.now hunks start marks.now
+        → result ≡ get_or (bases_in start hunks bytes.now) hunk 0 }
+{
+    let number = hunk / HUNKS_A_MARK;
+    let mark = marks[number];
+    let mut place = RowPlace {
+        longword: mark.longword as usize,
+        base: u64::from(mark.base),
+    };
+    let first = HUNKS_A_MARK * number;
+    'rows: for _row in first..hunk {
+        place = next_row(bytes, place);
+    }
+    place.base as u32
+}
+
 impl<'a> PackedBases<'a> {
     /// The bases by these marks.
     pub(crate) fn by(marks: &'a [Mark], bytes: &'a [u8], hunks: u32, start: u32) -> PackedBases<'a>
@@ -173,6 +196,7 @@ impl<'a> PackedBases<'a> {
             hunks,
             start,
             marks,
+            last: MARKS,
             number: MARKS,
             near: [0; HUNKS_A_MARK],
         }
@@ -186,10 +210,15 @@ impl Bases for PackedBases<'_> {
     fn base(&mut self, hunk: u32) -> u32 {
         let hunk = hunk as usize;
         let number = hunk / HUNKS_A_MARK;
-        if self.number != number {
-            put_near(&mut self.near, self.bytes, self.hunks, self.marks, number);
-            self.number = number;
+        if self.number == number {
+            return self.near[hunk % HUNKS_A_MARK];
         }
+        if self.last != number {
+            self.last = number;
+            return base_of(self.bytes, self.hunks, self.marks, hunk);
+        }
+        put_near(&mut self.near, self.bytes, self.hunks, self.marks, number);
+        self.number = number;
         self.near[hunk % HUNKS_A_MARK]
     }
 }

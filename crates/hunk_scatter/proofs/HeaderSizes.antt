@@ -1,16 +1,16 @@
 -- A header that is read in place, with no memory for its rows.
-use Rattle.std.proofs.Common.{rules, ◌≡◌, ℕ, ◌+◌, ◌*◌, ◌/◌, ◌^◌, ◌<◌, ◌≤◌, true, false, List, [], ◌∷◌, ◌++◌, length, take, drop, get_or, refl, sym, ap, subst, ◌∙◌, append-nil, arith, length-append, length-take, length-drop, take-append-drop, map, None, inl, inr}
+use Rattle.std.proofs.Common.{rules, ◌≡◌, ℕ, zero, suc, ◌+◌, ◌*◌, ◌/◌, ◌^◌, ◌<◌, ◌≤◌, true, false, List, [], ◌∷◌, ◌++◌, length, take, drop, get_or, refl, sym, ap, subst, ◌∙◌, append-nil, arith, length-append, length-take, length-drop, take-append-drop, map, None, inl, inr}
 use Rattle.std.proofs.Math.Seq.{take-add}
 use Rattle.std.specs.Prelude.{IsTrue}
 use Rattle.std.proofs.lemmas.List.{get_or-drop}
-use Rattle.hunk_words.specs.{Longs.{longs, bytes_of, IsLong, IsBytes}, declared.reason.Reason.Reason}
+use Rattle.hunk_words.specs.{Longs.{longs, bytes_of, AreLongs, IsLong, IsBytes}, declared.reason.Reason.Reason}
 use Rattle.hunk_words.specs.declared.reason.Reason.TheVariants as reasons
-use Rattle.hunk_words.proofs.LongLaws.{bytes_of-append, in_place, longs-bytes_of, length-bytes_of, length-longs}
+use Rattle.hunk_words.proofs.LongLaws.{bytes_of-append, in_place, longs-bytes_of, length-bytes_of, length-longs, longs_fit}
 use Rattle.hunk_files.specs.{Fault.{HasRefusal, IsTruncated, is_word_refusal}, Image.declared_bytes, LoadFile.TableEntry, declared.row.Row.Row}
 use Rattle.hunk_grammar.specs.declared.position.Position.TheVariants as positions
 use Rattle.hunk_grammar.specs.{Positions.{role_at, step, is_after_header, least_longs}, Roles.refuse}
 use Rattle.hunk_scatter.specs.{declared.header_state.HeaderState.HeaderState, HeaderBytes.{IsHeaderTable, header_bytes, header_words}}
-use Rattle.hunk_scatter.specs.HeaderLoaderFields.{adds, declares, RefusesWord, HeaderReading, HeaderLoaderInvariant, HeaderStop}
+use Rattle.hunk_scatter.specs.HeaderLoaderFields.{adds, declares, PassesWords, RefusesWord, HeaderReading, HeaderLoaderInvariant, HeaderStop}
 use Rattle.hunk_scatter.specs.{HeaderFaults.{ExceedsBudget, IsBudgetOrMemory}, HeaderOwing.HeaderOwes}
 use Rattle.hunk_scatter.specs.{HeaderSizes.{RefusesHeader, TellsOwed}, Rows.{entries_of, row_of}}
 use Rattle.hunk_scatter.proofs.HeaderFields.{heading_new, heading_room, heading_pending, heading_word, heading_table, heading_total, heading_truncated, heading_within, heading_not_whole, heading_as}
@@ -28,6 +28,9 @@ none_so_far budget bytes = record { rows = []; inside = omega arith; read = head
 module _ (budget : ℕ) (bytes : List ℕ) (s : HeaderState) (at : ℕ) (h : HeaderSoFar budget bytes s at) where
   pub so_far : HeaderReading budget h.rows s [] (take at bytes)
   so_far = h.read.reading refl
+
+  pub so_far_within : s.total ≤ budget
+  so_far_within = so_far.has_read.within
 
   pub so_far_room : s.total + 2 ^ 32 < 2 ^ 64
   so_far_room = heading_room budget h.rows s [] (take at bytes) so_far h.read.few_rows
@@ -161,6 +164,23 @@ module _ (budget : ℕ) (bytes : List ℕ) (s : HeaderState) (at : ℕ) (h : Hea
       unfolding stops_here
       word_owes reason (inr o) = subst (λ (x : Reason). TellsOwed bytes x 0) (sym o.reason_is) refl
       word_owes reason (inl r) = search rules
+
+-- ---- longwords that pass at once
+
+long_there : (bytes : List ℕ) (at : ℕ) → IsBytes bytes → IsLong (get_or (longs (drop at bytes)) 0 0)
+long_there bytes at are = go (longs (drop at bytes)) (longs_fit (drop at bytes) (λ k. omega (arith, get_or-drop at bytes k 0, are (at + k))))
+  where
+    go : (ws : List ℕ) → AreLongs ws → IsLong (get_or ws 0 0)
+    go [] fit = omega arith
+    go (w ∷ ws) fit = fit.0
+
+pub words_pass : (budget : ℕ) (bytes : List ℕ) (s : HeaderState) (at : ℕ) → HeaderSoFar budget bytes s at → IsBytes bytes → (count : ℕ) (next : HeaderState) → PassesWords budget bytes at s count next → at + 4 * count ≤ length bytes →
+    HeaderSoFar budget bytes next (at + 4 * count)
+words_pass budget bytes s at h are zero next same inside = subst (λ (n : ℕ). HeaderSoFar budget bytes next n) (omega arith) (subst (λ (t : HeaderState). HeaderSoFar budget bytes t at) same h)
+words_pass budget bytes s at h are (suc count) next (here, before, more, passes) inside =
+    let there = words_pass budget bytes s at h are count here before (omega (arith, inside)) in
+    subst (λ (n : ℕ). HeaderSoFar budget bytes next n) (omega arith)
+    (word_passes budget bytes here (at + 4 * count) there more are (omega (arith, inside, length-drop (at + 4 * count) bytes)) _ (long_there bytes (at + 4 * count) are) refl next passes.accepted passes.within passes.position_is passes.total_is)
 
 -- The number of hunks stands after the first two longwords.
 pub hunks_in : (bytes : List ℕ) (t : List TableEntry) (rest : List ℕ) → IsHeaderTable t → bytes ≡ header_bytes t ++ rest → (get_or (longs bytes) 2 0 ≡ length t) × (12 ≤ length bytes)

@@ -7,6 +7,7 @@ pub mod FileLeast
 pub mod Feeding
 pub mod Forget
 pub mod HeaderEnds
+pub mod HeaderEntries
 pub mod HeaderFields
 pub mod HeaderFronts
 pub mod HeaderGrows

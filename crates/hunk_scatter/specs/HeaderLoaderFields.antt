@@ -1,8 +1,8 @@
 -- What the fields of the loader of a header keep of what was read.
-use Rattle.std.specs.Prelude.{◌≡◌, ℕ, ◌+◌, ◌*◌, ◌<◌, ◌≤◌, true, false, List, [], ◌∷◌, ◌++◌, length, map, if◌then◌else◌, Option, None, Some, Result, Ok, IfOk, IfErr, OnOk, IsTrue, ◌⊎◌}
+use Rattle.std.specs.Prelude.{◌≡◌, ℕ, zero, suc, ◌+◌, ◌*◌, ◌<◌, ◌≤◌, true, false, List, [], ◌∷◌, ◌++◌, length, map, drop, get_or, if◌then◌else◌, Option, None, Some, Result, Ok, IfOk, IfErr, OnOk, IsTrue, ◌⊎◌}
 use Rattle.hunk_words.specs.Limits.{most_hunks}
 use Rattle.hunk_words.specs.Bits.{has_both_bits, size_longs}
-use Rattle.hunk_words.specs.Longs.{bytes_of, IsLong}
+use Rattle.hunk_words.specs.Longs.{bytes_of, longs, IsLong}
 use Rattle.hunk_words.specs.declared.fault.Fault.{Fault}
 use Rattle.hunk_words.specs.declared.reason.Reason.{Reason}
 use Rattle.hunk_words.specs.declared.reason.Reason.TheVariants as reasons
@@ -51,6 +51,15 @@ pub record PassesWord (budget : ℕ) (s : HeaderState) (w : ℕ) (next : HeaderS
   pub within : s.total + declares s.position w ≤ budget
   pub position_is : next.position ≡ step s.position w
   pub total_is : next.total ≡ s.total + declares s.position w
+
+-- So many longwords pass, of which the first stands at this byte.
+abbrev pub PassesWords : ℕ → List ℕ → ℕ → HeaderState → ℕ → HeaderState → Type 0
+PassesWords budget bytes at s zero next = s ≡ next
+PassesWords budget bytes at s (suc count) next =
+    (here : HeaderState)
+    × PassesWords budget bytes at s count here
+    × (is_after_header here.position ≡ false)
+    × PassesWord budget here (get_or (longs (drop (at + 4 * count) bytes)) 0 0) next
 
 -- ---- a stop
 

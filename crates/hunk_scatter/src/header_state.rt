@@ -1,7 +1,7 @@
 //! Where a reader of the header stands, a few numbers; and the size of a header, read with no memory
 //! for its rows.
 ghost use Rattle.std.specs.Prelude.{◌≡◌, ◌+◌, ◌<◌, ◌≤◌, ◌^◌, ◌++◌, IfOk, IfErr, OnOk, IfSome, IfNone, []};
-ghost use Rattle.std.specs.Prelude.{◌∷◌, map, false};
+ghost use Rattle.std.specs.Prelude.{ℕ, ◌*◌, ◌∷◌, length, map, false};
 ghost use Rattle.hunk_words.specs.declared.reason.Reason.TheVariants as reasons;
 ghost use Rattle.hunk_grammar.specs.Positions.{is_after_header};
 ghost use Rattle.hunk_scatter.specs.HeaderLoaderFields as heading;
@@ -133,6 +133,42 @@ pub(crate) fn take_header_word(
     by_size_word!(state, take)
 }
 
+/// Passes over the entries of a table that are a longword each, as far as they keep to the budget
+/// and another comes after them: the byte after them, and the state there.
+#[inline(always)]
+fn pass_entries(bytes: &[u8], from: usize, state: HeaderState, budget: u64) -> (usize, HeaderState)
+    requires inside { from ≤ length bytes.now }
+    requires within { state.total ≤ budget }
+    requires goes_on { is_after_header state.position ≡ false }
+    ensures passes { (count : ℕ) × (result.0 ≡ from + 4 * count)
+        × heading.PassesWords budget bytes.now from state count result.1 }
+    ensures inside { result.0 ≤ length bytes.now }
+    ensures goes_on { is_after_header result.1.position ≡ false }
+{
+    let Position::SizeWord {
+        hunks,
+        owed: entries,
+    } = state.position
+    else {
+        return (from, state);
+    };
+    let mut at = from;
+    let mut owed = entries;
+    let mut total = state.total;
+    'entries: while owed > 0 && bytes.len() - at >= 4 {
+        let word = word_at(&bytes[at..], 0);
+        let size = SizeWord { word, extra: 0 }.bytes();
+        if SizeWord::has_extra(word) || size > budget - total {
+            break 'entries;
+        }
+        at += 4;
+        owed -= 1;
+        total += size;
+    }
+    let position = Position::SizeWord { hunks, owed };
+    (at, HeaderState { position, total })
+}
+
 /// What a header says of its file, but for the rows of its table.
 #[derive(Clone, Copy, Debug, PartialEq, Eq)]
 pub struct HeaderSize {
@@ -179,6 +215,7 @@ pub fn header_size(bytes: &[u8], budget: u64) -> Result<HeaderSize, NoHeader>
     };
     let mut at = 0;
     'words: while !state.position.is_after_header() {
+        (at, state) = pass_entries(bytes, at, state, budget);
         let rest = &bytes[at..];
         let place = at as u64;
         if rest.len() < 4 {

@@ -12,13 +12,13 @@ pub overflow_cast-near : goal.overflow_cast-near
 overflow_cast-near c =
     let p = c.requires.packed in
     let less : c.rows.hunk < c.args.hunks = omega (arith, c.rows-test.true, c.min-end.ensures) in
-    omega (arith, base_low _ _ _ _ p.1 _ _ _ _ _ (c.rows.invariant p.0 p.1) less)
+    omega (arith, base_low _ _ _ _ p.1 _ _ _ (c.rows.invariant p.0 p.1).is_row less)
 
 pub next_row-place-requires : goal.next_row-place-requires
 next_row-place-requires c =
     let p = c.requires.packed in
     let less : c.rows.hunk < c.args.hunks = omega (arith, c.rows-test.true, c.min-end.ensures) in
-    has_row _ _ _ _ p.1 _ _ _ _ _ (c.rows.invariant p.0 p.1) less
+    has_row _ _ _ _ p.1 _ _ _ (c.rows.invariant p.0 p.1).is_row less
 
 pub rows-preserved : goal.rows-preserved
 rows-preserved c start p =
