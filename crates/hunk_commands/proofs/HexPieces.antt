@@ -1,7 +1,6 @@
--- The text that a decoder has taken, a byte more of it, and what it spells.
-use Rattle.std.proofs.Common.{inl, inr, ◌≡◌, ℕ, ◌%◌, ◌++◌, Bool, true, false, List, [], ◌∷◌, Ok, length, cond, not, refl, sym, ap, subst, ◌∙◌, arith, append_assoc, append-nil, length-append}
-use Rattle.std.proofs.lemmas.List.Elements.{filter-append}
-use Rattle.std.specs.Prelude.{◌⊎◌}
+-- The text that a decoder has taken, more of it, and what it spells.
+use Rattle.std.proofs.Common.{◌≡◌, ℕ, ◌%◌, ◌++◌, Bool, true, false, List, [], Ok, length, not, refl, sym, ap, subst, ◌∙◌, arith, append_assoc, append-nil, length-append}
+use Rattle.std.proofs.lemmas.List.{Elements.filter-append}
 use Rattle.hex.specs.Hex.{decode_of, decode_pairs}
 use Rattle.hex.proofs.HexLemmas.{decode_of-ok}
 use Rattle.hunk_commands.specs.HexText.{AppendsSpelled, IsDecoded, SpellsHex, SpellsBefore, SpellsNever, is_blank, without_blanks}
@@ -10,30 +9,17 @@ use Rattle.hunk_commands.proofs.HexJoin.{decoded_joined, never_decoded}
 without_append : (text more : List ℕ) → without_blanks (text ++ more) ≡ without_blanks text ++ without_blanks more
 without_append text more = filter-append (λ (byte : ℕ). not (is_blank byte)) text more
 
-without_one : (byte : ℕ) (blank : Bool) → is_blank byte ≡ blank → without_blanks (byte ∷ []) ≡ cond blank [] (byte ∷ [])
-without_one byte true is = rw is refl
-without_one byte false is = rw is refl
+-- ---- more text
 
--- ---- a byte more
-
-pub blank_taken : (text bytes held : List ℕ) (byte : ℕ) → is_blank byte ≡ true → SpellsBefore text bytes held → SpellsBefore (text ++ byte ∷ []) bytes held
-blank_taken text bytes held byte is before = (
+digits_taken : (text bytes held run : List ℕ) → without_blanks run ≡ run → SpellsBefore text bytes held → SpellsBefore (text ++ run) bytes (held ++ run)
+digits_taken text bytes held run digits before = (
   before.0,
-  without_append text (byte ∷ []) ∙ ap (λ (xs : List ℕ). without_blanks text ++ xs) (without_one byte true is) ∙ append-nil (without_blanks text) ∙ before.1,
+  without_append text run ∙ ap (λ (xs : List ℕ). without_blanks text ++ xs) digits ∙ ap (λ (xs : List ℕ). xs ++ run) before.1 ∙ append_assoc before.0 held run,
   before.2,
 )
 
-pub digit_taken : (text bytes held : List ℕ) (byte : ℕ) → is_blank byte ≡ false → SpellsBefore text bytes held → SpellsBefore (text ++ byte ∷ []) bytes (held ++ byte ∷ [])
-digit_taken text bytes held byte is before = (
-  before.0,
-  without_append text (byte ∷ []) ∙ ap (λ (xs : List ℕ). without_blanks text ++ xs) (without_one byte false is)
-      ∙ ap (λ (xs : List ℕ). xs ++ byte ∷ []) before.1 ∙ append_assoc before.0 held (byte ∷ []),
-  before.2,
-)
-
-pub never_taken : (text : List ℕ) (byte : ℕ) → SpellsNever text → SpellsNever (text ++ byte ∷ [])
-never_taken text byte never more bytes spells =
-    never (byte ∷ more) bytes (subst (λ (xs : List ℕ). SpellsHex xs bytes) (append_assoc text (byte ∷ []) more) spells)
+never_taken : (text more : List ℕ) → SpellsNever text → SpellsNever (text ++ more)
+never_taken text more never after bytes spells = never (more ++ after) bytes (subst (λ (xs : List ℕ). SpellsHex xs bytes) (append_assoc text more after) spells)
 
 -- ---- the held digits are decoded
 
@@ -72,14 +58,9 @@ nothing_decoded = refl
 pub nothing_taken : (text bytes held : List ℕ) → text ≡ [] → bytes ≡ [] → held ≡ [] → SpellsBefore text bytes held
 nothing_taken text bytes held t b h = rw (t, b, h) ([], refl, nothing_decoded)
 
-pub digit_kept : (refused : Bool) (text bytes held : List ℕ) (byte : ℕ) → is_blank byte ≡ false → IsDecoded refused text bytes held → IsDecoded refused (text ++ byte ∷ []) bytes (held ++ byte ∷ [])
-digit_kept true text bytes held byte is known = never_taken text byte known
-digit_kept false text bytes held byte is known = digit_taken text bytes held byte is known
-
-pub byte_passed : (refused : Bool) (text bytes held : List ℕ) (byte : ℕ) → (refused ≡ true) ⊎ (is_blank byte ≡ true) → IsDecoded refused text bytes held → IsDecoded refused (text ++ byte ∷ []) bytes held
-byte_passed true text bytes held byte is known = never_taken text byte known
-byte_passed false text bytes held byte (inl refused) known = cc refused
-byte_passed false text bytes held byte (inr blank) known = blank_taken text bytes held byte blank known
+pub digits_kept : (refused : Bool) (text bytes held run : List ℕ) → without_blanks run ≡ run → IsDecoded refused text bytes held → IsDecoded refused (text ++ run) bytes (held ++ run)
+digits_kept true text bytes held run digits known = never_taken text run known
+digits_kept false text bytes held run digits known = digits_taken text bytes held run digits known
 
 pub room_made : (refused spelled : Bool) (text bytes held new : List ℕ) → refused ≡ false → length held % 2 ≡ 0 → IsDecoded refused text bytes held → AppendsSpelled spelled held bytes new → IsDecoded (not spelled) text new []
 room_made true spelled text bytes held new is even known appended = cc is

@@ -1,6 +1,8 @@
 //! Bytes from hexadecimal text.
-ghost use Rattle.std.specs.Prelude.{◌≡◌, ◌≤◌, ◌++◌, ◌∷◌, [], ℕ, List, length, IfOk, IfErr, OnOk, OnErr};
-ghost use Rattle.hunk_commands.specs.HexText.{AppendsSpelled, SpellsHex, is_blank, ReadsHex, ReadsNoHex, RefusesHex};
+ghost use Rattle.std.specs.Prelude.{◌≡◌, ◌<◌, ◌≤◌, ◌++◌, [], ℕ, List, false, get_or, length, take};
+ghost use Rattle.std.specs.Prelude.{IfOk, IfErr, OnErr};
+ghost use Rattle.hunk_commands.specs.HexText.{AppendsSpelled, ReadsHex, ReadsNoHex, RefusesHex, SpellsHex};
+ghost use Rattle.hunk_commands.specs.HexText.{is_blank, without_blanks};
 ghost use Rattle.hunk_scatter.specs.LoadOutcomes.{GivesAtMost};
 ghost use Rattle.hunk_commands.specs.Inputs.{TellsReading};
 
@@ -48,19 +50,32 @@ impl HexDecoder {
         }
     }
 
-    /// Takes one byte of text that follows.
-    fn take_byte(&mut self, byte: u8) -> Result<(), AllocError>
-        ensures { OnOk result (self.new ≡ self.old ++ byte ∷ []) }
+    /// Takes the front of the text that follows: a blank, or as many digits before the next as have
+    /// room. It answers how many bytes that is, all of them where the text is refused before.
+    fn take_front(&mut self, text: &[u8]) -> Result<usize, AllocError>
+        requires { 0 < length text.now }
+        ensures taken { IfOk result (λ count. self.new ≡ self.old ++ take count text.now) }
+        ensures some { IfOk result (λ count. 0 < count) }
+        ensures inside { IfOk result (λ count. count ≤ length text.now) }
     {
-        if !self.refused && !is_blank(byte) {
-            if self.digits.is_full() {
-                self.refused = !append_bytes(&mut self.bytes, self.digits.as_slice())?;
-                self.digits.clear();
-            }
-            self.digits.push(byte);
+        if self.refused {
+            self.text = self.text.and(text);
+            return Ok(text.len());
         }
-        self.text = self.text.and(&[byte]);
-        Ok(())
+        if is_blank(text[0]) {
+            self.text = self.text.and(&text[..1]);
+            return Ok(1);
+        }
+        if self.digits.is_full() {
+            self.refused = !append_bytes(&mut self.bytes, self.digits.as_slice())?;
+            self.digits.clear();
+        }
+        let room = self.digits.remaining_capacity();
+        let front = &text[..text.len().min(room)];
+        let run = &front[..digits_in_front(front)];
+        let _ = self.digits.try_extend_from_slice(run);
+        self.text = self.text.and(run);
+        Ok(run.len())
     }
 
     /// The bytes that the text spells.
@@ -89,8 +104,9 @@ impl Taker for HexDecoder {
     ghost took = { λ s. s };
 
     fn take(&mut self, piece: &[u8]) -> Result<(), AllocError> {
-        'bytes: for byte in piece {
-            self.take_byte(*byte)?;
+        let mut at = 0;
+        'parts: while at < piece.len() {
+            at += self.take_front(&piece[at..])?;
         }
         Ok(())
     }
@@ -110,6 +126,21 @@ fn append_bytes(bytes: &mut Vec<u8>, digits: &[u8]) -> Result<bool, AllocError>
     }
     bytes.extend_from_slice(room)?;
     Ok(true)
+}
+
+/// How many bytes stand before the first blank of a text that begins with none.
+fn digits_in_front(text: &[u8]) -> usize
+    requires some { 0 < length text.now }
+    requires digit { is_blank (get_or text.now 0 0) ≡ false }
+    ensures some { 0 < result }
+    ensures inside { result ≤ length text.now }
+    ensures digits { without_blanks (take result text.now) ≡ take result text.now }
+{
+    let mut count = 1;
+    'digits: while count < text.len() && !is_blank(text[count]) {
+        count += 1;
+    }
+    count
 }
 
 /// Whether the byte may stand between digits.
