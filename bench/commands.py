@@ -8,6 +8,7 @@ import pathlib
 import subprocess
 import sys
 
+# Of a file of fewer bytes a run tells no more than what a program begins with.
 LEAST = 4096
 
 
