@@ -4,4 +4,5 @@ pub mod PartLaws
 pub mod PendingLaws
 pub mod PrintLaws
 pub mod PutLaws
+pub mod ReadAhead
 pub mod Shown

@@ -1,11 +1,14 @@
 //! What bytes are pulled from.
-ghost use Rattle.std.specs.Prelude.{◌≡◌, false, ◌||◌, Some, None, codes, is_err, is_some};
-ghost use Rattle.std.specs.Io.KnownBytes.{ReadConsumes};
+ghost use Rattle.std.specs.Prelude.{◌≡◌, ◌≤◌, ℕ, false, ◌||◌, [], List, Some, None, IfOk, codes, drop, is_err, is_some};
+ghost use Rattle.std.specs.Prelude.{length, take};
+ghost use Rattle.std.specs.Io.KnownBytes.{Consumes, ReadConsumes};
 ghost use Rattle.std.specs.Io.{ReadsAtMost};
-ghost use Rattle.hunk_words.specs.Carriers.{Supply};
+ghost use Rattle.hunk_words.specs.Carriers.{Supply, left_of, reader_in, shown_of};
+ghost use Rattle.hunk_words.specs.declared.source.Reader.TheVariants.{Plain};
 
+use std::alloc::{AllocError, Global};
 use std::error::Error;
-use std::io::Read;
+use std::io::{BufRead, BufReader, Read};
 use std::marker::Model;
 use std::{fmt, io};
 
@@ -27,9 +30,13 @@ impl Error for Failed {}
 ///
 /// Contracts see its `supply`: `left`, the bytes that pulls will give from here on, where that is
 /// known, and `failed`, whether a pull has answered an `Err`: that sets it, and nothing else does,
-/// for good.
+/// for good. They also see `shown`, the bytes that `held` shows, with which those begin.
+///
+/// A source that holds nothing shows no bytes, and is asked by pulls alone.
 pub trait Source {
     ghost supply: { Self → Supply };
+
+    ghost shown: { Self → List ℕ };
 
     /// Fills a first part of the buffer and gives the number of its bytes.
     ///
@@ -43,13 +50,35 @@ pub trait Source {
         ensures inside { ReadsAtMost result buf.new }
         ensures bytes { ReadConsumes (supply self.old).left (supply self.new).left result buf.new }
         ensures fails { (supply self.new).failed ≡ ((supply self.old).failed || is_err result) };
+
+    /// The bytes that are at hand: the first of those that pulls will give. There may be none,
+    /// though more are left.
+    fn held(&self) -> &[u8]
+        ensures { result.now ≡ shown self.now };
+
+    /// Takes the first `count` of the bytes that are at hand, as a pull that gave them would.
+    fn consume(&mut self, count: usize)
+        requires { count ≤ length (shown self.old) }
+        ensures bytes { Consumes (supply self.old).left (supply self.new).left
+            (take count (shown self.old)) }
+        ensures rest { shown self.new ≡ drop count (shown self.old) }
+        ensures works { (supply self.new).failed ≡ (supply self.old).failed };
+}
+
+/// A reader, with a buffer before it or without.
+#[derive(Drop)]
+pub enum Reader<R> {
+    /// A reader that gives just what is asked for.
+    Plain(R),
+    /// A reader that is read ahead of, into a buffer.
+    Buffered(BufReader<R>),
 }
 
 /// A source over any reader. Each error of the reader, `Interrupted` too, is `Failed`, and the last
 /// one is kept.
 #[derive(Drop)]
 pub struct FromRead<R> {
-    reader: R,
+    reader: Reader<R>,
     error: Option<io::Error>,
 }
 
@@ -70,14 +99,38 @@ impl<R> fmt::Debug for FromRead<R> {
 }
 
 impl<R: Read> FromRead<R> {
-    /// A source over this reader that has not failed.
+    /// A source over this reader that has not failed. Of the reader nothing is asked but what a
+    /// pull asks for.
     pub fn new(reader: R) -> FromRead<R>
-        ensures holds { result.reader ≡ reader }
+        ensures holds { result.reader ≡ Plain reader }
         ensures fresh { result.error ≡ None }
     {
         FromRead {
-            reader,
+            reader: Reader::Plain(reader),
             error: None,
+        }
+    }
+
+    /// A source over this reader that has not failed, with a buffer of 8 KiB: of the reader that
+    /// many bytes are asked for at a time, and they are shown. So a load takes fewer steps.
+    ///
+    /// # Errors
+    ///
+    /// Where memory is refused for the buffer. The reader is dropped then.
+    pub fn buffered(alloc: Global, reader: R) -> Result<FromRead<R>, AllocError>
+    where
+        R: Drop,
+        ensures holds { IfOk result (λ source. left_of R.remaining source.reader
+            ≡ R.remaining reader) }
+        ensures shows_none { IfOk result (λ source. shown_of source.reader ≡ []) }
+        ensures fresh { IfOk result (λ source. source.error ≡ None) }
+    {
+        match BufReader::new(alloc, reader) {
+            Ok(reader) => Ok(FromRead {
+                reader: Reader::Buffered(reader),
+                error: None,
+            }),
+            Err(_) => Err(AllocError),
         }
     }
 
@@ -97,22 +150,46 @@ impl<R: Read> FromRead<R> {
         Failed
     }
 
-    /// Hands the reader back, as the pulls have left it.
+    /// Hands the reader back, as the pulls have left it. What a buffer holds is lost.
     pub fn into_inner(self) -> R
-        ensures { result ≡ self.reader }
+        ensures { result ≡ reader_in self.reader }
     {
         let FromRead { reader, error: _ } = self;
-        reader
+        match reader {
+            Reader::Plain(reader) => reader,
+            Reader::Buffered(reader) => reader.into_inner(),
+        }
     }
 }
 
 impl<R: Read> Source for FromRead<R> {
-    ghost supply = { λ s. record { left = R.remaining s.reader; failed = is_some s.error } };
+    ghost supply = { λ s. record { left = left_of R.remaining s.reader; failed = is_some s.error } };
+
+    ghost shown = { λ s. shown_of s.reader };
 
     fn pull(&mut self, buf: &mut [u8]) -> Result<usize, Failed> {
-        match self.reader.read(buf) {
+        let read = match &mut self.reader {
+            Reader::Plain(reader) => reader.read(buf),
+            Reader::Buffered(reader) => reader.read(buf),
+        };
+        match read {
             Ok(n) => Ok(n),
             Err(error) => Err(self.keep(error)),
+        }
+    }
+
+    fn held(&self) -> &[u8] {
+        match &self.reader {
+            Reader::Plain(_) => &[],
+            Reader::Buffered(reader) => reader.buffer(),
+        }
+    }
+
+    #[tactic(auto, using(crate::proofs::ReadAhead::consumed))]
+    fn consume(&mut self, count: usize) {
+        match &mut self.reader {
+            Reader::Plain(_) => {}
+            Reader::Buffered(reader) => reader.consume(count),
         }
     }
 }
@@ -143,6 +220,8 @@ impl<'a> FromSlice<'a> {
 impl Source for FromSlice<'_> {
     ghost supply = { λ s. record { left = Some s; failed = false } };
 
+    ghost shown = { λ s. s };
+
     fn pull(&mut self, buf: &mut [u8]) -> Result<usize, Failed> {
         let count = buf.len().min(self.rest.len());
         let (front, rest) = self.rest.split_at(count);
@@ -150,12 +229,30 @@ impl Source for FromSlice<'_> {
         self.rest = rest;
         Ok(count)
     }
+
+    fn held(&self) -> &[u8] {
+        self.rest
+    }
+
+    fn consume(&mut self, count: usize) {
+        self.rest = &self.rest[count..];
+    }
 }
 
 impl<S: Source> Source for &mut S {
     ghost supply = { λ s. S.supply s.now };
 
+    ghost shown = { λ s. S.shown s.now };
+
     fn pull(&mut self, buf: &mut [u8]) -> Result<usize, Failed> {
         (**self).pull(buf)
+    }
+
+    fn held(&self) -> &[u8] {
+        (**self).held()
+    }
+
+    fn consume(&mut self, count: usize) {
+        (**self).consume(count);
     }
 }
