@@ -1,5 +1,6 @@
 //! The commands that print what they find in one input.
 ghost use Rattle.std.specs.Prelude.{◌≡◌, ◌↔◌, ◌+◌, IfErr, IfOk, IsErrAnd, None, Some, false, is_some, true};
+ghost use Rattle.hunk_words.specs.Carriers.{left_of};
 ghost use Rattle.hunk_commands.specs.declared.fault.RunFault.TheVariants.{Memory};
 ghost use Rattle.hunk_commands.specs.Faults.{IsWrite};
 ghost use Rattle.hunk_commands.specs.HexText.{ReadsHex};
@@ -18,7 +19,7 @@ use hunk_scatter::Limits;
 use hunk_words::{Fault, FromRead, FromSlice, LongWriter, Sink, Source};
 use std::alloc::Global;
 use std::io;
-use std::io::{BufReader, Read};
+use std::io::Read;
 
 /// The exit status where `validate` found something.
 const FOUND: u8 = 1;
@@ -59,38 +60,39 @@ pub(crate) fn list_file<S: Store, W: Sink>(
         → IfErr result.0 (λ fault. fault ≡ Memory) }
 {
     let Some(name) = file else {
-        return list_reader(alloc, listing, store.input(), hex, out);
+        return list_reader(alloc, listing, FromRead::new(store.input()), hex, out);
     };
     let file = match store.open(name.as_str()) {
         Ok(file) => file,
         Err(error) => return (Err(RunFault::Read { place: 0 }), Some(error)),
     };
-    match BufReader::new(alloc, file) {
-        Ok(reader) => list_reader(alloc, listing, reader, hex, out),
+    match FromRead::buffered(alloc, file) {
+        Ok(source) => list_reader(alloc, listing, source, hex, out),
         Err(_) => (Err(RunFault::Memory), None),
     }
 }
 
-/// The same of what the reader gives.
+/// The same of what a reader gives that has not failed.
 fn list_reader<R: Read + Drop, W: Sink>(
     alloc: Global,
     listing: Listing,
-    reader: R,
+    source: FromRead<R>,
     hex: bool,
     out: &mut LongWriter<W>,
 ) -> (Result<u8, RunFault>, Option<io::Error>)
+    requires fresh { source.error ≡ None }
     ensures outcome { TellsOutcome W.outlet out.old out.new result.0 }
     ensures done { IfOk result.0 (λ status. status ≡ 0
-        → ListsRead W.outlet hex listing (R.remaining reader) out.old out.new) }
-    ensures succeeds { HasInput hex listing (unread (R.remaining reader)) FILE_BYTES
+        → ListsRead W.outlet hex listing (left_of R.remaining source.reader) out.old out.new) }
+    ensures succeeds { HasInput hex listing (unread (left_of R.remaining source.reader)) FILE_BYTES
         → result.1 ≡ None → (W.outlet out.new.sink).failed ≡ false
         → IfErr result.0 (λ fault. fault ≡ Memory) }
     ensures stops { IfErr result.0 (λ fault. ¬ IsWrite fault
-        → FromReader (R.remaining reader)
+        → FromReader (left_of R.remaining source.reader)
         (λ before after. StopsSource hex listing before after FILE_BYTES fault)) }
     ensures cause { is_some result.1 ≡ true ↔ IsErrAnd result.0 IsRead }
 {
-    let mut source = FromRead::new(reader);
+    let mut source = source;
     let answer = list_source(alloc, listing, &mut source, hex, out);
     let cause = match answer {
         Ok(_) => None,

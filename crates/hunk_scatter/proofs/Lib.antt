@@ -1,4 +1,5 @@
 pub mod After
+pub mod BodyFeeding
 pub mod BodyFields
 pub mod CompletedLongs
 pub mod DeclaredBytes

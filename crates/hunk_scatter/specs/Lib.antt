@@ -1,4 +1,5 @@
 pub mod BodyLoaderFields
+pub mod BodyFeeds
 pub mod BodyReader
 pub mod BodySteps
 pub mod HeaderBytes

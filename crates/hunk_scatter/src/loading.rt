@@ -6,9 +6,10 @@ ghost use Rattle.std.specs.Io.KnownBytes.{Consumes};
 ghost use Rattle.hunk_words.specs.declared.reason.Reason.TheVariants as reasons;
 ghost use Rattle.hunk_files.specs.Image.{declared_bytes};
 ghost use Rattle.hunk_files.specs.declared.part.Part.TheVariants.{Header, Hunk};
+ghost use Rattle.hunk_scatter.specs.BodyFeeds.{FeedsMore, IsCutShort};
 ghost use Rattle.hunk_scatter.specs.HeaderBytes.{IsHeaderTable, header_bytes};
 ghost use Rattle.hunk_scatter.specs.HeaderFaults.{IsOverBudget};
-ghost use Rattle.hunk_scatter.specs.LoaderValues.{IsImageOf};
+ghost use Rattle.hunk_scatter.specs.LoaderValues.{IsImageOf, IsWholeFile};
 ghost use Rattle.hunk_scatter.specs.LoadOutcomes.{Gives, GoesPastNoFile, GoesPastNoHeader, HasFileWithin};
 ghost use Rattle.hunk_scatter.specs.LoadOutcomes.{IsBodyStop, IsHeaderStop};
 ghost use Rattle.hunk_scatter.specs.LoadOutcomes.{IsReadFault, Loads, PassesBudget, StopsAfterFile};
@@ -120,6 +121,89 @@ fn refused_in_hunk(loader: &BodyLoader, fault: LoadFault) -> LoadRefusal
     LoadRefusal::in_part(fault, Part::Hunk { number })
 }
 
+/// Feeds the loader a piece of at most `want` bytes, which is pulled into the buffer.
+#[inline(always)]
+fn feed_pulled<R: Source>(
+    r: &mut R,
+    buf: &mut [u8],
+    loader: &mut BodyLoader,
+    want: usize,
+    limit: u64,
+) -> Result<(), LoadFault>
+    requires reading { loader.old.refused ≡ None }
+    requires below_limit { length loader.old.fed ≤ limit }
+    requires nonempty { 0 < want }
+    requires buffer { want ≤ length buf.old }
+    requires cut_short { IsCutShort loader.old want }
+    ensures feeds { FeedsMore (R.supply r.old) (R.supply r.new) limit loader.old loader.new result }
+    ensures buffer_kept { length buf.new ≡ length buf.old }
+    ensures tells_read { TellsFailure (R.supply r.old) (R.supply r.new) result }
+{
+    let n = match read_piece(r, buf, want, loader.fed(), limit) {
+        Ok(n) => n,
+        Err(fault) => return Err(fault),
+    };
+    match loader.feed(&buf[..n]) {
+        Ok(_) => Ok(()),
+        Err(fault) => Err(fault),
+    }
+}
+
+/// Feeds the loader what the source holds, where it lies, and takes of it what the loader took: all
+/// up to the limit, or to the end of the file. Where a longword is refused, all up to the limit is
+/// taken.
+#[inline(always)]
+fn feed_held<R: Source>(
+    r: &mut R,
+    loader: &mut BodyLoader,
+    limit: u64,
+) -> Result<(), LoadFault>
+    requires reading { loader.old.refused ≡ None }
+    requires below_limit { length loader.old.fed < limit }
+    requires some { 0 < length (R.shown r.old) }
+    requires goes_on { ¬ IsWholeFile loader.old.rows loader.old.fed }
+    ensures feeds { FeedsMore (R.supply r.old) (R.supply r.new) limit loader.old loader.new result }
+    ensures works { (R.supply r.new).failed ≡ (R.supply r.old).failed }
+{
+    let held = r.held();
+    let most = (limit - loader.fed()).min(held.len() as u64) as usize;
+    let taken = match loader.feed(&held[..most]) {
+        Ok(taken) => taken,
+        Err(fault) => {
+            r.consume(most);
+            return Err(fault);
+        }
+    };
+    r.consume(taken);
+    Ok(())
+}
+
+/// Feeds the loader a next piece: what the source holds, or else at most `want` bytes that are
+/// pulled.
+#[inline(always)]
+fn feed_next<R: Source>(
+    r: &mut R,
+    buf: &mut [u8],
+    loader: &mut BodyLoader,
+    want: usize,
+    limit: u64,
+) -> Result<(), LoadFault>
+    requires reading { loader.old.refused ≡ None }
+    requires below_limit { length loader.old.fed ≤ limit }
+    requires nonempty { 0 < want }
+    requires buffer { want ≤ length buf.old }
+    requires goes_on { ¬ IsWholeFile loader.old.rows loader.old.fed }
+    requires cut_short { IsCutShort loader.old want }
+    ensures feeds { FeedsMore (R.supply r.old) (R.supply r.new) limit loader.old loader.new result }
+    ensures buffer_kept { length buf.new ≡ length buf.old }
+    ensures tells_read { TellsFailure (R.supply r.old) (R.supply r.new) result }
+{
+    if r.held().is_empty() || loader.fed() >= limit {
+        return feed_pulled(r, buf, loader, want, limit);
+    }
+    feed_held(r, loader, limit)
+}
+
 /// Reads the body after its header.
 fn load_body<R: Source>(
     r: &mut R,
@@ -146,12 +230,8 @@ fn load_body<R: Source>(
         if want == 0 {
             break 'reading;
         }
-        let n = match read_piece(r, buf, want, loader.fed(), limit) {
-            Ok(n) => n,
-            Err(fault) => return Err(refused_in_hunk(&loader, fault)),
-        };
-        match loader.feed(&buf[..n]) {
-            Ok(_) => {}
+        match feed_next(r, buf, &mut loader, want, limit) {
+            Ok(()) => {}
             Err(fault) => return Err(refused_in_hunk(&loader, fault)),
         }
     }

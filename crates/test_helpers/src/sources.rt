@@ -1,5 +1,5 @@
 //! Sources that give few bytes at a time, fail, are interrupted, or never end.
-ghost use Rattle.std.specs.Prelude.{◌≤◌, None, length};
+ghost use Rattle.std.specs.Prelude.{◌≤◌, [], None, length};
 
 use hunk_words::{Failed, Source};
 use std::io;
@@ -49,6 +49,8 @@ impl<'a> FailsOnce<'a> {
 impl Source for FailsOnce<'_> {
     ghost supply = { λ s. record { left = None; failed = s.failed } };
 
+    ghost shown = { λ _. [] };
+
     fn pull(&mut self, buf: &mut [u8]) -> Result<usize, Failed> {
         if self.given == self.fails_at && !self.failed {
             self.failed = true;
@@ -58,6 +60,12 @@ impl Source for FailsOnce<'_> {
         self.given = self.given.wrapping_add(count);
         Ok(count)
     }
+
+    fn held(&self) -> &[u8] {
+        &[]
+    }
+
+    fn consume(&mut self, _count: usize) {}
 }
 
 /// Reads these bytes, one a read; after this many of them one read is interrupted, and those after it go on.
@@ -167,6 +175,8 @@ fn repeat(from: usize, buf: &mut [u8]) -> usize {
 impl Source for Fed<'_> {
     ghost supply = { λ s. record { left = None; failed = s.failed } };
 
+    ghost shown = { λ _. [] };
+
     fn pull(&mut self, buf: &mut [u8]) -> Result<usize, Failed> {
         self.reads = self.reads.wrapping_add(1);
         if self.rest.is_empty() {
@@ -188,4 +198,10 @@ impl Source for Fed<'_> {
         self.given = self.given.wrapping_add(count);
         Ok(count)
     }
+
+    fn held(&self) -> &[u8] {
+        &[]
+    }
+
+    fn consume(&mut self, _count: usize) {}
 }

@@ -1,10 +1,12 @@
 use Rattle.std.proofs.Common.{◌≡◌, ◌≤◌, ◌-◌, ℕ, List, ◌++◌, length, None, false}
 use Rattle.std.specs.Io.KnownBytes.{Consumes}
 use Rattle.hunk_scatter.specs.LoadOutcomes.{GoesPastNoFile}
+use Rattle.hunk_scatter.specs.Owing.{most_want}
 use Rattle.hunk_scatter.proofs.loading.load_body.Given as goal
 
 abbrev pub invariant-reading : goal.invariant-reading
 invariant-reading g l = record {
+  buffer : length l.buf ≡ most_want;
   reading : l.loader.refused ≡ None;
   works : (g.R.Source.supply l.fn.r).failed ≡ false → (g.R.Source.supply l.r).failed ≡ false;
   rows_are : l.loader.rows ≡ l.fn.loader.rows;

@@ -1,5 +1,5 @@
 //! What a load asks of its source, of its placer and for memory.
-ghost use Rattle.std.specs.Prelude.{◌≡◌, ◌≤◌, None, length};
+ghost use Rattle.std.specs.Prelude.{[], ◌≡◌, ◌≤◌, None, length};
 ghost use Rattle.hunk_scatter.specs.Placing.{packed_from};
 
 use crate::tests::asserts::{assert_equal, assert_equal_at};
@@ -77,6 +77,8 @@ fn move_front(rest: &mut &[u8], buf: &mut [u8]) -> usize
 impl Source for Asked<'_> {
     ghost supply = { λ s. record { left = None; failed = s.failed } };
 
+    ghost shown = { λ _. [] };
+
     fn pull(&mut self, buf: &mut [u8]) -> Result<usize, Failed> {
         if let Some(size) = self.sizes.get_mut(self.pulls) {
             *size = buf.len();
@@ -89,6 +91,12 @@ impl Source for Asked<'_> {
         }
         Ok(count)
     }
+
+    fn held(&self) -> &[u8] {
+        &[]
+    }
+
+    fn consume(&mut self, _count: usize) {}
 }
 
 /// Files, and the sizes of what is asked for: of a header what each with these bytes still has; of a body the least

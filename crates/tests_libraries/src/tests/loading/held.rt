@@ -1,5 +1,5 @@
 //! What loaders hold, by what the allocator still gives beside them.
-ghost use Rattle.std.specs.Prelude.{None, false};
+ghost use Rattle.std.specs.Prelude.{[], None, false};
 
 use crate::tests::asserts::{assert_equal, assert_equal_at};
 use crate::tests::loading::{headers, loaded};
@@ -199,6 +199,8 @@ struct Measuring<'a> {
 impl Source for Measuring<'_> {
     ghost supply = { λ _. record { left = None; failed = false } };
 
+    ghost shown = { λ _. [] };
+
     fn pull(&mut self, buf: &mut [u8]) -> Result<usize, Failed> {
         let count = buf.len().min(self.rest.len());
         let (front, rest) = self.rest.split_at(count);
@@ -209,6 +211,12 @@ impl Source for Measuring<'_> {
         }
         Ok(count)
     }
+
+    fn held(&self) -> &[u8] {
+        &[]
+    }
+
+    fn consume(&mut self, _count: usize) {}
 }
 
 /// What a load of the bytes gives, and how large a piece there was beside it at its last read.
