@@ -23,7 +23,8 @@ pub fn load_program<R: Read + Drop>(
     memory: &mut Vec<u8>,
     start: u32,
 ) -> anyhow::Result<u32> {
-    let image = load(alloc, &mut FromRead::new(file), LIMITS, &Packed { start })?;
+    let mut source = FromRead::buffered(alloc, file)?;
+    let image = load(alloc, &mut source, LIMITS, &Packed { start })?;
     for (_, segment) in image.segments() {
         memory.extend_from_slice(segment)?;
     }

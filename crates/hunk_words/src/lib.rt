@@ -1,6 +1,6 @@
 //! Longwords, size words, block words, reasons of refusals, and what bytes come from and go to.
 //!
-//! Nothing here takes memory.
+//! Nothing here takes memory but `FromRead::buffered`, for its buffer.
 #![tactic(auto)]
 
 mod assembler;

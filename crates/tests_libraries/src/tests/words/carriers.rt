@@ -147,6 +147,27 @@ fn pulls(rt: HostRuntime) -> Result<(), Fail> {
     Ok(())
 }
 
+/// What is held is what is pulled next. A reader without a buffer holds nothing.
+#[test]
+fn lends(rt: HostRuntime) -> Result<(), Fail> {
+    let mut buf = [0u8; 2];
+    let mut source = FromRead::new(b"abcde".as_slice());
+    assert_equal(&rt, source.pull(&mut buf), Ok(2));
+    assert_equal(&rt, source.held(), b"".as_slice());
+    let mut source = FromRead::buffered(rt.alloc(), b"abcde".as_slice())?;
+    assert_equal(&rt, source.held(), b"".as_slice());
+    assert_equal(&rt, source.pull(&mut buf), Ok(2));
+    assert_equal(&rt, source.held(), b"cde".as_slice());
+    source.consume(1);
+    assert_equal(&rt, source.pull(&mut buf), Ok(2));
+    assert_equal(&rt, &buf, b"de");
+    assert_equal(&rt, source.into_inner(), b"".as_slice());
+    let mut source = FromSlice::new(b"abcde".as_slice());
+    (&mut source).consume(2);
+    assert_equal(&rt, source.held(), b"cde".as_slice());
+    Ok(())
+}
+
 #[test]
 fn pushes(rt: HostRuntime) -> Result<(), Fail> {
     let mut sink = FromWrite::new(Vec::<u8>::new(rt.alloc()));
