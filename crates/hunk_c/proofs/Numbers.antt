@@ -4,9 +4,7 @@ use Rattle.hunk_grammar.specs.declared.phase.Phase.{Phase}
 use Rattle.hunk_grammar.specs.declared.phase.Phase.TheVariants as phases
 use Rattle.hunk_grammar.specs.{declared.position.OpenHunk.OpenHunk, declared.position.Position.Position}
 use Rattle.hunk_grammar.specs.declared.position.Position.TheVariants as positions
-use Rattle.hunk_grammar.specs.Positions.{is_done}
 use Rattle.hunk_scatter.specs.declared.stream.Standing.{Standing}
-use Rattle.hunk_scatter.proofs.StreamLaws.{open_unless_done}
 use Rattle.hunk_c.specs.declared.loader.Loader.{Loader}
 use Rattle.hunk_c.specs.Loaders.{CountsBytes, HasNumbers, MayHavePosition, MayHaveStood, MayOwe, MayStand, MayStandAt, StandsAt, TellsNone, bit, body_in, hunk_of, loader_at, loader_position, phase_in, phase_numbers, position_numbers, standing_in, unrefused, unused, whole}
 
@@ -119,11 +117,6 @@ may_stand_by l p h counts = record { counts = counts; position = h.may_stand; no
 
 pub stands_by : (l : Loader) (p : Position) → MayHavePosition l p → CountsBytes l.start l.fed l.pending → TellsNone l → StandsAt l (standing_in l p)
 stands_by l p h counts clean = record { numbers = numbers_are l p h.numbers; may_stand = may_stand_by l p h counts; clean = clean }
-
--- Where the file is not whole, a hunk is open.
-pub goes_on : (l : Loader) (at : Standing) → StandsAt l at → (l.phase ≡ whole → ⊥) → is_done at.state.position ≡ false
-goes_on l at s open_still =
-    open_unless_done at.state.position (λ e. open_still (ap (λ (x : Loader). x.phase) s.numbers ∙ ap (λ (p : Position). (position_numbers p).0) e))
 
 -- A standing that may be is one by its numbers.
 pub stands_again : (l : Loader) (at : Standing) → unrefused l ≡ loader_at at → MayStand at → MayHaveStood l

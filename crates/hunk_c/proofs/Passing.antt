@@ -1,21 +1,21 @@
 -- A loader that passes over a piece.
 use Rattle.std.proofs.Common.{rules, ◌≡◌, ◌+◌, ◌-◌, ◌/◌, ◌%◌, ◌<◌, ◌≤◌, ℕ, zero, suc, false, List, [], ◌∷◌, ◌++◌, length, take, refl, sym, ap, subst, ◌∙◌, arith, length-append, length-take, get_or, Option, None, Some, MatchOption, true≢false}
-use Rattle.std.proofs.lemmas.List.{take_all}
+use Rattle.std.proofs.lemmas.List.{length-map, take_all}
 use Rattle.hunk_words.specs.{Carriers.saturated, Longs.{Gathers, IsBytes}, PendingBytes.pending_of}
 use Rattle.hunk_words.specs.declared.pending.Pending.{Pending}
-use Rattle.hunk_words.proofs.{LongLaws.length-bytes_of, PendingLaws.{few_pending, pending_none}}
+use Rattle.hunk_words.proofs.{PendingLaws.{few_pending, pending_none}}
 use Rattle.hunk_grammar.specs.declared.phase.Phase.{Phase}
 use Rattle.hunk_grammar.specs.declared.phase.Phase.TheVariants as phases
 use Rattle.hunk_grammar.specs.{Positions.{is_done, pass}, declared.position.OpenHunk.OpenHunk, declared.position.Position.Position}
 use Rattle.hunk_grammar.specs.declared.position.Position.TheVariants as positions
 use Rattle.hunk_files.specs.declared.row.Row.{Row}
-use Rattle.hunk_scatter.specs.{BodyLoaderFields.StandsAfter, Streaming.{FitsStore, IsFed}}
+use Rattle.hunk_scatter.specs.{BodyLoaderFields.StandsAfter, BodySteps.{RoomFor, longs_at}, Rows.words_of, Streaming.{FitsStore, IsFed}}
 use Rattle.hunk_scatter.specs.declared.stream.Standing.{Standing}
 use Rattle.hunk_scatter.proofs.{BodyFields.{fed_more, gone, in_room}, OneByte.more_pending, StreamLaws.first_byte, WholeLongs.run_taken}
 use Rattle.hunk_c.specs.declared.loader.Loader.{Loader}
-use Rattle.hunk_c.specs.Loaders.{MayHavePosition, StandsAt, loader_at, open_hunk, pending_in, phase_in, refusal_in, with_numbers}
+use Rattle.hunk_c.specs.Loaders.{CountsBytes, LiesIn, MayBeInBody, MayHavePosition, StandsAt, TellsNone, loader_at, open_hunk, pending_in, phase_in, refusal_in, standing_in, with_numbers}
 use Rattle.hunk_c.specs.Streams.{PassesOver}
-use Rattle.hunk_c.proofs.Streamed.{stands_at, stands_so}
+use Rattle.hunk_c.proofs.{Numbers.stands_by, Streamed.{stands_at, stands_so}}
 
 -- with more bytes, and these of the next longword
 abbrev with_pending : Standing → ℕ → Pending → Standing
@@ -70,10 +70,45 @@ module _ (rows : List Row) (total : ℕ) (l : Loader) (at : Standing) (piece : L
       passes_over rows total l (loader_with l sum pending) piece at to s f (with_is l at sum pending s) (fits_with rows total at sum pending f few) refl more
       (λ memory fed h. subst (λ (xs : List ℕ). IsFed rows memory to (fed ++ xs)) (sym (take_all (length piece) piece (omega arith))) (fed_bytes memory fed h))
 
--- Fewer than four bytes complete no longword.
-pub gathers_none : (bytes pending : List ℕ) (word : Option ℕ) → Gathers bytes pending word → length bytes < 4 → Gathers bytes pending None
-gathers_none bytes pending None g few = g
-gathers_none bytes pending (Some w) g few = absurd (omega (arith, few, ap (λ (xs : List ℕ). length xs) g.0, length-bytes_of (w ∷ [])))
+-- ---- a byte
+
+-- There is room in the hunk for what a longword does at the phase.
+room_for : (rows : List Row) (total : ℕ) (l : Loader) (phase : Phase) → LiesIn rows total l → MayHavePosition l (positions.Body (open_hunk l) phase) →
+    RoomFor (words_of rows) (longs_at (words_of rows) l.hunk) phase
+room_for rows total l (phases.Content all owed) lies h = (h.may_stand.2.1, omega (arith, lies.content h.numbers.phase, h.numbers.part))
+room_for rows total l (phases.Offset target owed) lies h = omega (arith, h.may_stand.2.1, lies.hunks, length-map rows (λ (r : Row). r.word))
+room_for rows total l _ lies h = tt
+
+-- At a phase of the open hunk the numbers fit the rows and the memory.
+fits_open : (rows : List Row) (total : ℕ) (l : Loader) (phase : Phase) → LiesIn rows total l → l.pending < 4 → MayHavePosition l (positions.Body (open_hunk l) phase) →
+    FitsStore rows total (standing_in l (positions.Body (open_hunk l) phase))
+fits_open rows total l phase lies few h =
+    let many = length-map rows (λ (r : Row). r.word) in
+    let open_at = h.may_stand.0 in
+    record {
+      few = few;
+      in_store = λ e. record {
+        hunks = omega (arith, many, lies.hunks, open_at.few);
+        hunk = omega (arith, many, lies.hunks, open_at.counts);
+        segment = lies.segment;
+        in_body = refl;
+        targets = omega (arith, many, lies.hunks);
+        room = room_for rows total l phase lies h;
+      };
+      hunks = λ e. lies.hunks;
+      whole = λ e. absurd cc;
+    }
+
+-- A byte that completes no longword is passed over in an open hunk.
+pub passes_byte : (rows : List Row) (total : ℕ) (l : Loader) (piece : List ℕ) (pending : Pending) → MayBeInBody l → CountsBytes l.start l.fed l.pending → TellsNone l → LiesIn rows total l →
+    pending_of pending ≡ pending_of (pending_in l) ++ piece → pending.count < 4 → PassesOver rows total l piece (loader_with l (saturated (l.fed + length piece)) pending)
+passes_byte rows total l piece pending may counts clean lies gathers few = go (phase_in l.phase l.part l.owed) may
+  where
+    go : (p : Option Phase) → MatchOption p ⊥ (λ phase. MayHavePosition l (positions.Body (open_hunk l) phase)) → PassesOver rows total l piece (loader_with l (saturated (l.fed + length piece)) pending)
+    go None h = absurd h
+    go (Some phase) h =
+        let p : Position = positions.Body (open_hunk l) phase in
+        passes_bytes rows total l (standing_in l p) piece pending (stands_by l p h counts clean) (fits_open rows total l phase lies counts.few h) refl gathers few
 
 pub one_byte : (piece : List ℕ) → length piece ≡ 1 → get_or piece 0 0 ∷ [] ≡ piece
 one_byte piece e = first_byte piece (omega (arith, e)) ∙ take_all 1 piece (omega (arith, e))

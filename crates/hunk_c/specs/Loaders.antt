@@ -1,5 +1,5 @@
 -- The numbers of a loader that a C program keeps: how they say where it stands, and which of them none has.
-use Rattle.std.specs.Prelude.{◌≡◌, ◌⊎◌, ℕ, ◌+◌, ◌-◌, ◌*◌, ◌%◌, ◌^◌, ◌<◌, ◌≤◌, ◌==◌, List, [], ◌∷◌, ◌++◌, if◌then◌else◌, Bool, true, false, Option, Some, None, IsTrue, MatchOption}
+use Rattle.std.specs.Prelude.{◌≡◌, ◌⊎◌, ℕ, ◌+◌, ◌-◌, ◌*◌, ◌%◌, ◌^◌, ◌<◌, ◌≤◌, ◌==◌, List, [], ◌∷◌, ◌++◌, length, if◌then◌else◌, Bool, true, false, Option, Some, None, IsTrue, MatchOption}
 use Rattle.hunk_words.specs.Limits.{content_limit, most_hunks, name_limit}
 use Rattle.hunk_words.specs.Reasons.{number_of}
 use Rattle.hunk_words.specs.declared.fault.Fault.{Fault}
@@ -11,8 +11,10 @@ use Rattle.hunk_grammar.specs.Positions.{is_done}
 use Rattle.hunk_grammar.specs.declared.position.Position.{Position}
 use Rattle.hunk_grammar.specs.declared.position.Position.TheVariants as positions
 use Rattle.hunk_files.specs.declared.row.Row.{Row}
+use Rattle.hunk_scatter.specs.BodySteps.{longs_at}
 use Rattle.hunk_scatter.specs.LoaderReasons.{is_of_body}
 use Rattle.hunk_scatter.specs.LoaderValues.{IsBodyRefusal}
+use Rattle.hunk_scatter.specs.Rows.{words_of}
 use Rattle.hunk_scatter.specs.Streaming.{IsFed}
 use Rattle.hunk_scatter.specs.declared.stream.Standing.{Standing}
 use Rattle.hunk_c.specs.declared.answer.Answer.{Answer}
@@ -257,6 +259,12 @@ OwesByPhase l = MatchOption (phase_in l.phase l.part l.owed) ⊥ (λ phase. HasP
 -- They are those of a loader that may stand at a phase, by its number.
 abbrev pub MayBeInBody : Loader → Type 0
 MayBeInBody l = MatchOption (phase_in l.phase l.part l.owed) ⊥ (λ phase. MayHavePosition l (positions.Body (open_hunk l) phase))
+
+-- The open hunk is one of the rows, which are the hunks, and lies in a memory of this many bytes.
+pub record LiesIn (rows : List Row) (total : ℕ) (l : Loader) : Type 0 where
+  pub hunks : l.hunks ≡ length rows
+  pub segment : l.start + 4 * longs_at (words_of rows) l.hunk ≤ total
+  pub content : l.phase ≡ 7 → l.part ≤ longs_at (words_of rows) l.hunk
 
 -- A loader may stand so, or have stood so before a refusal.
 pub record MayHaveStood (l : Loader) : Type 0 where

@@ -1,17 +1,19 @@
 //! The blocks of a file.
 ghost use Rattle.std.specs.Prelude.{◌≡◌, ◌+◌, ◌*◌, ◌≤◌, length};
 ghost use Rattle.std.specs.Option.{option_map};
+ghost use Rattle.hunk_words.specs.Carriers.{saturated};
 ghost use Rattle.hunk_words.specs.Longs.{longs};
 ghost use Rattle.hunk_blocks.specs.BodyViews.{viewed};
+ghost use Rattle.hunk_files.specs.FileView.{file_of};
 ghost use Rattle.hunk_c.specs.Blocks.{block_row, block_rows, blocks_in, content, items, payload_of};
 ghost use Rattle.hunk_c.specs.Rows.{ListsWhatFits, Tabulates};
 
-use crate::answer::Answer;
+use crate::answer::{Answer, refused};
 use crate::entries::list_entries;
-use crate::rows::{InBlock, RowCount, tabulate};
+use crate::rows::{InBlock, RowCount, write_rows};
 use crate::symbols::list_symbols;
 use hunk_blocks::{BlockView, BodyView, Payload};
-use hunk_files::Takes;
+use hunk_files::{FileView, Item, Takes};
 
 /// A block of a hunk, `struct hunk_block`: 80 bytes, with no padding.
 #[repr(C)]
@@ -36,7 +38,23 @@ pub extern "C" fn hunk_blocks(bytes: &[u8], rows: &mut [BlockRow]) -> Answer
     ensures outcome { Tabulates blocks_in bytes.now rows.old rows.new result }
     ensures succeeds { ListsWhatFits blocks_in (length rows.old) bytes.now result }
 {
-    tabulate(bytes, rows)
+    match FileView::read(bytes) {
+        Ok(file) => write_rows(bytes, &file, count_blocks(&file), rows),
+        Err(refusal) => refused(refusal.fault),
+    }
+}
+
+/// How many blocks there are, up to 2 ^ 64 - 1: what stands in them is not looked at.
+fn count_blocks(file: &FileView<'_>) -> u64
+    ensures { result ≡ saturated (length (blocks_in (file_of file.now))) }
+{
+    let mut count: u64 = 0;
+    'counting: for item in file.items() {
+        if let Item::Block { .. } = item {
+            count = count.saturating_add(1);
+        }
+    }
+    count
 }
 
 impl InBlock for BlockRow {

@@ -1,17 +1,19 @@
 //! A loader in numbers, which its caller keeps.
-ghost use Rattle.std.specs.Prelude.{◌≡◌, ◌≤◌, ◌↔◌, false, true, ℕ, List, IfErr, IfOk, IsTrue, MatchOption};
+ghost use Rattle.std.specs.Prelude.{◌≡◌, ◌≤◌, ◌<◌, ◌+◌, ◌-◌, ◌^◌, ◌++◌, ◌∷◌, [], ◌↔◌, false, true, ℕ, List, IfErr, IfOk, IsTrue, MatchOption};
+ghost use Rattle.hunk_words.specs.PendingBytes.{pending_of};
 ghost use Rattle.hunk_words.specs.declared.fault.Fault.{Fault};
 ghost use Rattle.hunk_grammar.specs.Positions.{is_done};
 ghost use Rattle.hunk_grammar.specs.declared.position.Position.TheVariants as positions;
 ghost use Rattle.hunk_files.specs.declared.row.Row.{Row};
 ghost use Rattle.hunk_scatter.specs.Streaming.{IsFed};
-ghost use Rattle.hunk_c.specs.Loaders.{CountsBytes, MayBeInBody, MayHavePosition, MayHaveStood};
+ghost use Rattle.hunk_c.specs.Loaders.{CountsBytes, LiesIn, MayBeInBody, MayHavePosition, MayHaveStood};
 ghost use Rattle.hunk_c.specs.Loaders.{OwesByPhase, StandsAt, TellsAgain, TellsFault, TellsNone};
 ghost use Rattle.hunk_c.specs.Loaders.{least_file, loader_at, loader_position, open_hunk, refusing, standing_in, whole};
+ghost use Rattle.hunk_c.specs.Loaders.{pending_in, refusal_in, with_numbers};
 ghost use Rattle.hunk_c.specs.Streams.{PassesOver};
 
 use crate::answer::{Answer, refused, strange};
-use crate::phases::{PAYLOAD, WHOLE, numbers_of, phase_in};
+use crate::phases::{CONTENT, OFFSET, PAYLOAD, WHOLE, numbers_of, phase_in};
 use hunk_files::Row;
 use hunk_grammar::{OpenHunk, Phase, Position};
 use hunk_scatter::stream::{BodyState, Pending, Standing};
@@ -177,33 +179,67 @@ impl Loader {
     }
 
     /// Takes a byte that completes no longword. Whether it did; it does not where the piece is
-    /// anything else, or no loader with these rows and this memory stands so.
+    /// anything else, or no loader with these rows and this memory stands so. Nor does it where
+    /// more bytes came than are counted.
+    ///
+    /// Each number is tested by itself, for no more than the answer takes: a position is not made
+    /// of them.
     #[inline(always)]
     pub(crate) fn pass_byte(&mut self, rows: &[Row], total: usize, piece: &[u8]) -> bool
         ensures passes { result ≡ true → PassesOver rows.now total self.old piece.now self.new }
         ensures stays { result ≡ false → self.new ≡ self.old }
     {
-        if piece.len() != 1 || self.pending > 2 || self.phase == WHOLE {
+        if piece.len() != 1 || self.pending > 2 || !self.is_clean() {
             return false;
         }
-        if !self.is_clean() || !self.has_stood() {
+        if self.start % 4 > 0 || self.fed % 4 != u64::from(self.pending) {
             return false;
         }
-        let Some(position) = self.position() else {
-            return false;
-        };
-        let at = self.standing_at(position);
-        if !at.fits(rows, total) {
+        if !self.may_be_open() || !self.lies_in(rows, total) {
             return false;
         }
-        let (pending, _) = at.pending.take(piece[0]);
-        self.fed = self.fed.saturating_add(1);
-        self.pending = pending.count;
-        self.first = pending.first;
-        self.second = pending.second;
-        self.third = pending.third;
-        self.reserved = UNUSED;
+        self.push(piece[0]);
         true
+    }
+
+    /// Keeps a byte that does not complete the next longword.
+    #[inline(always)]
+    fn push(&mut self, byte: u8)
+        requires few { self.old.pending < 3 }
+        requires counted { self.old.fed < 2 ^ 64 - 1 }
+        ensures gathers { pending_of (pending_in self.new)
+            ≡ pending_of (pending_in self.old) ++ byte ∷ [] }
+        ensures numbers { self.new ≡ with_numbers self.old (self.old.fed + 1) self.old.owed
+            (pending_in self.new) (refusal_in self.old) }
+        ensures few { self.new.pending < 4 }
+    {
+        match self.pending {
+            0 => self.first = byte,
+            1 => self.second = byte,
+            _ => self.third = byte,
+        }
+        self.pending += 1;
+        self.fed += 1;
+        self.reserved = UNUSED;
+    }
+
+    /// Whether the rows are the hunks, and the open one lies in a memory of `total` bytes.
+    #[inline(always)]
+    fn lies_in(&self, rows: &[Row], total: usize) -> bool
+        requires { MayBeInBody self.now }
+        ensures { result ≡ true → LiesIn rows.now total self.now }
+    {
+        let hunks = rows.len();
+        if self.hunks as usize != hunks {
+            return false;
+        }
+        let longs = rows[self.hunk as usize].size().longs();
+        let bytes = 4 * u64::from(longs);
+        let total = total as u64;
+        if bytes > total || self.start > total - bytes {
+            return false;
+        }
+        self.phase != CONTENT || self.part <= longs
     }
 
     /// Whether the numbers tell no refusal.
@@ -215,7 +251,7 @@ impl Loader {
     }
 
     /// Whether a loader may stand so, or have stood so before a refusal.
-    #[inline(never)]
+    #[inline(always)]
     fn has_stood(&self) -> bool
         ensures { IsTrue result ↔ MayHaveStood self.now }
     {
@@ -336,6 +372,13 @@ impl Loader {
     fn may_owe(&self) -> bool
         ensures { IsTrue result ↔ OwesByPhase self.now }
     {
+        if self.phase == CONTENT {
+            let is_inside = self.owed < self.part && self.part < CONTENT_LIMIT;
+            return is_inside && self.has_content != 1;
+        }
+        if self.phase == OFFSET {
+            return self.part < self.hunks && self.has_content == 1;
+        }
         let owes_none = self.part == 0 && self.owed == 0;
         match self.phase {
             1 => owes_none && self.has_content != 1,
@@ -344,11 +387,9 @@ impl Loader {
             4 => owes_none,
             5 => owes_none && self.has_content != 1,
             6 => owes_none && self.has_content != 1,
-            7 => self.has_content != 1 && self.owed < self.part && self.part < CONTENT_LIMIT,
             8 => self.part == 0,
             9 => owes_none && self.has_content == 1,
             10 => self.part == 0 && self.has_content == 1,
-            11 => self.part < self.hunks && self.has_content == 1,
             12 => owes_none,
             13 => self.part == 0 && self.owed < NAME_LIMIT,
             _ => false,

@@ -4,6 +4,12 @@ ghost use Rattle.hunk_c.specs.Loaders.{hunk_of, phase_in, phase_numbers, positio
 
 use hunk_grammar::{OpenHunk, Phase, Position};
 
+/// The phase of a loader inside a content.
+pub(crate) const CONTENT: u32 = 7;
+
+/// The phase of a loader before an offset.
+pub(crate) const OFFSET: u32 = 11;
+
 /// The phase of a loader inside a payload.
 pub(crate) const PAYLOAD: u32 = 8;
 

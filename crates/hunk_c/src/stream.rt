@@ -47,10 +47,10 @@ pub extern "C" fn hunk_feed(
     ensures { Feeds rows.now loader.old loader.new memory.old memory.new piece.now result }
 {
     let total = memory.len();
-    if loader.pass_payload(rows, total, piece) {
+    if loader.pass_byte(rows, total, piece) {
         return done(loader.hunk, loader.fed, piece.len() as u64);
     }
-    if loader.pass_byte(rows, total, piece) {
+    if loader.pass_payload(rows, total, piece) {
         return done(loader.hunk, loader.fed, piece.len() as u64);
     }
     let at = match loader.standing() {

@@ -6,27 +6,27 @@ use Rattle.hunk_c.specs.Streams.{PassesOver, HasTaken, HasRefused, HadRefused, I
 use Rattle.hunk_c.proofs.{Loaded.same_answer, Streamed.{stands_at, stands_so}}
 use Rattle.hunk_c.proofs.stream.hunk_feed.Goals as goal
 
-pub returns-then-pass_payload : goal.returns-then-pass_payload
-returns-then-pass_payload c =
-    HasTaken (length c.args.piece.now) (c.pass_payload.ensures.passes c.if-pass_payload.true c.args.memory.now refl)
-    (c.done.ensures ∙ same_answer 0 _ _ _ _ _ _ refl refl (omega arith))
-
 pub returns-then-pass_byte : goal.returns-then-pass_byte
 returns-then-pass_byte c =
-    let same = c.pass_payload.ensures.stays c.if-pass_payload.false in
-    let passes = c.pass_byte.ensures.passes c.if-pass_byte.true in
+    HasTaken (length c.args.piece.now) (c.pass_byte.ensures.passes c.if-pass_byte.true c.args.memory.now refl)
+    (c.done.ensures ∙ same_answer 0 _ _ _ _ _ _ refl refl (omega arith))
+
+pub returns-then-pass_payload : goal.returns-then-pass_payload
+returns-then-pass_payload c =
+    let same = c.pass_byte.ensures.stays c.if-pass_byte.false in
+    let passes = c.pass_payload.ensures.passes c.if-pass_payload.true in
     HasTaken (length c.args.piece.now)
-    (subst (λ (l : Loader). PassesOver c.args.rows.now (length c.args.memory.now) l c.args.piece.now c.pass_byte.new.self) same passes c.args.memory.now refl)
-    (c.done-then-pass_byte.ensures ∙ same_answer 0 _ _ _ _ _ _ refl refl (omega arith))
+    (subst (λ (l : Loader). PassesOver c.args.rows.now (length c.args.memory.now) l c.args.piece.now c.pass_payload.new.self) same passes c.args.memory.now refl)
+    (c.done-then-pass_payload.ensures ∙ same_answer 0 _ _ _ _ _ _ refl refl (omega arith))
 
 pub returns-in-Err : goal.returns-in-Err
 returns-in-Err c =
-    let same = c.pass_byte.ensures.stays c.if-pass_byte.false ∙ c.pass_payload.ensures.stays c.if-pass_payload.false in
+    let same = c.pass_payload.ensures.stays c.if-pass_payload.false ∙ c.pass_byte.ensures.stays c.if-pass_byte.false in
     HadRefused (subst (λ (l : Loader). TellsAgain l c.in-Err.answer) same c.in-Err.ensures.tells) same refl
 
 pub returns-else-ends_early : goal.returns-else-ends_early
 returns-else-ends_early c =
-    let same = c.pass_byte.ensures.stays c.if-pass_byte.false ∙ c.pass_payload.ensures.stays c.if-pass_payload.false in
+    let same = c.pass_payload.ensures.stays c.if-pass_payload.false ∙ c.pass_byte.ensures.stays c.if-pass_byte.false in
     let stood = subst (λ (l : Loader). StandsAt l c.in-Ok.at) same c.in-Ok.ensures.stands in
     let e = c.in-Ok-feed_piece.ensures in
     HasTaken c.in-Ok-feed_piece.taken
@@ -48,7 +48,7 @@ returns-else-ends_early c =
 
 pub returns-then-ends_early : goal.returns-then-ends_early
 returns-then-ends_early c =
-    let same = c.pass_byte.ensures.stays c.if-pass_byte.false ∙ c.pass_payload.ensures.stays c.if-pass_payload.false in
+    let same = c.pass_payload.ensures.stays c.if-pass_payload.false ∙ c.pass_byte.ensures.stays c.if-pass_byte.false in
     let stood = subst (λ (l : Loader). StandsAt l c.in-Ok.at) same c.in-Ok.ensures.stands in
     IsStrange
     (λ fed h.
@@ -58,7 +58,7 @@ returns-then-ends_early c =
 
 pub returns-in-Err-Strange : goal.returns-in-Err-Strange
 returns-in-Err-Strange c =
-    let same = c.pass_byte.ensures.stays c.if-pass_byte.false ∙ c.pass_payload.ensures.stays c.if-pass_payload.false in
+    let same = c.pass_payload.ensures.stays c.if-pass_payload.false ∙ c.pass_byte.ensures.stays c.if-pass_byte.false in
     let stood = subst (λ (l : Loader). StandsAt l c.in-Ok.at) same c.in-Ok.ensures.stands in
     IsStrange
     (λ fed h.
@@ -68,7 +68,7 @@ returns-in-Err-Strange c =
 
 pub returns-in-Err-Refused : goal.returns-in-Err-Refused
 returns-in-Err-Refused c =
-    let same = c.pass_byte.ensures.stays c.if-pass_byte.false ∙ c.pass_payload.ensures.stays c.if-pass_payload.false in
+    let same = c.pass_payload.ensures.stays c.if-pass_payload.false ∙ c.pass_byte.ensures.stays c.if-pass_byte.false in
     let stood = subst (λ (l : Loader). StandsAt l c.in-Ok.at) same c.in-Ok.ensures.stands in
     let e = c.in-Err-Refused.ensures in
     HasRefused c.in-Err-Refused.fault
