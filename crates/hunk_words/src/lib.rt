@@ -28,7 +28,7 @@ pub use crate::limits::{CONTENT_LIMIT, MOST_HUNKS, NAME_LIMIT};
 pub use crate::long_writer::{LongWriter, WriteFault};
 pub use crate::longword::word_at;
 pub use crate::pending::Pending;
-pub use crate::printer::{PagePrinter, Printer};
+pub use crate::printer::{LINE, PageLine, PagePrinter, Printer};
 pub use crate::reason::Reason;
 pub use crate::sink::{FromWrite, Sink};
 pub use crate::size_word::{Memory, SizeWord};

@@ -1,5 +1,5 @@
 //! A page of fixed size before a writer.
-ghost use Rattle.std.specs.Prelude.{◌≡◌, ℕ, List, ◌+◌, ◌<◌, ◌≤◌, ◌++◌, [], ◌∷◌, length, true, false};
+ghost use Rattle.std.specs.Prelude.{◌≡◌, ℕ, List, ◌+◌, ◌<◌, ◌≤◌, ◌++◌, [], ◌∷◌, length, drop, take, true, false};
 ghost use Rattle.hunk_words.specs.Longs.{bytes_of};
 ghost use Rattle.hunk_words.specs.Prints.{Prints, Sends};
 ghost use Rattle.hunk_words.specs.Carriers.{Writing};
@@ -15,6 +15,21 @@ use std::snapshot::Snapshot;
 
 /// How many bytes the page of a whole text has room for: 80 KiB.
 const PAGE: usize = 81_920;
+
+/// How many bytes a line that is put together on the page has at most.
+pub const LINE: usize = 96;
+
+/// A line of at most `LINE` bytes, or the front of one, which is put together on the page itself:
+/// none of it is copied there afterwards. Contracts see its `text`.
+pub trait PageLine {
+    ghost text: { Self → List ℕ };
+
+    /// Puts the text to the front of the room, and answers how many bytes it has.
+    fn put(&self, room: &mut [u8]) -> usize
+        requires { LINE ≤ length room.old }
+        ensures inside { result ≤ LINE }
+        ensures text { take result room.new ≡ text self.now };
+}
 
 /// A printer with a page of 81,920 bytes, which is a part of the printer itself and so stands on
 /// the stack: few writes for a text of any length, and no memory is taken.
@@ -81,6 +96,7 @@ impl<'a, W: Sink, const ROOM: usize> PagePrinter<'a, W, ROOM> {
 
     /// Prints the bytes. The writer gets none as long as all that was printed has room on the page.
     #[tactic(auto, using(crate::proofs::PrintLaws::holds_more, crate::proofs::PrintLaws::held_most))]
+    #[inline(always)]
     pub fn print(&mut self, bytes: &[u8])
         ensures prints { Prints self.old self.new bytes.now }
         ensures kept { length self.new.text ≤ ROOM → self.new.out ≡ self.old.out }
@@ -89,6 +105,23 @@ impl<'a, W: Sink, const ROOM: usize> PagePrinter<'a, W, ROOM> {
             send_on(self.out, &mut self.held, bytes);
         }
         self.history = self.history.and(bytes);
+    }
+
+    /// Prints the line, which is put together where it is held. What is held is sent on before where
+    /// fewer than `LINE` bytes of the page are left.
+    #[tactic(auto, using(crate::proofs::PrintLaws::holds_more, crate::proofs::PrintLaws::held_most))]
+    #[inline(always)]
+    pub fn print_line<L: PageLine>(&mut self, line: &L)
+        requires { LINE ≤ ROOM }
+        ensures prints { Prints self.old self.new (L.text line.now) }
+        ensures kept { length self.old.text + LINE ≤ ROOM → self.new.out ≡ self.old.out }
+    {
+        if ROOM - self.held.len() < LINE {
+            send_held(self.out, &mut self.held);
+        }
+        let start = self.held.len();
+        self.held.put_line(line);
+        self.history = self.history.and(self.held.after(start));
     }
 
     /// Prints the longword, high byte first, as `print`.
@@ -127,14 +160,24 @@ impl<'a, W: Sink, const ROOM: usize> PagePrinter<'a, W, ROOM> {
     }
 }
 
+/// Puts what is held, so that nothing is.
+#[cold]
+fn send_held<W: Sink, const ROOM: usize>(out: &mut LongWriter<W>, held: &mut Page<ROOM>)
+    ensures sends { (first : Writing W) → (text : List ℕ) →
+        Sends W.outlet first out.old text held.old → Sends W.outlet first out.new text held.new }
+    ensures empty { held.new ≡ [] }
+{
+    let _held = out.put_bytes(&held.bytes[..held.count]);
+    held.count = 0;
+}
+
 /// Puts what is held, and holds the bytes, or puts them too where a page has no room for them.
 #[cold]
 fn send_on<W: Sink, const ROOM: usize>(out: &mut LongWriter<W>, held: &mut Page<ROOM>, bytes: &[u8])
     ensures { (first : Writing W) → (text : List ℕ) → Sends W.outlet first out.old text held.old
         → Sends W.outlet first out.new (text ++ bytes.now) held.new }
 {
-    let _held = out.put_bytes(&held.bytes[..held.count]);
-    held.count = 0;
+    send_held(out, held);
     if !held.append(bytes) {
         let _rest = out.put_bytes(bytes);
     }
@@ -159,7 +202,39 @@ impl<const ROOM: usize> Model for Page<ROOM> {
 }
 
 impl<const ROOM: usize> Page<ROOM> {
+    /// How many bytes stand on it.
+    #[inline(always)]
+    fn len(&self) -> usize
+        ensures count { result ≡ length self.now }
+        ensures bound { result ≤ ROOM }
+    {
+        self.count
+    }
+
+    /// What stands after the first `start` bytes.
+    #[inline(always)]
+    fn after(&self, start: usize) -> &[u8]
+        requires { start ≤ length self.now }
+        ensures { result.now ≡ drop start self.now }
+    {
+        let held = &self.bytes[..self.count];
+        &held[start..]
+    }
+
+    /// Puts the line.
+    #[inline(always)]
+    fn put_line<L: PageLine>(&mut self, line: &L)
+        requires { length self.old + LINE ≤ ROOM }
+        ensures { self.new ≡ self.old ++ L.text line.now }
+    {
+        let end = self.count;
+        let bytes = &mut self.bytes[..];
+        let len = line.put(&mut bytes[end..]);
+        self.count = end + len;
+    }
+
     /// Appends the bytes where they have room, and answers whether they have.
+    #[inline(always)]
     fn append(&mut self, bytes: &[u8]) -> bool
         ensures appends { result ≡ true → self.new ≡ self.old ++ bytes.now }
         ensures full { result ≡ false → ROOM < length self.old + length bytes.now }
