@@ -1,6 +1,7 @@
 pub mod Engine
 pub mod Faults
 pub mod HexText
+pub mod Incoming
 pub mod Inputs
 pub mod Output
 pub mod Refusals

@@ -4,6 +4,7 @@
 
 mod fault;
 mod hex_text;
+mod incoming;
 mod input;
 mod relocating;
 mod rewriting;

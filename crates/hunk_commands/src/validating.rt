@@ -3,6 +3,7 @@ ghost use Rattle.hunk_commands.specs.Engine.{PutsOrRefuses, ReadsThenPuts};
 ghost use Rattle.hunk_commands.specs.Validated.{IsValidated};
 
 use crate::fault::RunFault;
+use crate::incoming::Incoming;
 use crate::input::read_all;
 use hunk_files::FileView;
 use hunk_listing::{print_load_summary, print_object_report};
@@ -12,6 +13,9 @@ use std::alloc::Global;
 /// Reads the input to its end, checks the object file that it is, or the load file that it begins
 /// with, prints what it finds, and answers the number of findings, which is 0 for a load file.
 ///
+/// Of a load file it keeps 12 bytes a hunk, be it read to its end or refused; an object file is held
+/// whole.
+///
 /// # Errors
 ///
 /// The places are in bytes from where the source stood before the call.
@@ -20,7 +24,8 @@ use std::alloc::Global;
 ///   looked for.
 /// - `RefusedIn` with the refusal that `FileView::read` answers for the input.
 /// - `Read` where the source failed, at the number of bytes read.
-/// - `Memory` where memory is refused for the bytes of the input, and never once they are read.
+/// - `Memory` where memory is refused for a hunk's row or for the bytes of an object file, and never
+///   once the input is read.
 /// - `Write` where the writer failed: just the first `written` bytes of all that was ever put, the
 ///   report last, have gone out.
 ///
@@ -35,9 +40,9 @@ pub fn validate<R: Source, W: Sink>(
     ensures { ReadsThenPuts W.outlet IsValidated
         (R.supply r.old) (R.supply r.new) file_bytes w.old w.new result }
 {
-    let mut input = Vec::new(alloc);
+    let mut input = Incoming::new(alloc);
     read_all(r, file_bytes, &mut input)?;
-    validate_bytes(input.as_slice(), w)
+    input.report(w)
 }
 
 /// Checks the object file that the bytes are, or the load file that they begin with, prints what it

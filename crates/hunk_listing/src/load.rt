@@ -2,7 +2,8 @@
 ghost use Rattle.hunk_words.specs.Prints.{Prints};
 ghost use Rattle.hunk_files.specs.LoadHunks.{hunk_seen};
 ghost use Rattle.hunk_files.specs.Tables.{size_entry};
-ghost use Rattle.hunk_listing.specs.FileLines.{hunk_line, hunk_lines, load_head, load_listing, rest_line};
+ghost use Rattle.hunk_listing.specs.FileLines.{hunk_line, hunk_lines, load_head, load_line};
+ghost use Rattle.hunk_listing.specs.FileLines.{load_listing, rest_line};
 
 use crate::block::print_block;
 use crate::line::Line;
@@ -25,11 +26,17 @@ pub fn print_load_file<W: Sink>(page: &mut Printer<'_, W>, file: &LoadView<'_>, 
 }
 
 /// Prints the line of the file: how many hunks it has, and how many bytes they declare.
-#[tactic(auto, unfolding(crate::specs::FileLines::load_line))]
 pub(crate) fn print_load_head<W: Sink>(page: &mut Printer<'_, W>, file: &LoadView<'_>)
     ensures { Prints page.old page.new (load_head file.now) }
 {
-    let (hunks, bytes) = (file.hunks(), file.total());
+    print_load_line(page, file.hunks(), file.total());
+}
+
+/// Prints the line of a file of so many hunks, which declare so many bytes.
+#[tactic(auto, unfolding(crate::specs::FileLines::load_line))]
+pub(crate) fn print_load_line<W: Sink>(page: &mut Printer<'_, W>, hunks: u32, bytes: u64)
+    ensures { Prints page.old page.new (load_line hunks bytes) }
+{
     let mut line = Line::new();
     line.put(b"load file ");
     line.put_decimal(u64::from(hunks));

@@ -3,13 +3,14 @@ ghost use Rattle.std.specs.Prelude.{◌≡◌, ◌≤◌, ◌^◌, ◌++◌, cod
 ghost use Rattle.std.proofs.Common.{◌∙◌, refl};
 ghost use Rattle.hunk_words.specs.Prints.{Prints};
 ghost use Rattle.hunk_files.specs.Findings.{findings};
+ghost use Rattle.hunk_listing.specs.FileLines.{load_line, where_rest};
 ghost use Rattle.hunk_listing.specs.Printed.{hexadecimal};
 ghost use Rattle.hunk_listing.specs.ReportLines.{finding_front, finding_line, finding_name, load_summary};
 ghost use Rattle.hunk_listing.specs.ReportLines.{object_report, totals_line};
 ghost use Rattle.hunk_listing.specs.Reporting.{Reports, reports_none, reports_more};
 
 use crate::line::Line;
-use crate::load::{print_load_head, print_rest};
+use crate::load::{print_load_line, print_rest};
 use hunk_files::{Finding, FindingKind, LoadView, ObjectView, Takes};
 use hunk_words::{Printer, Sink};
 use std::marker::Model;
@@ -18,7 +19,19 @@ use std::marker::Model;
 pub fn print_load_summary<W: Sink>(page: &mut Printer<'_, W>, file: &LoadView<'_>, rest: u64)
     ensures { Prints page.old page.new (load_summary file.now rest) }
 {
-    print_load_head(page, file);
+    print_load_totals(page, file.hunks(), file.total(), rest);
+}
+
+/// Reports a load file of so many hunks, which declare so many bytes, and that `rest` bytes follow.
+pub fn print_load_totals<W: Sink>(
+    page: &mut Printer<'_, W>,
+    hunks: u32,
+    bytes: u64,
+    rest: u64,
+)
+    ensures { Prints page.old page.new (load_line hunks bytes ++ where_rest rest) }
+{
+    print_load_line(page, hunks, bytes);
     if rest > 0 {
         print_rest(page, rest);
     }

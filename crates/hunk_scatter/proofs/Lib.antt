@@ -1,4 +1,5 @@
 pub mod After
+pub mod BodyChecks
 pub mod BodyFeeding
 pub mod BodyFields
 pub mod CompletedLongs
@@ -21,6 +22,7 @@ pub mod HeaderStops
 pub mod HeaderTexts
 pub mod Joining
 pub mod LeastLaws
+pub mod LoadCheckLaws
 pub mod LoadEnding
 pub mod LoadLaws
 pub mod Offsets

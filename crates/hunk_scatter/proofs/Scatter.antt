@@ -34,7 +34,7 @@ nothing_added bases o x w e d = search (rules, step_has)
 
 -- ---- a segment in which four bytes are replaced
 
-length-images : (bases : List ℕ) (hs : List HunkValue) → AllByRecursion (HasSizedImage bases) hs → length (images bases hs) ≡ before hs
+pub length-images : (bases : List ℕ) (hs : List HunkValue) → AllByRecursion (HasSizedImage bases) hs → length (images bases hs) ≡ before hs
 length-images bases [] h = refl
 length-images bases (x ∷ hs) h = grind (arith, common_steps, length-images bases hs h.1)
 

@@ -6,6 +6,7 @@ use Rattle.hunk_words.specs.{declared.reason.Reason.Reason, Longs.{bytes_of, lon
 use Rattle.hunk_files.specs.{Fault.HasRefusal, declared.row.Row.Row}
 use Rattle.hunk_grammar.specs.{Positions.{is_done, run}, declared.position.Position.Position}
 use Rattle.hunk_scatter.specs.{declared.store.BodyState.BodyState, BodyLoaderFields.{ReadsOn, ReadyAt, RefusesFirstLong, StandsAfter, TakesOrRefuses}}
+use Rattle.hunk_scatter.specs.Checking.{IsReadTo}
 use Rattle.hunk_scatter.specs.{StoreContent.{stored_long, stored_run}, BodySteps.{refusal, step_body, pass_body, IsInStore}, Rows.{words_of, bases_of}}
 use Rattle.hunk_scatter.proofs.{Faults.refusal_front, OneByte.{Going, going, more_read, refused_here, stands_as}}
 use Rattle.hunk_scatter.proofs.{Refusing.refused_in_body, Runs.{read_run, take_bytes}, WithinStore.{stays_as, word_stays}}
@@ -91,6 +92,10 @@ module _ (rows : List Row) (store : List ℕ) (state : BodyState) (pending fed b
 
   pub gathered_reads : (store2 : List ℕ) (state2 : BodyState) → ReadsOn rows store state four store2 state2 → StandsAfter rows store2 state2 [] (fed ++ bytes)
   gathered_reads store2 state2 reads = subst (λ (bs : List ℕ). StandsAfter rows store2 state2 [] bs) spells (reads (bytes_of r.ws) front_stands)
+
+  -- with whatever store
+  pub gathered_checked : (state2 : BodyState) → ((front : List ℕ) → IsReadTo rows state front → IsReadTo rows state2 (front ++ four)) → IsReadTo rows state2 (fed ++ bytes)
+  gathered_checked state2 reads = subst (λ (bs : List ℕ). IsReadTo rows state2 bs) spells (reads front (store, front_stands))
 
   pub gathered_refused : (reason : Reason) → RefusesFirstLong rows store state four reason → HasRefusal (fed ++ bytes) (4 * (length fed / 4)) reason
   gathered_refused reason refuses = search (rules, length-append, spells, front_stands)

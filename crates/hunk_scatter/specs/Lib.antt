@@ -2,11 +2,13 @@ pub mod BodyLoaderFields
 pub mod BodyFeeds
 pub mod BodyReader
 pub mod BodySteps
+pub mod Checking
 pub mod HeaderBytes
 pub mod HeaderFaults
 pub mod HeaderLoaderFields
 pub mod HeaderOwing
 pub mod HeaderSizes
+pub mod LoadChecks
 pub mod LoadOutcomes
 pub mod LoadRefusals
 pub mod LoaderReasons

@@ -31,7 +31,7 @@ pub struct BodyState {
 
 /// The number of longwords that the table declares for a hunk.
 #[inline(always)]
-fn longs_of(rows: &[Row], hunk: u32) -> u32
+pub(crate) fn longs_of(rows: &[Row], hunk: u32) -> u32
     requires { hunk < length rows.now }
     ensures value { result ≡ longs_at (words_of rows.now) hunk }
     ensures bound { result < content_limit }

@@ -1,0 +1,142 @@
+//! An input that is judged as it comes: a load file is checked and not kept, an object file is kept
+//! whole.
+ghost use Rattle.std.specs.Prelude.{◌≡◌, ◌<◌, ◌++◌, [], IfOk, length};
+ghost use Rattle.hunk_scatter.specs.LoadChecks.{counted_bytes};
+ghost use Rattle.hunk_commands.specs.Engine.{PutsOrRefuses};
+ghost use Rattle.hunk_commands.specs.Incoming.{AnnouncesLoad, Holds};
+ghost use Rattle.hunk_commands.specs.Validated.{IsValidated};
+
+use crate::fault::RunFault;
+use crate::input::Taker;
+use crate::validating::validate_bytes;
+use arrayvec::ArrayVec;
+use hunk_files::sniff;
+use hunk_grammar::Sniff;
+use hunk_listing::print_load_totals;
+use hunk_scatter::LoadCheck;
+use hunk_words::{LongWriter, Printer, Sink};
+use std::alloc::{AllocError, Global};
+use std::marker::Model;
+use std::mem;
+
+/// What is kept of an input, by what its first longword announces.
+#[derive(Drop)]
+enum Kept {
+    /// All of it, fewer bytes than the longword has.
+    Front(ArrayVec<u8, 4>),
+    /// Where the check of a load file stands.
+    Load(LoadCheck),
+    /// All of an object file.
+    Object(Vec<u8>),
+}
+
+/// The input as far as it has come. Contracts see its bytes.
+#[derive(Drop)]
+pub(crate) struct Incoming {
+    alloc: Global,
+    kept: Kept,
+}
+
+impl Model for Incoming {
+    ghost use Rattle.std.specs.Prelude.{ℕ, List};
+    ghost use Rattle.hunk_commands.specs.Incoming.{IsKept, kept_bytes};
+
+    ghost Value = { List ℕ };
+
+    ghost view = { λ s. kept_bytes s.kept };
+
+    ghost invariant = { λ s. IsKept s.kept };
+}
+
+/// What is kept of the front and the piece, where the front has announced nothing.
+fn keep_first(alloc: Global, front: &[u8], piece: &[u8]) -> Result<Kept, AllocError>
+    requires few { length front.now < 4 }
+    ensures { IfOk result (λ kept. Holds kept (front.now ++ piece.now)) }
+{
+    let mut first: ArrayVec<u8, 4> = ArrayVec::new();
+    let _ = first.try_extend_from_slice(front);
+    let room = first.remaining_capacity();
+    let _ = first.try_extend_from_slice(&piece[..piece.len().min(room)]);
+    if !first.is_full() {
+        return Ok(Kept::Front(first));
+    }
+    if sniff(first.as_slice()) == Sniff::Object {
+        let mut bytes = Vec::new(alloc);
+        bytes.extend_from_slice(front)?;
+        bytes.extend_from_slice(piece)?;
+        return Ok(Kept::Object(bytes));
+    }
+    let check = LoadCheck::new(alloc).feed(front)?;
+    Ok(Kept::Load(check.feed(piece)?))
+}
+
+impl Incoming {
+    /// An input of which nothing has come.
+    pub(crate) fn new(alloc: Global) -> Incoming
+        ensures { result ≡ [] }
+    {
+        Incoming {
+            alloc,
+            kept: Kept::Front(ArrayVec::new()),
+        }
+    }
+
+    /// The input with the piece after it.
+    fn and(self, piece: &[u8]) -> Result<Incoming, AllocError>
+        ensures { IfOk result (λ input. input ≡ self ++ piece.now) }
+    {
+        let Incoming { alloc, kept } = self;
+        let kept = match kept {
+            Kept::Front(front) => keep_first(alloc, front.as_slice(), piece)?,
+            Kept::Load(check) => Kept::Load(check.feed(piece)?),
+            Kept::Object(bytes) => {
+                let mut bytes = bytes;
+                bytes.extend_from_slice(piece)?;
+                Kept::Object(bytes)
+            }
+        };
+        Ok(Incoming { alloc, kept })
+    }
+
+    /// Reports the whole input, as `validate_bytes` does its bytes.
+    pub(crate) fn report<W: Sink>(self, w: &mut LongWriter<W>) -> Result<u64, RunFault>
+        requires few { length self < counted_bytes }
+        ensures { PutsOrRefuses W.outlet (λ count. IsValidated count self) self
+            w.old w.new result }
+    {
+        let Incoming { alloc: _, kept } = self;
+        match kept {
+            Kept::Front(bytes) => validate_bytes(bytes.as_slice(), w),
+            Kept::Load(check) => report_load(check, w),
+            Kept::Object(bytes) => validate_bytes(bytes.as_slice(), w),
+        }
+    }
+}
+
+impl Taker for Incoming {
+    ghost took = { λ s. s };
+
+    fn take(&mut self, piece: &[u8]) -> Result<(), AllocError> {
+        let none = Incoming::new(self.alloc);
+        *self = mem::replace(self, none).and(piece)?;
+        Ok(())
+    }
+}
+
+/// Reports the load file that was checked, and answers that nothing is found in it.
+fn report_load<W: Sink>(check: LoadCheck, w: &mut LongWriter<W>) -> Result<u64, RunFault>
+    requires few { length check < counted_bytes }
+    requires announced { AnnouncesLoad check }
+    ensures { PutsOrRefuses W.outlet (λ count. IsValidated count check) check w.old w.new result }
+{
+    let summary = match check.finish() {
+        Ok(summary) => summary,
+        Err(refusal) => return Err(RunFault::RefusedIn(refusal)),
+    };
+    let mut page = Printer::new(w);
+    print_load_totals(&mut page, summary.hunks, summary.bytes, summary.rest);
+    let printed = page.flush();
+    let _out = page.into_inner();
+    printed?;
+    Ok(0)
+}

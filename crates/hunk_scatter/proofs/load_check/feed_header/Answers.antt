@@ -1,0 +1,25 @@
+use Rattle.std.proofs.Common.{◌≡◌, ◌∙◌, ◌++◌, ◌-◌, ℕ, List, length, take, drop, refl, ap, subst, append_assoc, take-append-drop}
+use Rattle.std.proofs.lemmas.List.{take_rest}
+use Rattle.hunk_scatter.specs.{HeaderFaults.IsHeaderFault, LoadChecks.IsStageAfter}
+use Rattle.hunk_scatter.proofs.LoadCheckLaws.{header_refused}
+use Rattle.hunk_scatter.proofs.load_check.feed_header.Goals as goal
+
+pub returns-in_default : goal.returns-in_default
+returns-in_default c = λ few.
+    header_refused _ c.in-Err.fault (subst (λ (b : ℕ). IsHeaderFault b (c.args.loader.fed ++ c.args.piece.now) c.in-Err.fault) c.requires.budget (c.in-Err.ensures.refusal c.requires.reading))
+    c.in_default.not-OutOfMemory c.in-Err.ensures.own_reasons (c.in-Err.ensures.in_header c.requires.reading)
+
+pub feed-requires-in-Ok-declared : goal.feed-requires-in-Ok-declared
+feed-requires-in-Ok-declared c = (_, c.of.ensures _ refl)
+
+pub returns-in-Ok-declared : goal.returns-in-Ok-declared
+returns-in-Ok-declared c =
+    let piece = c.args.piece.now in
+    let n = c.in-Ok.taken in
+    let h = c.feed-in-Ok-declared.ensures c.feed.new.self.fed (c.of.ensures c.feed.new.self.fed c.in-Ok-declared.ensures.table.1) in
+    let whole : c.feed.new.self.fed ++ take (length piece - n) (drop n piece) ≡ c.args.loader.fed ++ piece =
+    ap (λ (xs : List ℕ). xs ++ take (length piece - n) (drop n piece)) c.in-Ok.ensures.taken.1
+    ∙ ap (λ (xs : List ℕ). (c.args.loader.fed ++ take n piece) ++ xs) (take_rest piece n)
+    ∙ append_assoc c.args.loader.fed (take n piece) (drop n piece)
+    ∙ ap (λ (xs : List ℕ). c.args.loader.fed ++ xs) (take-append-drop n piece) in
+    subst (λ (bs : List ℕ). IsStageAfter c.feed-in-Ok-declared.result bs) whole h
