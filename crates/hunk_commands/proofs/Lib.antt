@@ -4,4 +4,5 @@ mod FileLaws
 mod HexJoin
 mod HexPieces
 pub mod RelocateLaws
+mod IncomingLaws
 mod RewriteLaws

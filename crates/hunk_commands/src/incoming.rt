@@ -4,17 +4,18 @@ ghost use Rattle.std.specs.Prelude.{◌≡◌, ◌<◌, ◌++◌, [], IfOk, leng
 ghost use Rattle.hunk_scatter.specs.LoadChecks.{counted_bytes};
 ghost use Rattle.hunk_commands.specs.Engine.{PutsOrRefuses};
 ghost use Rattle.hunk_commands.specs.Incoming.{AnnouncesLoad, Holds};
+ghost use Rattle.hunk_commands.specs.Inputs.{ReadsAtMost, ReadsWhole};
 ghost use Rattle.hunk_commands.specs.Validated.{IsValidated};
 
 use crate::fault::RunFault;
-use crate::input::Taker;
+use crate::input::{Taker, read_all};
 use crate::validating::validate_bytes;
 use arrayvec::ArrayVec;
 use hunk_files::sniff;
 use hunk_grammar::Sniff;
 use hunk_listing::print_load_totals;
 use hunk_scatter::LoadCheck;
-use hunk_words::{LongWriter, Printer, Sink};
+use hunk_words::{LongWriter, Printer, Sink, Source};
 use std::alloc::{AllocError, Global};
 use std::marker::Model;
 use std::mem;
@@ -60,7 +61,7 @@ fn keep_first(alloc: Global, front: &[u8], piece: &[u8]) -> Result<Kept, AllocEr
     if !first.is_full() {
         return Ok(Kept::Front(first));
     }
-    if sniff(first.as_slice()) == Sniff::Object {
+    if let Sniff::Object = sniff(first.as_slice()) {
         let mut bytes = Vec::new(alloc);
         bytes.extend_from_slice(front)?;
         bytes.extend_from_slice(piece)?;
@@ -78,6 +79,28 @@ impl Incoming {
         Incoming {
             alloc,
             kept: Kept::Front(ArrayVec::new()),
+        }
+    }
+
+    /// All that the source has left, which are fewer than `most` bytes.
+    ///
+    /// # Errors
+    ///
+    /// As `read_all`. `Memory` where memory is refused for a hunk's row, or for the bytes of an
+    /// object file.
+    pub(crate) fn read<S: Source>(
+        alloc: Global,
+        source: &mut S,
+        most: u64,
+    ) -> Result<Incoming, RunFault>
+        ensures reads { IfOk result
+            (ReadsWhole (S.supply source.old) (S.supply source.new) most) }
+        ensures reads_at_most { ReadsAtMost (S.supply source.old) (S.supply source.new) most result }
+    {
+        let mut input = Incoming::new(alloc);
+        match read_all(source, most, &mut input) {
+            Ok(()) => Ok(input),
+            Err(fault) => Err(fault),
         }
     }
 

@@ -4,7 +4,6 @@ ghost use Rattle.hunk_commands.specs.Validated.{IsValidated};
 
 use crate::fault::RunFault;
 use crate::incoming::Incoming;
-use crate::input::read_all;
 use hunk_files::FileView;
 use hunk_listing::{print_load_summary, print_object_report};
 use hunk_words::{LongWriter, Printer, Sink, Source};
@@ -40,8 +39,7 @@ pub fn validate<R: Source, W: Sink>(
     ensures { ReadsThenPuts W.outlet IsValidated
         (R.supply r.old) (R.supply r.new) file_bytes w.old w.new result }
 {
-    let mut input = Incoming::new(alloc);
-    read_all(r, file_bytes, &mut input)?;
+    let input = Incoming::read(alloc, r, file_bytes)?;
     input.report(w)
 }
 

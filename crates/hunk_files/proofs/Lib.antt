@@ -8,4 +8,4 @@ pub mod cuts
 pub mod image
 pub mod walk
 mod Examples
-mod FileKinds
+pub mod FileKinds

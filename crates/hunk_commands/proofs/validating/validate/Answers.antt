@@ -1,9 +1,10 @@
+use Rattle.std.proofs.Common.{refl}
 use Rattle.hunk_commands.proofs.Engines.{reads_then_puts}
 use Rattle.hunk_commands.specs.Validated.{IsValidated}
 use Rattle.hunk_commands.proofs.validating.validate.Goals as goal
 
 pub returns : goal.returns
 returns g c =
-    reads_then_puts g.W.Sink.outlet IsValidated (g.R.Source.supply c.args.r.now) (g.R.Source.supply c.read_all.new.source) c.args.file_bytes c.args.w.now c.validate_bytes.new.w
-    c.read_all.new.taker.items c.as_slice.result.now c.validate_bytes.result c.in_ok-read_all.ensures.reads c.as_slice.ensures.value
-    c.in_ok-read_all.ensures.reads_at_most.sound c.in_ok-read_all.ensures.reads_at_most.limit c.validate_bytes.ensures
+    reads_then_puts g.W.Sink.outlet IsValidated (g.R.Source.supply c.args.r.now) (g.R.Source.supply c.read.new.source) c.args.file_bytes c.args.w.now c.report.new.w
+    c.in_ok-input.input c.in_ok-input.input c.report.result c.in_ok-input.ensures.reads refl
+    c.in_ok-input.ensures.reads_at_most.sound c.in_ok-input.ensures.reads_at_most.limit c.report.ensures
