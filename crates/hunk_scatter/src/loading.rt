@@ -153,11 +153,7 @@ fn feed_pulled<R: Source>(
 /// up to the limit, or to the end of the file. Where a longword is refused, all up to the limit is
 /// taken.
 #[inline(always)]
-fn feed_held<R: Source>(
-    r: &mut R,
-    loader: &mut BodyLoader,
-    limit: u64,
-) -> Result<(), LoadFault>
+fn feed_held<R: Source>(r: &mut R, loader: &mut BodyLoader, limit: u64) -> Result<(), LoadFault>
     requires reading { loader.old.refused ≡ None }
     requires below_limit { length loader.old.fed < limit }
     requires some { 0 < length (R.shown r.old) }

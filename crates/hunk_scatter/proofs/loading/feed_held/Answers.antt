@@ -20,7 +20,7 @@ returns-in-Err-clause-feeds g c =
     let held : List ℕ = c.held-held.result.now in
     let size : length (take c.min-most.result held) ≡ c.min-most.result = length-take-le c.min-most.result held (omega (arith, c.min-most.ensures)) in
     let room : length (c.args.loader.now.fed ++ take c.min-most.result held) ≤ c.args.limit =
-        omega (arith, size, length-append c.args.loader.now.fed (take c.min-most.result held), c.fed.ensures, c.min-most.ensures, c.requires.below_limit, c.ranges.limit.fits) in
+    omega (arith, size, length-append c.args.loader.now.fed (take c.min-most.result held), c.fed.ensures, c.min-most.ensures, c.requires.below_limit, c.ranges.limit.fits) in
     refused _ _ _ c.args.loader.now c.feed.new.self (take c.min-most.result held) c.in-Err.fault
     (subst (λ (bs : List ℕ). Consumes (g.R.Source.supply c.args.r.now).left (g.R.Source.supply c.consume.new.self).left (take c.min-most.result bs)) (sym c.held-held.ensures) c.consume.ensures.bytes) room c.ranges.limit.fits
     c.in-Err.ensures.rows (c.in-Err.ensures.refusal c.requires.reading) c.in-Err.ensures.own_reasons (c.in-Err.ensures.accepts c.requires.reading)
