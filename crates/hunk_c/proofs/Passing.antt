@@ -80,7 +80,7 @@ room_for rows total l (phases.Offset target owed) lies h = omega (arith, h.may_s
 room_for rows total l _ lies h = tt
 
 -- At a phase of the open hunk the numbers fit the rows and the memory.
-fits_open : (rows : List Row) (total : ℕ) (l : Loader) (phase : Phase) → LiesIn rows total l → l.pending < 4 → MayHavePosition l (positions.Body (open_hunk l) phase) →
+pub fits_open : (rows : List Row) (total : ℕ) (l : Loader) (phase : Phase) → LiesIn rows total l → l.pending < 4 → MayHavePosition l (positions.Body (open_hunk l) phase) →
     FitsStore rows total (standing_in l (positions.Body (open_hunk l) phase))
 fits_open rows total l phase lies few h =
     let many = length-map rows (λ (r : Row). r.word) in

@@ -15,7 +15,7 @@ ghost use Rattle.hunk_c.specs.Streams.{PassesOver};
 use crate::answer::{Answer, refused, strange};
 use crate::phases::{CONTENT, OFFSET, PAYLOAD, WHOLE, numbers_of, phase_in};
 use hunk_files::Row;
-use hunk_grammar::{OpenHunk, Phase, Position};
+use hunk_grammar::{OpenHunk, Position};
 use hunk_scatter::stream::{BodyState, Pending, Standing};
 use hunk_words::{CONTENT_LIMIT, Fault, MOST_HUNKS, NAME_LIMIT, Reason};
 
@@ -131,6 +131,7 @@ impl Loader {
     ///
     /// What each call answers to it: the refusal again, where it has refused a longword; `STRANGE`
     /// where no loader has these numbers.
+    #[inline(always)]
     pub(crate) fn standing(&self) -> Result<Standing, Answer>
         ensures stands { IfOk result (StandsAt self.now) }
         ensures tells { IfErr result (TellsAgain self.now) }
@@ -164,12 +165,10 @@ impl Loader {
         if longs == 0 || longs > self.owed as usize {
             return false;
         }
-        if !self.is_clean() || !self.counts_bytes() || !self.may_be_open() {
+        if !self.is_clean() || !self.counts_bytes() {
             return false;
         }
-        let phase = Phase::Payload { owed: self.owed };
-        let position = Position::Body(self.open_hunk(), phase);
-        if !self.standing_at(position).fits(rows, total) {
+        if !self.may_be_open() || !self.lies_in(rows, total) {
             return false;
         }
         self.fed = self.fed.saturating_add(piece.len() as u64);
