@@ -1,6 +1,7 @@
 pub mod AnsweredNumbers
 pub mod Filling
-pub mod Loaded
+pub mod LoadRows
+mod Loaded
 pub mod MayStand
 pub mod Numbers
 pub mod OneFile

@@ -8,7 +8,7 @@ ghost use Rattle.hunk_c.specs.Entries.{block_rows, entries_in, entry_row};
 
 use crate::answer::Answer;
 use crate::name::text_length;
-use crate::rows::{InBlock, tabulate};
+use crate::rows::{InBlock, tabulate_object};
 use hunk_blocks::{BlockView, BodyView, EntriesIter, Entry};
 use hunk_files::Takes;
 use hunk_words::NAME_LIMIT;
@@ -34,7 +34,7 @@ pub extern "C" fn hunk_entries(bytes: &[u8], rows: &mut [EntryRow]) -> Answer
     ensures outcome { Tabulates entries_in bytes.now rows.old rows.new result }
     ensures succeeds { ListsWhatFits entries_in (length rows.old) bytes.now result }
 {
-    tabulate(bytes, rows)
+    tabulate_object(bytes, rows)
 }
 
 impl InBlock for EntryRow {

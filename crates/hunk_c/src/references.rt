@@ -9,7 +9,7 @@ ghost use Rattle.hunk_c.specs.References.{reference_row, references_in};
 ghost use Rattle.hunk_c.specs.Rows.{ListsWhatFits, Tabulates};
 
 use crate::answer::Answer;
-use crate::rows::{FileRow, tabulate};
+use crate::rows::{FileRow, tabulate_object};
 use hunk_blocks::{BlockView, BodyView, EntriesIter, Longs};
 use hunk_files::{FileView, Item, Takes, reference_width};
 
@@ -30,7 +30,7 @@ pub extern "C" fn hunk_references(bytes: &[u8], rows: &mut [ReferenceRow]) -> An
     ensures outcome { Tabulates references_in bytes.now rows.old rows.new result }
     ensures succeeds { ListsWhatFits references_in (length rows.old) bytes.now result }
 {
-    tabulate(bytes, rows)
+    tabulate_object(bytes, rows)
 }
 
 impl FileRow for ReferenceRow {

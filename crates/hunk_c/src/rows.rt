@@ -1,11 +1,13 @@
 //! Rows of what stands in a file, which the caller has room for.
-ghost use Rattle.std.specs.Prelude.{◌≡◌, ◌<◌, ◌^◌, List, length};
+ghost use Rattle.std.specs.Prelude.{◌≡◌, ◌<◌, ◌^◌, ℕ, List, [], length};
 ghost use Rattle.std.proofs.Common.{◌∙◌, refl};
 ghost use Rattle.hunk_words.specs.Carriers.{saturated};
 ghost use Rattle.hunk_files.specs.FileView.{file_of};
 ghost use Rattle.hunk_files.specs.HunkFile.{IsFileOf};
+ghost use Rattle.hunk_files.specs.LoadFile.{IsLoadFile, LoadFileValue};
 ghost use Rattle.hunk_files.specs.StandingBlocks.{StandingBlock};
 ghost use Rattle.hunk_files.specs.declared.hunk_file.HunkFile.{HunkFile};
+ghost use Rattle.hunk_files.specs.declared.hunk_file.HunkFile.TheVariants as files;
 ghost use Rattle.hunk_c.specs.Counting.{Counts, counts_none, counts_more};
 ghost use Rattle.hunk_c.specs.Rows.{ListsWhatFits, Tabulates, rows_in};
 ghost use Rattle.hunk_c.specs.Filling.{Fills, fills_none, fills_more};
@@ -107,6 +109,36 @@ pub(crate) fn tabulate<R: FileRow>(bytes: &[u8], rows: &mut [R]) -> Answer
     match FileView::read(bytes) {
         Ok(file) => write_rows(bytes, &file, count_rows::<R>(&file), rows),
         Err(refusal) => refused(refusal.fault),
+    }
+}
+
+/// The same for rows of which a load file has none: its blocks are not looked at again.
+///
+/// # Errors
+///
+/// The first fault of the bytes; `NO_ROOM` where the caller has too few rows.
+pub(crate) fn tabulate_object<R: FileRow>(bytes: &[u8], rows: &mut [R]) -> Answer
+    requires small { length rows.old < 2 ^ 63 }
+    requires none { (value : LoadFileValue) (rest : ℕ) → IsLoadFile value
+        → R.rows (files.Load value rest) ≡ [] }
+    ensures outcome { Tabulates R.rows bytes.now rows.old rows.new result }
+    ensures succeeds { ListsWhatFits R.rows (length rows.old) bytes.now result }
+{
+    match FileView::read(bytes) {
+        Ok(file) => write_rows(bytes, &file, count_in_object::<R>(&file), rows),
+        Err(refusal) => refused(refusal.fault),
+    }
+}
+
+/// How many rows an object file has, up to 2 ^ 64 - 1; a load file has none.
+fn count_in_object<R: FileRow>(file: &FileView<'_>) -> u64
+    requires { (value : LoadFileValue) (rest : ℕ) → file_of file.now ≡ files.Load value rest
+        → R.rows (files.Load value rest) ≡ [] }
+    ensures { result ≡ saturated (length (R.rows (file_of file.now))) }
+{
+    match file {
+        FileView::Load { .. } => 0,
+        FileView::Object(_) => count_rows::<R>(file),
     }
 }
 
