@@ -1,5 +1,5 @@
 -- An input that is judged as it comes.
-use Rattle.std.proofs.Common.{◌≡◌, ◌≢◌, ◌∙◌, ◌≤◌, ◌+◌, ℕ, List, [], ◌∷◌, ◌++◌, length, true≢false, Result, Ok, Err, inl, inr, refl, ap, ap₂, sym, arith, length-append}
+use Rattle.std.proofs.Common.{◌≡◌, ◌∙◌, ◌≤◌, ℕ, List, [], ◌∷◌, ◌++◌, length, true≢false, Result, Ok, Err, inl, refl, ap, ap₂, sym, arith, length-append}
 use Rattle.std.specs.Prelude.{IsOk, IsTrue, OnOk}
 use Rattle.hunk_words.specs.Longs.{longs}
 use Rattle.hunk_grammar.specs.{FileKind.sniffed, declared.file_kind.Sniff.Sniff}

@@ -1,14 +1,14 @@
 -- What the check of a body takes of a piece, whatever store it would have made.
 use Rattle.std.proofs.Common.{◌≡◌, ℕ, ◌+◌, ◌*◌, ◌^◌, ◌/◌, ◌%◌, ◌<◌, ◌≤◌, false, List, [], ◌∷◌, ◌++◌, length, take, get_or, None, Some, Result, Ok, Err, refl, sym, ap, subst, ◌∙◌, arith, length-append, length-take}
 use Rattle.std.proofs.lemmas.List.{length-map, length-replicate}
-use Rattle.hunk_words.specs.{Carriers.saturated, Longs.{bytes_of, longs, IsBytes, IsLong}, PendingBytes.pending_of}
+use Rattle.hunk_words.specs.{Longs.{bytes_of, longs, IsBytes, IsLong}, PendingBytes.pending_of}
 use Rattle.hunk_words.specs.{declared.pending.Pending.Pending, declared.reason.Reason.Reason}
 use Rattle.hunk_blocks.specs.BlockSteps.{BlockNext}
 use Rattle.hunk_words.proofs.LongLaws.{length-bytes_of}
-use Rattle.hunk_files.specs.{Fault.HasRefusal, FileSteps.{HunkSoFar, Next, More, Finished, AtBlock, InBody}, Image.{declared_bytes, images}, LoadFile.{HunkValue, TableEntry}}
+use Rattle.hunk_files.specs.{Fault.HasRefusal, FileSteps.{HunkSoFar, Next, More, Finished, AtBlock, InBody}, Image.{declared_bytes, images}, LoadFile.{TableEntry}}
 use Rattle.hunk_files.specs.{LoadText.table, OpenSegment.segment_so_far, ReaderPosition.{open_table, table_of}, Tables.row_entry, declared.row.Row.Row}
 use Rattle.hunk_grammar.specs.{Positions.{is_done, run}, declared.position.Position.Position}
-use Rattle.hunk_scatter.specs.{BodyLoaderFields.{IsFed, StandsAfter}, BodySteps.{longs_at, refusal, step_body, pass_body, IsInStore}}
+use Rattle.hunk_scatter.specs.{BodyLoaderFields.{StandsAfter}, BodySteps.{longs_at, refusal, step_body, pass_body, IsInStore}}
 use Rattle.hunk_scatter.specs.Checking.{ChecksFront, ChecksPart, IsCheckedAfter, IsCheckedTo, IsOpenIn, IsReadTo, IsReadyTo, PassesOffsets}
 use Rattle.hunk_scatter.specs.{Rows.{entries_of, words_of, bases_of}, StoreContent.{Holds, StoreHolds, stored_long, stored_run, zeros}}
 use Rattle.hunk_scatter.specs.{declared.store.BodyState.BodyState, declared.stream.Standing.Standing}

@@ -1,6 +1,5 @@
 -- The check of a load file that comes by pieces.
-use Rattle.std.proofs.Common.{rules, ◌≡◌, ℕ, ◌+◌, ◌-◌, ◌*◌, ◌/◌, ◌^◌, ◌<◌, ◌≤◌, Bool, true, false, List, [], ◌∷◌, ◌++◌, length, take, drop, ltb, min, true≢false, refl, sym, ap, subst, ◌∙◌, append_assoc, arith, inl, inr, length-append, length-drop, length-take, take-append-drop}
-use Rattle.std.proofs.lemmas.Grind.{common_steps}
+use Rattle.std.proofs.Common.{rules, ◌≡◌, ℕ, ◌+◌, ◌-◌, ◌*◌, ◌/◌, ◌^◌, ◌<◌, ◌≤◌, Bool, true, false, List, [], ◌∷◌, ◌++◌, length, take, drop, ltb, min, true≢false, refl, sym, ap, subst, ◌∙◌, append_assoc, arith, inr, length-append, length-drop, take-append-drop}
 use Rattle.std.proofs.lemmas.Bool.{ltb-false, ltb-true}
 use Rattle.std.proofs.lemmas.List.{length-map, take-append-le, take_all}
 use Rattle.std.specs.Prelude.{IsTrue}
@@ -9,11 +8,11 @@ use Rattle.hunk_words.specs.declared.reason.Reason.TheVariants as reasons
 use Rattle.hunk_words.proofs.LongLaws.{length-bytes_of}
 use Rattle.hunk_grammar.specs.Positions.{is_after_header, is_done}
 use Rattle.hunk_grammar.specs.declared.file_kind.Sniff.TheVariants as sniffs
-use Rattle.hunk_files.specs.{Fault.{BeginsWithLoadFile, HasFault, HasRefusal, IsTruncated, is_load_refusal}, FileParts.IsPartAt, Image.declared_bytes, LoadFile.{HunkValue, TableEntry}, LoadText.{table, text}}
+use Rattle.hunk_files.specs.{Fault.{BeginsWithLoadFile, HasFault, HasRefusal, IsTruncated, is_load_refusal}, FileParts.IsPartAt, Image.declared_bytes, LoadFile.{HunkValue}, LoadText.{text}}
 use Rattle.hunk_files.specs.{Tables.row_entry, declared.part.Part.Part, declared.refusal.Refusal.Refusal, declared.row.Row.Row}
 use Rattle.hunk_files.specs.declared.part.Part.TheVariants as parts
 use Rattle.hunk_files.proofs.walk.Scan.{no_fault}
-use Rattle.hunk_scatter.specs.{Checking.{ChecksOn, IsCheckedTo}, HeaderBytes.{IsHeader, header_words}, HeaderFaults.{IsHeaderFault, IsHeaderFaultBy}, HeaderLoaderFields.HeaderReading}
+use Rattle.hunk_scatter.specs.{Checking.{IsCheckedTo}, HeaderBytes.{IsHeader, header_words}, HeaderFaults.{IsHeaderFault, IsHeaderFaultBy}, HeaderLoaderFields.HeaderReading}
 use Rattle.hunk_scatter.specs.{LoadChecks.{IsSummary, IsRefusedLoad, no_budget}, LoaderReasons.{is_of_body, is_of_header}, LoaderValues.{IsHunkRefusal, IsWholeFile}, Rows.entries_of}
 use Rattle.hunk_scatter.specs.{declared.header_state.HeaderState.HeaderState, declared.load_check.LoadSummary.LoadSummary, declared.stream.Standing.Standing}
 use Rattle.hunk_scatter.proofs.{BodyFields.{fed_truncated, whole_file}, Faults.{longs-more, refusal_more, refusal_told, told_at}, HeaderFields.{heading_table, heading_truncated}}

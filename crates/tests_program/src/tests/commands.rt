@@ -12,4 +12,5 @@ mod pages;
 mod reading;
 mod relocating;
 mod samples;
+mod validating;
 mod writing;

@@ -1,7 +1,6 @@
-use Rattle.std.proofs.{Common.{◌≡◌, ◌≤◌, ◌*◌, ◌∙◌, length, take, length-take, refl, ap, sym, arith}, Math.ListN.get_or-map}
+use Rattle.std.proofs.{Common.{◌≡◌, ◌∙◌, length, take, length-take, refl, ap, sym, arith}}
 use Rattle.hunk_words.specs.Longs.{longs}
 use Rattle.hunk_words.proofs.LongLaws.{length-longs}
-use Rattle.hunk_files.specs.declared.row.Row.{Row}
 use Rattle.hunk_grammar.specs.declared.phase.Phase.{Phase}
 use Rattle.hunk_grammar.specs.declared.position.Position.TheVariants as positions
 use Rattle.hunk_scatter.specs.{Rows.{words_of, bases_of}, StoreContent.added_at_each}

@@ -1,4 +1,4 @@
-use Rattle.std.proofs.Common.{rules, ℕ, ◌+◌, ap, sym, arith, ◌∙◌}
+use Rattle.std.proofs.Common.{rules, ℕ, ap, sym, arith, ◌∙◌}
 use Rattle.hunk_grammar.specs.{Positions.role_at, Roles.refuse}
 use Rattle.hunk_scatter.proofs.BodyChecks.{start_fits, word_passes, word_stops}
 use Rattle.hunk_scatter.proofs.body_check.check_word.Goals as goal

@@ -1,4 +1,4 @@
-use Rattle.std.proofs.Common.{◌++◌, ℕ, List, length, subst}
+use Rattle.std.proofs.Common.{◌++◌, ℕ, List, subst}
 use Rattle.hunk_scatter.specs.{LoadChecks.IsStageAfter, declared.load_check.Stage.Stage}
 use Rattle.hunk_scatter.proofs.LoadCheckLaws.{refused_more, summary_more, few_before}
 use Rattle.hunk_scatter.proofs.load_check.LoadCheck.feed.Goals.{in-Header+in_ok-stage-in-Header, in-Body, in-Whole, in-Refused}

@@ -1,4 +1,4 @@
-use Rattle.std.proofs.Common.{◌≡◌, ◌∙◌, ◌<◌, ℕ, List, length, None, ap, inl, sym, subst, arith}
+use Rattle.std.proofs.Common.{◌≡◌, ◌∙◌, ◌<◌, ℕ, List, length, ap, inl, subst}
 use Rattle.hunk_scatter.specs.{HeaderBytes.IsHeader, LoadChecks.{IsBodyAfter, IsRefusedLoad, IsStageAfter, IsSummary, counted_bytes}, LoaderValues.HeaderLoaderValue, declared.load_check.Stage.Stage}
 use Rattle.hunk_scatter.proofs.LoadCheckLaws.{body_ends, header_ends, no_file}
 use Rattle.hunk_scatter.proofs.load_check.LoadCheck.finish.Goals as goal
