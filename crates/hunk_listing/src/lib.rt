@@ -6,6 +6,7 @@ mod entry;
 mod line;
 mod load;
 mod object;
+mod put;
 mod report;
 mod rewriting;
 mod segment;

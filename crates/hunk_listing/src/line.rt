@@ -4,12 +4,9 @@ ghost use Rattle.hex.specs.Hex.{encode_lower};
 ghost use Rattle.hunk_words.specs.Prints.{Prints};
 ghost use Rattle.hunk_listing.specs.Printed.{digits, hexadecimal};
 
-use hunk_words::{PagePrinter, Printer, Sink};
-use itoa::write_digits;
+use crate::put::{put, put_decimal, put_digits, put_hexadecimal};
+use hunk_words::{LINE, PagePrinter, Sink};
 use std::marker::Model;
-
-/// How many bytes a line holds at most. No line without a name is longer.
-pub(crate) const LINE: usize = 96;
 
 /// A line of at most 96 bytes, which is put together here and printed at once.
 #[derive(Drop)]
@@ -20,7 +17,7 @@ pub(crate) struct Line {
 
 impl Model for Line {
     ghost use Rattle.std.specs.Prelude.{ℕ, List, ◌≤◌, take};
-    ghost use Rattle.hunk_listing.specs.declared.line.TheConstants.{LINE};
+    ghost use Rattle.hunk_words.specs.declared.printer.TheConstants.{LINE};
 
     ghost Value = { List ℕ };
 
@@ -61,9 +58,7 @@ impl Line {
         ensures text { self.new ≡ self.old ++ bytes.now }
         ensures len { length self.new ≡ length self.old + length bytes.now }
     {
-        let end = self.len + bytes.len();
-        self.bytes[self.len..end].copy_from_slice(bytes);
-        self.len = end;
+        self.len = put(&mut self.bytes, self.len, bytes);
     }
 
     /// Puts the number in decimal, which has at most 20 digits.
@@ -72,15 +67,7 @@ impl Line {
         ensures text { self.new ≡ self.old ++ decimal number }
         ensures bound { length self.new ≤ length self.old + 20 }
     {
-        // Most numbers have one digit.
-        let count = if number < 10 {
-            1
-        } else {
-            number.ilog10() as usize + 1
-        };
-        let end = self.len + count;
-        write_digits(number, &mut self.bytes, end);
-        self.len = end;
+        self.len = put_decimal(&mut self.bytes, self.len, number);
     }
 
     /// Puts `0x` and the number's eight hexadecimal digits.
@@ -89,8 +76,7 @@ impl Line {
         ensures text { self.new ≡ self.old ++ hexadecimal number }
         ensures len { length self.new ≡ length self.old + 10 }
     {
-        self.put(b"0x");
-        self.put_digits(number);
+        self.len = put_hexadecimal(&mut self.bytes, self.len, number);
     }
 
     /// Puts the number's eight hexadecimal digits.
@@ -99,9 +85,7 @@ impl Line {
         ensures text { self.new ≡ self.old ++ digits number }
         ensures len { length self.new ≡ length self.old + 8 }
     {
-        let end = self.len + 8;
-        encode(&number.to_be_bytes(), &mut self.bytes[self.len..end]);
-        self.len = end;
+        self.len = put_digits(&mut self.bytes, self.len, number);
     }
 
     /// Prints the line.
@@ -109,25 +93,6 @@ impl Line {
         ensures { Prints page.old page.new self.now }
     {
         page.print(&self.bytes[..self.len]);
-    }
-
-    /// Prints the line, the digits of the offset after it and the end. The line stays as it is,
-    /// and so serves for the next offset.
-    pub(crate) fn print_offset<W: Sink, const END: usize>(
-        &mut self,
-        page: &mut Printer<'_, W>,
-        offset: u32,
-        end: &[u8; END],
-    )
-        requires { length self.old + 8 + END ≤ LINE }
-        ensures prints { Prints page.old page.new (self.old ++ digits offset ++ end.now) }
-        ensures kept { self.new ≡ self.old }
-    {
-        let after = self.len + 8;
-        let whole = after + END;
-        encode(&offset.to_be_bytes(), &mut self.bytes[self.len..after]);
-        self.bytes[after..whole].copy_from_slice(end);
-        page.print(&self.bytes[..whole]);
     }
 }
 

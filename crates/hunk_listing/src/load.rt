@@ -1,14 +1,16 @@
 //! The lines of a load file.
+ghost use Rattle.std.specs.Prelude.{◌≡◌, ◌≤◌, ◌+◌, ◌++◌, length, take};
 ghost use Rattle.hunk_words.specs.Prints.{Prints};
 ghost use Rattle.hunk_files.specs.LoadHunks.{hunk_seen};
 ghost use Rattle.hunk_files.specs.Tables.{size_entry};
 ghost use Rattle.hunk_listing.specs.FileLines.{hunk_line, hunk_lines, load_head, load_line};
-ghost use Rattle.hunk_listing.specs.FileLines.{load_listing, rest_line};
+ghost use Rattle.hunk_listing.specs.FileLines.{load_listing, memory_text, rest_line};
 
 use crate::block::print_block;
 use crate::line::Line;
+use crate::put::{put, put_decimal, put_hexadecimal};
 use hunk_files::{LoadHunkView, LoadView};
-use hunk_words::{Memory, Printer, Sink, SizeWord};
+use hunk_words::{Memory, PageLine, Printer, Sink, SizeWord};
 
 /// Lists the hunks and blocks of a load file that `rest` bytes follow.
 pub fn print_load_file<W: Sink>(page: &mut Printer<'_, W>, file: &LoadView<'_>, rest: u64)
@@ -56,28 +58,49 @@ fn print_hunk<W: Sink>(page: &mut Printer<'_, W>, number: u64, hunk: LoadHunkVie
     }
 }
 
-#[tactic(auto, unfolding(crate::specs::FileLines::hunk_line))]
 fn print_hunk_line<W: Sink>(page: &mut Printer<'_, W>, number: u64, size: SizeWord)
     ensures { Prints page.old page.new (hunk_line number (size_entry size)) }
 {
-    let (bytes, memory) = (size.bytes(), size.memory());
-    let mut line = Line::new();
-    line.put(b"hunk ");
-    line.put_decimal(number);
-    line.put(b" ");
-    line.put_decimal(bytes);
-    line.put(b" bytes ");
+    page.print_line(&HunkLine { number, size });
+}
+
+/// The line of a hunk.
+#[derive(Drop)]
+struct HunkLine {
+    number: u64,
+    size: SizeWord,
+}
+
+impl PageLine for HunkLine {
+    ghost text = { λ s. hunk_line s.number (size_entry s.size) };
+
+    #[tactic(auto, unfolding(crate::specs::FileLines::hunk_line))]
+    #[inline(always)]
+    fn put(&self, room: &mut [u8]) -> usize {
+        let at = put(room, 0, b"hunk ");
+        let at = put_decimal(room, at, self.number);
+        let at = put(room, at, b" ");
+        let at = put_decimal(room, at, self.size.bytes());
+        let at = put(room, at, b" bytes ");
+        let at = put_memory(room, at, self.size.memory());
+        put(room, at, b"\n")
+    }
+}
+
+fn put_memory(room: &mut [u8], at: usize, memory: Memory) -> usize
+    requires { at + 21 ≤ length room.old }
+    ensures text { take result room.new ≡ take at room.old ++ memory_text memory }
+    ensures end { result ≤ at + 21 }
+{
     match memory {
-        Memory::Any => line.put(b"any"),
-        Memory::Chip => line.put(b"chip"),
-        Memory::Fast => line.put(b"fast"),
+        Memory::Any => put(room, at, b"any"),
+        Memory::Chip => put(room, at, b"chip"),
+        Memory::Fast => put(room, at, b"fast"),
         Memory::Attributes(attributes) => {
-            line.put(b"attributes ");
-            line.put_hexadecimal(attributes);
+            let at = put(room, at, b"attributes ");
+            put_hexadecimal(room, at, attributes)
         }
     }
-    line.put(b"\n");
-    line.print(page);
 }
 
 /// Prints the line that says how many bytes follow the file.

@@ -1,4 +1,5 @@
 //! The lines of an object file.
+ghost use Rattle.std.specs.Prelude.{◌++◌, codes, decimal};
 ghost use Rattle.hunk_words.specs.Prints.{Prints};
 ghost use Rattle.hunk_words.specs.Longs.{longs};
 ghost use Rattle.hunk_files.specs.ItemViews.{item_seen};
@@ -6,10 +7,11 @@ ghost use Rattle.hunk_listing.specs.FileLines.{item_lines, object_hunk_line, obj
 
 use crate::block::print_block;
 use crate::line::Line;
-use crate::text::print_named;
+use crate::put::{put, put_decimal};
+use crate::text::print_name;
 use hunk_blocks::Payload;
 use hunk_files::{Item, ObjectView};
-use hunk_words::{Printer, Sink};
+use hunk_words::{PageLine, Printer, Sink};
 
 /// Lists the units, hunks and blocks of an object file.
 pub fn print_object_file<W: Sink>(page: &mut Printer<'_, W>, file: &ObjectView<'_>)
@@ -48,22 +50,50 @@ fn print_object_line<W: Sink>(page: &mut Printer<'_, W>, units: u64)
 fn print_unit_line<W: Sink>(page: &mut Printer<'_, W>, number: u64, name: &Payload<'_>)
     ensures { Prints page.old page.new (unit_line number (longs name.now)) }
 {
-    let mut line = Line::new();
-    line.put(b"unit ");
-    line.put_decimal(number);
-    line.put(b" ");
-    print_named(page, &line, name);
+    page.print_line(&UnitFront { number });
+    print_name(page, name);
 }
 
-#[tactic(auto, unfolding(crate::specs::FileLines::object_hunk_line))]
+/// The front of a unit's line, before its name.
+#[derive(Drop)]
+struct UnitFront {
+    number: u64,
+}
+
+impl PageLine for UnitFront {
+    ghost text = { λ s. codes "unit " ++ decimal s.number ++ codes " " };
+
+    #[inline(always)]
+    fn put(&self, room: &mut [u8]) -> usize {
+        let at = put(room, 0, b"unit ");
+        let at = put_decimal(room, at, self.number);
+        put(room, at, b" ")
+    }
+}
+
 fn print_hunk_line<W: Sink>(page: &mut Printer<'_, W>, number: u64, bytes: u64)
     ensures { Prints page.old page.new (object_hunk_line number bytes) }
 {
-    let mut line = Line::new();
-    line.put(b"hunk ");
-    line.put_decimal(number);
-    line.put(b" ");
-    line.put_decimal(bytes);
-    line.put(b" bytes\n");
-    line.print(page);
+    page.print_line(&HunkLine { number, bytes });
+}
+
+/// The line of a hunk.
+#[derive(Drop)]
+struct HunkLine {
+    number: u64,
+    bytes: u64,
+}
+
+impl PageLine for HunkLine {
+    ghost text = { λ s. object_hunk_line s.number s.bytes };
+
+    #[tactic(auto, unfolding(crate::specs::FileLines::object_hunk_line))]
+    #[inline(always)]
+    fn put(&self, room: &mut [u8]) -> usize {
+        let at = put(room, 0, b"hunk ");
+        let at = put_decimal(room, at, self.number);
+        let at = put(room, at, b" ");
+        let at = put_decimal(room, at, self.bytes);
+        put(room, at, b" bytes\n")
+    }
 }

@@ -97,7 +97,7 @@ struct FindingLine {
 impl Model for FindingLine {
     ghost use Rattle.std.specs.Prelude.{ℕ, List, ◌≡◌, ◌≤◌, ◌+◌, length, take};
     ghost use Rattle.hunk_listing.specs.ReportLines.{finding_front};
-    ghost use Rattle.hunk_listing.specs.declared.line.TheConstants.{LINE};
+    ghost use Rattle.hunk_words.specs.declared.printer.TheConstants.{LINE};
 
     ghost Value = { List ℕ };
 

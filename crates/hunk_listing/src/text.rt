@@ -4,16 +4,15 @@ ghost use Rattle.hunk_words.specs.Prints.{Prints};
 ghost use Rattle.hunk_words.specs.Longs.{longs};
 ghost use Rattle.hunk_listing.specs.Printed.{character, characters, is_plain, name_text};
 
-use crate::line::{Line, encode};
+use crate::line::encode;
 use hunk_blocks::Payload;
 use hunk_words::{Printer, Sink};
 
-/// Prints the line, the name's text after it and the end of the line.
+/// Prints the name's text and the end of the line.
 #[inline(always)]
-pub(crate) fn print_named<W: Sink>(page: &mut Printer<'_, W>, line: &Line, name: &Payload<'_>)
-    ensures { Prints page.old page.new (line.now ++ name_text (longs name.now) ++ codes "\n") }
+pub(crate) fn print_name<W: Sink>(page: &mut Printer<'_, W>, name: &Payload<'_>)
+    ensures { Prints page.old page.new (name_text (longs name.now) ++ codes "\n") }
 {
-    line.print(page);
     print_characters(page, name.bytes());
     page.print(b"\n");
 }

@@ -12,7 +12,7 @@ pub symbols-init : goal.symbols-init
 symbols-init g c =
     let given = items_given symbol_of symbol_text c.count.ensures.ran.0 c.again.result c.count.ensures.ran.1 in
     let counted = subst (λ (s : Placed (List SymbolEntry)). c.count.result ≡ length s.value) c.again.ensures (subst (λ n. c.count.result ≡ n) given c.count.ensures.ran.2) in
-    let start = subst (λ n. c.print_number.new.page.text ≡ c.args.page.now.text ++ count_line c.args.word n) counted c.print_number.ensures.1 in
+    let start = subst (λ n. c.print_count.new.page.text ≡ c.args.page.now.text ++ count_line c.args.word n) counted c.print_count.ensures.1 in
     let lines = flat_map symbol_line c.args.symbols.now.value in
-    let shown = ap (λ (s : Placed (List SymbolEntry)). c.print_number.new.page.text ++ flat_map symbol_line s.value) (c.into_iter-symbol-iterator.ensures.into_iter_gives ∙ c.again-symbol-items.ensures) in
-    (c.print_number.ensures.0, shown ∙ ap (λ (text : List ℕ). text ++ lines) start ∙ append_assoc c.args.page.now.text (count_line c.args.word (length c.args.symbols.now.value)) lines)
+    let shown = ap (λ (s : Placed (List SymbolEntry)). c.print_count.new.page.text ++ flat_map symbol_line s.value) (c.into_iter-symbol-iterator.ensures.into_iter_gives ∙ c.again-symbol-items.ensures) in
+    (c.print_count.ensures.0, shown ∙ ap (λ (text : List ℕ). text ++ lines) start ∙ append_assoc c.args.page.now.text (count_line c.args.word (length c.args.symbols.now.value)) lines)

@@ -1,12 +1,9 @@
 use Rattle.std.proofs.Common.{◌≡◌, ◌++◌}
 use Rattle.std.specs.List.{flat_map}
-use Rattle.std.specs.Prelude.{codes}
 use Rattle.hunk_listing.specs.BlockLines.{offset_line}
 use Rattle.hunk_listing.proofs.entry.print_offsets.Given as goal
 
 abbrev pub invariant-offsets : goal.invariant-offsets
-invariant-offsets g l = record {
-  same : l.page.origin ≡ l.fn.page.origin;
-  shown : l.page.text ++ flat_map offset_line l.offset-iterator ≡ l.fn.page.text ++ flat_map offset_line l.offsets;
-  front : l.line ≡ codes "      0x";
-}
+invariant-offsets g l =
+    (l.page.origin ≡ l.fn.page.origin)
+    × (l.page.text ++ flat_map offset_line l.offset-iterator ≡ l.fn.page.text ++ flat_map offset_line l.offsets)
