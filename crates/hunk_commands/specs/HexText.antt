@@ -1,5 +1,5 @@
 -- Hexadecimal text with blanks in it.
-use Rattle.std.specs.Prelude.{◌==◌, ◌||◌, ◌≡◌, ◌⊎◌, ◌++◌, ⊤, ℕ, Bool, true, false, not, List, Ok}
+use Rattle.std.specs.Prelude.{◌==◌, ◌||◌, ◌≡◌, ◌⊎◌, ◌++◌, ⊤, ℕ, Bool, true, false, not, List, [], ◌∷◌, Ok, Option, Some, None}
 use Rattle.std.specs.List.{filter}
 use Rattle.hex.specs.Hex.{decode_of}
 use Rattle.hunk_words.specs.Carriers.{Supply}
@@ -27,6 +27,11 @@ abbrev pub RefusesHex : List ℕ → RunFault → Type 0
 RefusesHex text fault = (fault ≡ faults.Memory) ⊎ ((fault ≡ faults.HexText) × IsNotHex text)
 
 -- ---- text that comes by pieces
+
+-- a digit that is held
+abbrev pub held_digits : Option ℕ → List ℕ
+held_digits None = []
+held_digits (Some digit) = digit ∷ []
 
 -- its digits, but for the last ones, which are held, spell the bytes
 abbrev pub SpellsBefore : List ℕ → List ℕ → List ℕ → Type 0

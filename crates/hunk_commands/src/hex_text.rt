@@ -1,6 +1,8 @@
 //! Bytes from hexadecimal text.
-ghost use Rattle.std.specs.Prelude.{◌≡◌, ◌<◌, ◌≤◌, ◌++◌, [], ℕ, List, false, get_or, length, take};
-ghost use Rattle.std.specs.Prelude.{IfOk, IfErr, OnErr};
+ghost use Rattle.std.specs.Prelude.{◌≡◌, ◌<◌, ◌≤◌, ◌*◌, ◌%◌, ◌++◌, [], ℕ, List, Ok, None, true, length};
+ghost use Rattle.std.specs.Prelude.{take};
+ghost use Rattle.std.specs.Prelude.{◌∷◌, IfOk, IfErr, IfSome, OnErr};
+ghost use Rattle.hex.specs.Hex.{decode_of};
 ghost use Rattle.hunk_commands.specs.HexText.{AppendsSpelled, ReadsHex, ReadsNoHex, RefusesHex, SpellsHex};
 ghost use Rattle.hunk_commands.specs.HexText.{is_blank, without_blanks};
 ghost use Rattle.hunk_scatter.specs.LoadOutcomes.{GivesAtMost};
@@ -8,33 +10,32 @@ ghost use Rattle.hunk_commands.specs.Inputs.{TellsReading};
 
 use crate::fault::RunFault;
 use crate::input::{Taker, read_all};
-use arrayvec::ArrayVec;
 use hunk_words::{History, Source};
 use std::alloc::{AllocError, Global};
 use std::marker::Model;
 
-/// How many digits are held before they are decoded together, which are whole pairs.
-const DIGITS: usize = 1_024;
+/// How many pairs of digits are decoded before their bytes are appended together.
+const PAIRS: usize = 1_024;
 
-/// Hexadecimal text that comes by pieces, of which only the bytes that it spells are kept, and the
-/// last digits. Contracts see it as the text so far.
+/// Hexadecimal text that comes by pieces, of which only the bytes that it spells are kept, and a
+/// digit whose pair is not whole. Contracts see it as the text so far.
 #[derive(Drop)]
 struct HexDecoder {
     bytes: Vec<u8>,
-    digits: ArrayVec<u8, DIGITS>,
+    held: Option<u8>,
     refused: bool,
     text: History,
 }
 
 impl Model for HexDecoder {
     ghost use Rattle.std.specs.Prelude.{ℕ, List};
-    ghost use Rattle.hunk_commands.specs.HexText.{IsDecoded};
+    ghost use Rattle.hunk_commands.specs.HexText.{IsDecoded, held_digits};
 
     ghost Value = { List ℕ };
 
     ghost view = { λ s. s.text.bytes };
 
-    ghost invariant = { λ s. IsDecoded s.refused s.text.bytes s.bytes.items s.digits.items };
+    ghost invariant = { λ s. IsDecoded s.refused s.text.bytes s.bytes.items (held_digits s.held) };
 }
 
 impl HexDecoder {
@@ -44,14 +45,14 @@ impl HexDecoder {
     {
         HexDecoder {
             bytes: Vec::new(alloc),
-            digits: ArrayVec::new(),
+            held: None,
             refused: false,
             text: History::new(),
         }
     }
 
-    /// Takes the front of the text that follows: a blank, or as many digits before the next as have
-    /// room. It answers how many bytes that is, all of them where the text is refused before.
+    /// Takes the first byte of the text that follows: a blank, or a digit. It answers how many bytes
+    /// that is, all of them where the text is refused before.
     fn take_front(&mut self, text: &[u8]) -> Result<usize, AllocError>
         requires { 0 < length text.now }
         ensures taken { IfOk result (λ count. self.new ≡ self.old ++ take count text.now) }
@@ -62,20 +63,31 @@ impl HexDecoder {
             self.text = self.text.and(text);
             return Ok(text.len());
         }
-        if is_blank(text[0]) {
-            self.text = self.text.and(&text[..1]);
-            return Ok(1);
+        if !is_blank(text[0]) {
+            match self.held {
+                None => self.held = Some(text[0]),
+                Some(first) => {
+                    self.refused = !append_pair(&mut self.bytes, [first, text[0]])?;
+                    self.held = None;
+                }
+            }
         }
-        if self.digits.is_full() {
-            self.refused = !append_bytes(&mut self.bytes, self.digits.as_slice())?;
-            self.digits.clear();
+        self.text = self.text.and(&text[..1]);
+        Ok(1)
+    }
+
+    /// Takes the pairs of digits in front of the text that follows, where no digit is held, and
+    /// answers how many bytes that is.
+    fn take_pairs(&mut self, text: &[u8]) -> Result<usize, AllocError>
+        ensures taken { IfOk result (λ count. self.new ≡ self.old ++ take count text.now) }
+        ensures inside { IfOk result (λ count. count ≤ length text.now) }
+    {
+        if self.refused || self.held.is_some() {
+            return Ok(0);
         }
-        let room = self.digits.remaining_capacity();
-        let front = &text[..text.len().min(room)];
-        let run = &front[..digits_in_front(front)];
-        let _ = self.digits.try_extend_from_slice(run);
-        self.text = self.text.and(run);
-        Ok(run.len())
+        let count = append_pairs(&mut self.bytes, text)?;
+        self.text = self.text.and(&text[..count]);
+        Ok(count)
     }
 
     /// The bytes that the text spells.
@@ -88,15 +100,18 @@ impl HexDecoder {
         ensures refused { IfErr result (RefusesHex self) }
     {
         let HexDecoder {
-            mut bytes,
-            digits,
+            bytes,
+            held,
             refused,
             text: _,
         } = self;
-        if refused || !append_bytes(&mut bytes, digits.as_slice())? {
+        if refused {
             return Err(RunFault::HexText);
         }
-        Ok(bytes)
+        match held {
+            None => Ok(bytes),
+            Some(_) => Err(RunFault::HexText),
+        }
     }
 }
 
@@ -106,42 +121,95 @@ impl Taker for HexDecoder {
     fn take(&mut self, piece: &[u8]) -> Result<(), AllocError> {
         let mut at = 0;
         'parts: while at < piece.len() {
-            at += self.take_front(&piece[at..])?;
+            at += self.take_pairs(&piece[at..])?;
+            if at < piece.len() {
+                at += self.take_front(&piece[at..])?;
+            }
         }
         Ok(())
     }
 }
 
-/// Appends the bytes that the digits spell, two digits a byte, and answers whether they spell any.
-fn append_bytes(bytes: &mut Vec<u8>, digits: &[u8]) -> Result<bool, AllocError>
-    requires few { length digits.now ≤ 1024 }
+/// Appends the byte that two digits spell, and answers whether they spell one.
+fn append_pair(bytes: &mut Vec<u8>, digits: [u8; 2]) -> Result<bool, AllocError>
     ensures spelled { IfOk result
-        (λ spelled. AppendsSpelled spelled digits.now bytes.old.items bytes.new.items) }
+        (λ spelled. AppendsSpelled spelled digits bytes.old.items bytes.new.items) }
     ensures same { OnErr result (bytes.new.items ≡ bytes.old.items) }
 {
-    let mut pairs = [0u8; DIGITS / 2];
-    let room = &mut pairs[..digits.len() / 2];
-    if hex::decode_to_slice(digits, &mut *room).is_err() {
+    let mut byte = [0u8; 1];
+    if hex::decode_to_slice(digits.as_slice(), &mut byte).is_err() {
         return Ok(false);
     }
-    bytes.extend_from_slice(room)?;
+    bytes.extend_from_slice(&byte)?;
     Ok(true)
 }
 
-/// How many bytes stand before the first blank of a text that begins with none.
-fn digits_in_front(text: &[u8]) -> usize
-    requires some { 0 < length text.now }
-    requires digit { is_blank (get_or text.now 0 0) ≡ false }
-    ensures some { 0 < result }
-    ensures inside { result ≤ length text.now }
-    ensures digits { without_blanks (take result text.now) ≡ take result text.now }
+/// Appends the bytes that the pairs of digits in front of the text spell, at most `PAIRS` bytes, and
+/// answers how many digits these are.
+fn append_pairs(bytes: &mut Vec<u8>, text: &[u8]) -> Result<usize, AllocError>
+    ensures spelled { IfOk result (λ count.
+        AppendsSpelled true (take count text.now) bytes.old.items bytes.new.items) }
+    ensures inside { IfOk result (λ count. count ≤ length text.now) }
+    ensures even { IfOk result (λ count. length (take count text.now) % 2 ≡ 0) }
+    ensures digits { IfOk result
+        (λ count. without_blanks (take count text.now) ≡ take count text.now) }
+    ensures same { OnErr result (bytes.new.items ≡ bytes.old.items) }
 {
-    let mut count = 1;
-    'digits: while count < text.len() && !is_blank(text[count]) {
+    let mut room = [0u8; PAIRS];
+    let count = decode_pairs(text, &mut room);
+    bytes.extend_from_slice(&room[..count])?;
+    Ok(2 * count)
+}
+
+/// Decodes the pairs of digits in front of the text, as far as there is room for their bytes, and
+/// answers how many pairs these are.
+fn decode_pairs(text: &[u8], room: &mut [u8]) -> usize
+    ensures decoded { decode_of (take (2 * result) text.now) ≡ Ok (take result room.new) }
+    ensures inside { 2 * result ≤ length text.now }
+    ensures fits { result ≤ length room.new }
+{
+    let most = room.len().min(text.len() / 2);
+    let mut count = 0;
+    'pairs: while count < most {
+        let Some(byte) = byte_of(text[2 * count], text[2 * count + 1]) else {
+            return count;
+        };
+        room[count] = byte;
         count += 1;
     }
     count
 }
+
+/// The byte that two digits spell, where both are digits.
+#[inline(always)]
+fn byte_of(high: u8, low: u8) -> Option<u8>
+    ensures { IfSome result (λ byte. decode_of (high ∷ low ∷ []) ≡ Ok (byte ∷ [])) }
+{
+    let high = VALUES[high as usize];
+    let low = VALUES[low as usize];
+    if high > 15 || low > 15 {
+        return None;
+    }
+    Some(high * 16 + low)
+}
+
+/// The value of each digit, in either case, and 255 for each other byte.
+static VALUES: [u8; 256] = [
+    255, 255, 255, 255, 255, 255, 255, 255, 255, 255, 255, 255, 255, 255, 255, 255, 255, 255, 255,
+    255, 255, 255, 255, 255, 255, 255, 255, 255, 255, 255, 255, 255, 255, 255, 255, 255, 255, 255,
+    255, 255, 255, 255, 255, 255, 255, 255, 255, 255, 0, 1, 2, 3, 4, 5, 6, 7, 8, 9, 255, 255, 255,
+    255, 255, 255, 255, 10, 11, 12, 13, 14, 15, 255, 255, 255, 255, 255, 255, 255, 255, 255, 255,
+    255, 255, 255, 255, 255, 255, 255, 255, 255, 255, 255, 255, 255, 255, 255, 255, 10, 11, 12, 13,
+    14, 15, 255, 255, 255, 255, 255, 255, 255, 255, 255, 255, 255, 255, 255, 255, 255, 255, 255,
+    255, 255, 255, 255, 255, 255, 255, 255, 255, 255, 255, 255, 255, 255, 255, 255, 255, 255, 255,
+    255, 255, 255, 255, 255, 255, 255, 255, 255, 255, 255, 255, 255, 255, 255, 255, 255, 255, 255,
+    255, 255, 255, 255, 255, 255, 255, 255, 255, 255, 255, 255, 255, 255, 255, 255, 255, 255, 255,
+    255, 255, 255, 255, 255, 255, 255, 255, 255, 255, 255, 255, 255, 255, 255, 255, 255, 255, 255,
+    255, 255, 255, 255, 255, 255, 255, 255, 255, 255, 255, 255, 255, 255, 255, 255, 255, 255, 255,
+    255, 255, 255, 255, 255, 255, 255, 255, 255, 255, 255, 255, 255, 255, 255, 255, 255, 255, 255,
+    255, 255, 255, 255, 255, 255, 255, 255, 255, 255, 255, 255, 255, 255, 255, 255, 255, 255, 255,
+    255, 255, 255,
+];
 
 /// Whether the byte may stand between digits.
 fn is_blank(byte: u8) -> bool
