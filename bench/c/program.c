@@ -1,6 +1,6 @@
 /* What a program in plain C takes for the commands of hunkinfo: program COMMAND FILE [OUT]. It reads the file whole, tests it in
  * one walk, and prints what hunkinfo does, from a page of 64 KiB. The commands are show, validate, relocate (packed from 21000),
- * rewrite and strip. It knows the blocks of valid files alone. */
+ * rewrite and strip, and hex: validate of hexadecimal text. It knows the blocks of valid files alone. */
 #include "hand.h"
 #include <fcntl.h>
 #include <stdio.h>
@@ -347,6 +347,33 @@ static int rewrite(const uint8_t *b, size_t len, const char *out, int strips)
     return 0;
 }
 
+/* The bytes that hexadecimal text spells, in its place: how many, or 0 where it spells none. */
+static size_t unhex(uint8_t *b, size_t len)
+{
+    size_t count = 0;
+    int high = -1;
+    for (size_t i = 0; i < len; i++) {
+        int c = b[i], value;
+        if (c >= '0' && c <= '9')
+            value = c - '0';
+        else if (c >= 'a' && c <= 'f')
+            value = c - 'a' + 10;
+        else if (c >= 'A' && c <= 'F')
+            value = c - 'A' + 10;
+        else if (c == ' ' || c == '\t' || c == '\r' || c == '\n')
+            continue;
+        else
+            return 0;
+        if (high < 0) {
+            high = value;
+        } else {
+            b[count++] = (uint8_t)(high << 4 | value);
+            high = -1;
+        }
+    }
+    return high < 0 ? count : 0;
+}
+
 static uint8_t *read_file(const char *name, size_t *len)
 {
     struct stat status;
@@ -364,7 +391,9 @@ static uint8_t *read_file(const char *name, size_t *len)
 int main(int argc, char **argv)
 {
     size_t len;
-    const uint8_t *b = argc > 2 ? read_file(argv[2], &len) : NULL;
+    uint8_t *b = argc > 2 ? read_file(argv[2], &len) : NULL;
+    if (b && !strcmp(argv[1], "hex"))
+        len = unhex(b, len);
     if (!b || len < 4)
         return 3;
     for (int i = 0; i < 256; i++) {
