@@ -11,7 +11,7 @@ use Rattle.hunk_scatter.specs.Placing.{AreBases, IsFirstUnplaced, base_at, liste
 use Rattle.hunk_scatter.specs.{HeaderSizes.HasHeaderSize, declared.header_state.HeaderSize.HeaderSize}
 use Rattle.hunk_scatter.proofs.DeclaredBytes.{declared-append, declared-cons}
 use Rattle.hunk_c.specs.declared.packed.Mark.{Mark}
-use Rattle.hunk_c.specs.Packs.{ArePacked, AreMarksTo, AreNearTo, HasRow, IsRow, RowStandsAt, bases_in, hunks_a_mark, no_mark, packed_after}
+use Rattle.hunk_c.specs.Packs.{ArePacked, AreMarksTo, AreNearTo, HasRow, IsRow, RowStandsAt, bases_in, hunks_a_mark, most_marks, no_mark, packed_after}
 use Rattle.hunk_c.specs.Loads.{AreBasesOf}
 use Rattle.hunk_c.proofs.{Succeeding.same_header, TableRows.{no_entry, stands_first, stands_next, entry_is}}
 
@@ -90,16 +90,16 @@ pub record PackedSoFar {bytes : List ℕ} {t : List TableEntry} (h : BeginsWithH
   pub is_row : IsRow h start hunk at base
   pub near : at ≤ 5 + 2 * hunk
   pub are_marks : AreMarksTo h start marks hunk
-  pub room : length t ≤ hunks_a_mark * length marks
+  pub size : length marks ≡ most_marks
   pub placed : (i : ℕ) → i < hunk → base_at (packed_from start) t i ≡ Some (start + declared_bytes (take i t))
   pub each : (i : ℕ) → i < hunk → start + declared_bytes (take i t) < 2 ^ 32
 
-pub none_packed : (bytes : List ℕ) (t : List TableEntry) (h : BeginsWithHeader bytes t) (start base : ℕ) (marks : List Mark) → base ≡ start → length t ≤ hunks_a_mark * length marks → PackedSoFar h start marks 0 5 base
+pub none_packed : (bytes : List ℕ) (t : List TableEntry) (h : BeginsWithHeader bytes t) (start base : ℕ) (marks : List Mark) → base ≡ start → length marks ≡ most_marks → PackedSoFar h start marks 0 5 base
 none_packed bytes t h start base marks e n = record {
   is_row = record { stands = stands_first bytes t h; base_is = omega (arith, e) };
   near = omega arith;
   are_marks = λ k less. absurd (omega (arith, less));
-  room = n;
+  size = n;
   placed = λ i less. absurd (omega (arith, less));
   each = λ i less. absurd (omega (arith, less));
 }
@@ -110,7 +110,7 @@ module _ (bytes : List ℕ) (t : List TableEntry) (h : BeginsWithHeader bytes t)
     is_row = r;
     near = omega (arith, near, s.near);
     are_marks = are;
-    room = omega (arith, n, s.room);
+    size = n ∙ s.size;
     placed =
         below_more (λ (k : ℕ). base_at (packed_from start) t k ≡ Some (start + declared_bytes (take k t))) hunk s.placed
         (placed_at t start hunk base base2 inside s.is_row.base_is r.base_is low fits ∙ ap (λ (k : ℕ). Some k) s.is_row.base_is);
@@ -139,7 +139,7 @@ module _ (bytes : List ℕ) (t : List TableEntry) (h : BeginsWithHeader bytes t)
     few = few;
     each = λ i less. s.each i (omega (arith, all, less, many));
     are_marks = λ k less. s.are_marks k (omega (arith, all, less, many));
-    room = omega (arith, s.room, many);
+    size = s.size;
   }
 
 -- ---- the bases near a mark
@@ -160,7 +160,7 @@ module _ (bytes : List ℕ) (hunks start : ℕ) (marks : List Mark) (p : ArePack
 
   module _ (number : ℕ) (less : hunks_a_mark * number < hunks) where
     pub mark_inside : number < length marks
-    mark_inside = omega (arith, less, p.room)
+    mark_inside = omega (arith, less, p.hunks_are, p.header.is_table.most, p.size)
 
     pub none_near : (near : List ℕ) (base : ℕ) → base ≡ (get_or marks number no_mark).base → NearSoFar p number near (hunks_a_mark * number) (get_or marks number no_mark).longword base
     none_near near base e = search rules

@@ -1,5 +1,5 @@
 -- Hunks one right after the other, by a table that is read where it lies.
-use Rattle.std.specs.Prelude.{◌≡◌, ℕ, ◌+◌, ◌*◌, ◌/◌, ◌%◌, ◌^◌, ◌<◌, ◌≤◌, List, [], ◌∷◌, ◌++◌, length, take, drop, get_or}
+use Rattle.std.specs.Prelude.{◌≡◌, ℕ, ◌+◌, ◌*◌, ◌/◌, ◌%◌, ◌^◌, ◌<◌, List, [], ◌∷◌, ◌++◌, length, take, drop, get_or}
 use Rattle.std.specs.List.{flat_map}
 use Rattle.hunk_words.specs.Bits.{size_longs}
 use Rattle.hunk_words.specs.Longs.{longs}
@@ -33,6 +33,10 @@ pub record HasRow (bytes : List ℕ) (place : RowPlace) : Type 0 where
 
 -- ---- marks
 
+-- how many there are
+abbrev pub most_marks : ℕ
+most_marks = 1024
+
 -- how many hunks lie from one mark to the next
 abbrev pub hunks_a_mark : ℕ
 hunks_a_mark = 64
@@ -53,7 +57,7 @@ pub record ArePacked (bytes : List ℕ) (hunks start : ℕ) (marks : List Mark) 
   pub few : start < 2 ^ 32
   pub each : (i : ℕ) → i < hunks → start + declared_bytes (take i table) < 2 ^ 32
   pub are_marks : AreMarksTo header start marks hunks
-  pub room : hunks ≤ hunks_a_mark * length marks
+  pub size : length marks ≡ most_marks
 
 -- ---- the bases by the longwords
 

@@ -1,14 +1,13 @@
 //! Load files, loaded into the caller's memory.
-ghost use Rattle.std.specs.Prelude.{◌≡◌, ◌≤◌, ◌-◌, ◌*◌, ◌^◌, length, IfOk, IfErr};
+ghost use Rattle.std.specs.Prelude.{◌≡◌, ◌≤◌, ◌-◌, ◌^◌, length, IfOk, IfErr};
 ghost use Rattle.hunk_words.specs.declared.reason.Reason.TheVariants as reasons;
 ghost use Rattle.hunk_scatter.specs.HeaderSizes.{HasHeaderSize};
 ghost use Rattle.hunk_scatter.specs.Placing.{Placing, listed_in, packed_from};
 ghost use Rattle.hunk_c.specs.Answers.{refused};
 ghost use Rattle.hunk_c.specs.Loads.{AreBasesOf, IsNotLoaded, Loads, LoadsWhatFits};
-ghost use Rattle.hunk_c.specs.Packs.{hunks_a_mark};
 
 use crate::answer::{Answer, done, no_room, refused};
-use crate::packed::{FEW_HUNKS, FEW_MARKS, MARKS, Mark, PackedBases, place_marks};
+use crate::packed::{MARKS, Mark, PackedBases, place_marks};
 use hunk_files::{Bases, LoadView};
 use hunk_scatter::stream::{HeaderSize, header_size};
 use hunk_words::{Fault, Reason};
@@ -43,31 +42,11 @@ pub extern "C" fn hunk_load_packed(bytes: &[u8], base: u32, memory: &mut [u8]) -
         Ok(size) => size,
         Err(answer) => return answer,
     };
-    if size.hunks <= FEW_HUNKS {
-        let mut marks = [Mark::NONE; FEW_MARKS];
-        return load_packed(bytes, size, memory, base, marks.as_mut_slice());
-    }
     let mut marks = [Mark::NONE; MARKS];
-    load_packed(bytes, size, memory, base, marks.as_mut_slice())
-}
-
-/// Loads the file that the bytes begin with, its hunks one right after the other from `base` on.
-fn load_packed(
-    bytes: &[u8],
-    size: HeaderSize,
-    memory: &mut [u8],
-    base: u32,
-    marks: &mut [Mark],
-) -> Answer
-    requires size { HasHeaderSize (2 ^ 64 - 1) bytes.now size }
-    requires room { size.declared ≤ length memory.old }
-    requires marks { size.hunks ≤ hunks_a_mark * length marks.old }
-    ensures { Loads (packed_from base) bytes.now memory.old memory.new result }
-{
-    if let Err(hunk) = place_marks(marks, bytes, size.hunks, base) {
+    if let Err(hunk) = place_marks(&mut marks, bytes, size.hunks, base) {
         return no_base(size.bytes, hunk);
     }
-    let mut bases = PackedBases::by(marks, bytes, size.hunks, base);
+    let mut bases = PackedBases::by(&marks, bytes, size.hunks, base);
     load_at(bytes, size, memory, &mut bases)
 }
 

@@ -6,6 +6,7 @@ ghost use Rattle.hunk_scatter.specs.HeaderBytes.{BeginsWithHeader};
 ghost use Rattle.hunk_scatter.specs.Placing.{IsFirstUnplaced, packed_from};
 ghost use Rattle.hunk_c.specs.Loads.{AreBasesOf};
 ghost use Rattle.hunk_c.specs.Packs.{AreMarksTo, AreNearTo, ArePacked, HasRow, IsRow, bases_in, hunks_a_mark};
+ghost use Rattle.hunk_c.specs.Packs.{most_marks};
 ghost use Rattle.hunk_c.specs.Tables.{BeginsWithTableOf};
 
 use hunk_files::Bases;
@@ -37,18 +38,11 @@ impl Mark {
     };
 }
 
-/// How many marks are kept of the most hunks: 8 KiB.
+/// How many marks are kept: 8 KiB.
 pub(crate) const MARKS: usize = 1024;
-
-/// How many marks are kept of `FEW_HUNKS`: 128 bytes, which are cleared in less than a small file
-/// takes to be loaded.
-pub(crate) const FEW_MARKS: usize = 16;
 
 /// The hunks from one mark to the next: `MARKS` times as many are the most of a file.
 const HUNKS_A_MARK: usize = 64;
-
-/// The most hunks whose marks are `FEW_MARKS`.
-pub(crate) const FEW_HUNKS: u32 = 1024;
 
 /// The address space of 32 bits ends here.
 const END: u64 = 1 << 32;
@@ -127,7 +121,7 @@ pub(crate) fn place_marks(
     start: u32,
 ) -> Result<(), u32>
     requires table { BeginsWithTableOf hunks bytes.now }
-    requires room { hunks ≤ hunks_a_mark * length marks.old }
+    requires room { length marks.old ≡ most_marks }
     ensures packed { OnOk result (ArePacked bytes.now hunks start marks.new) }
     ensures bases { OnOk result
         (AreBasesOf (packed_from start) bytes.now (bases_in start hunks bytes.now)) }

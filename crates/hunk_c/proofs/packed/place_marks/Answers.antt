@@ -11,7 +11,7 @@ many : (bytes : List ℕ) (t u : List TableEntry) (n : ℕ) → BeginsWithHeader
 many bytes t u n h e k = ap (λ (v : List TableEntry). length v) (same_header bytes u t k h) ∙ e
 
 pub placing-init : goal.placing-init
-placing-init c t h e = none_packed _ t h c.args.start c.from.result _ c.from.ensures (omega (arith, e, c.requires.room))
+placing-init c t h e = none_packed _ t h c.args.start c.from.result _ c.from.ensures c.requires.room
 
 pub next_row-after-requires : goal.next_row-after-requires
 next_row-after-requires c =
@@ -42,7 +42,7 @@ returns-then-place-ge-END-clause-unplaced c = λ t h.
 pub put_mark-requires-clause-room : goal.put_mark-requires-clause-room
 put_mark-requires-clause-room c =
     let r = c.requires.table in
-    omega (arith, (c.placing.invariant r.0 r.1 r.2).room, r.2, c.placing-test.true)
+    omega (arith, (c.placing.invariant r.0 r.1 r.2).size, r.1.is_table.most, r.2, c.placing-test.true)
 
 pub put_mark-requires-clause-longword : goal.put_mark-requires-clause-longword
 put_mark-requires-clause-longword c =
