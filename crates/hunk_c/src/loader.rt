@@ -131,7 +131,6 @@ impl Loader {
     ///
     /// What each call answers to it: the refusal again, where it has refused a longword; `STRANGE`
     /// where no loader has these numbers.
-    #[inline(always)]
     pub(crate) fn standing(&self) -> Result<Standing, Answer>
         ensures stands { IfOk result (StandsAt self.now) }
         ensures tells { IfErr result (TellsAgain self.now) }
