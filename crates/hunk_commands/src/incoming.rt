@@ -146,7 +146,9 @@ impl Taker for Incoming {
     }
 }
 
-/// Reports the load file that was checked, and answers that nothing is found in it.
+/// Reports the load file that was checked, and answers that nothing is found in it. It is a function
+/// of its own, so that its page is on the stack only while it runs.
+#[inline(never)]
 fn report_load<W: Sink>(check: LoadCheck, w: &mut LongWriter<W>) -> Result<u64, RunFault>
     requires few { length check < counted_bytes }
     requires announced { AnnouncesLoad check }

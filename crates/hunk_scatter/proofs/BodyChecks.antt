@@ -1,5 +1,6 @@
 -- What the check of a body takes of a piece, whatever store it would have made.
-use Rattle.std.proofs.Common.{◌≡◌, ℕ, ◌+◌, ◌*◌, ◌^◌, ◌/◌, ◌%◌, ◌<◌, ◌≤◌, false, List, [], ◌∷◌, ◌++◌, length, take, get_or, None, Some, Result, Ok, Err, refl, sym, ap, subst, ◌∙◌, arith, length-append, length-take}
+use Rattle.std.proofs.Common.{rules, ◌≡◌, ℕ, ◌+◌, ◌*◌, ◌^◌, ◌/◌, ◌%◌, ◌<◌, ◌≤◌, false, List, [], ◌∷◌, ◌++◌, length, take, drop, get_or, get_or-drop, None, Some, Result, Ok, Err, refl, sym, ap, subst, ◌∙◌, arith, append_assoc, length-append, length-drop, length-take}
+use Rattle.std.proofs.Math.Seq.{take-add}
 use Rattle.std.proofs.lemmas.List.{length-map, length-replicate}
 use Rattle.hunk_words.specs.{Longs.{bytes_of, longs, IsBytes, IsLong}, PendingBytes.pending_of}
 use Rattle.hunk_words.specs.{declared.pending.Pending.Pending, declared.reason.Reason.Reason}
@@ -56,6 +57,13 @@ start_fits rows state i = omega (arith, i.segment, i.hunks, declared_limit (entr
 
 -- ---- longwords of a piece
 
+-- where a run goes on the file does
+runs_on : (p : Position) → 0 < run p → is_done p ≡ false
+runs_on p some = search rules
+
+drop_bytes : (bytes : List ℕ) (n : ℕ) → IsBytes bytes → IsBytes (drop n bytes)
+drop_bytes bytes n are k = omega (arith, get_or-drop n bytes k 0, are (n + k))
+
 module _ (rows : List Row) (state : BodyState) (position : Position) (piece : List ℕ) (ready : IsReadyTo rows state position piece) (more : is_done position ≡ false) (are : IsBytes piece) where
   abbrev here : BodyState
   here = record { hunk = state.hunk; start = state.start; position = position }
@@ -97,6 +105,29 @@ module _ (rows : List Row) (state : BodyState) (position : Position) (piece : Li
           stands_as _ _ _ _ _ _ _ _ refl (steps ∙ ap (λ (k : ℕ). pass_body here k) (sym count)) refl
               (run_taken rows r.0 here fed (here_at fed r) (stands_room rows r.0 here [] fed (here_at fed r) more) piece n are inside fours some fits),
         );
+      }
+
+  -- the first, and those of the run that it begins
+  pub word_run_passes : (mid : BodyState) (n : ℕ) → ChecksFront rows state piece mid (Ok 4) → 0 < n → 4 + n ≤ length piece → n % 4 ≡ 0 → n ≤ 4 * run mid.position → (next : BodyState) → next ≡ pass_body mid (n / 4) →
+      ChecksFront rows state piece next (Ok (4 + n))
+  word_run_passes mid n first some inside fours fits next steps =
+      let rest = drop 4 piece in
+      let room : n ≤ length rest = omega (arith, length-drop 4 piece, inside) in
+      let count : length (take n rest) / 4 ≡ n / 4 = omega (arith, length-take n rest, room) in
+      let rest_are : IsBytes rest = drop_bytes piece 4 are in
+      record {
+        some = omega (arith, some);
+        inside = inside;
+        reads = λ fed r. (
+            let r2 = first.reads fed r in
+            let read = run_taken rows r2.0 mid (fed ++ take 4 piece) r2.1 (stands_room rows r2.0 mid [] (fed ++ take 4 piece) r2.1 (runs_on mid.position (omega (arith, some, fits)))) rest n rest_are room fours some fits in
+            let whole : (fed ++ take 4 piece) ++ take n rest ≡ fed ++ take (4 + n) piece =
+            append_assoc fed (take 4 piece) (take n rest) ∙ ap (λ (xs : List ℕ). fed ++ xs) (sym (take-add 4 n piece)) in (
+              stored_run mid (take n rest) r2.0,
+              subst (λ (bs : List ℕ). StandsAfter rows (stored_run mid (take n rest) r2.0) next [] bs) whole
+                  (stands_as _ _ _ _ _ _ _ _ refl (steps ∙ ap (λ (k : ℕ). pass_body mid k) (sym count)) refl read),
+            )
+            );
       }
 
   -- offsets

@@ -54,6 +54,35 @@ fn check_word(
     Ok(4)
 }
 
+/// Takes the longword at the front of the piece, and of the run that it begins what lies whole in the
+/// piece, and gives their number of bytes, or answers why the longword is refused.
+#[inline(always)]
+fn check_word_and_run(
+    rows: &[Row],
+    state: &mut BodyState,
+    position: Position,
+    word: u32,
+    piece: &[u8],
+) -> Result<usize, Reason>
+    requires ready { IsReadyTo rows.now state.old position piece.now }
+    requires goes_on { is_done position ≡ false }
+    requires first_long { word ≡ slice_index (longs piece.now) 0 }
+    ensures { ChecksFront rows.now state.old piece.now state.new result }
+{
+    let taken = match check_word(rows, state, position, word, piece) {
+        Ok(taken) => taken,
+        Err(reason) => return Err(reason),
+    };
+    let whole = (piece.len() - taken) / 4 * 4;
+    let count = (4 * state.position.run()).min(whole as u64);
+    if count == 0 {
+        return Ok(taken);
+    }
+    let position = state.position.pass(count / 4);
+    *state = BodyState { position, ..*state };
+    Ok(taken + count as usize)
+}
+
 /// How many offsets, `most` at most, stand before the first that passes the end of a hunk of
 /// `declared` longwords.
 #[tactic(auto, using(crate::proofs::Offsets::inside_more))]
@@ -134,7 +163,7 @@ fn check_at(
         }
         None => {
             let word = word_at(piece, 0);
-            check_word(rows, state, position, word, piece)
+            check_word_and_run(rows, state, position, word, piece)
         }
     }
 }
