@@ -23,12 +23,7 @@ pub fn print_load_summary<W: Sink>(page: &mut Printer<'_, W>, file: &LoadView<'_
 }
 
 /// Reports a load file of so many hunks, which declare so many bytes, and that `rest` bytes follow.
-pub fn print_load_totals<W: Sink>(
-    page: &mut Printer<'_, W>,
-    hunks: u32,
-    bytes: u64,
-    rest: u64,
-)
+pub fn print_load_totals<W: Sink>(page: &mut Printer<'_, W>, hunks: u32, bytes: u64, rest: u64)
     ensures { Prints page.old page.new (load_line hunks bytes ++ where_rest rest) }
 {
     print_load_line(page, hunks, bytes);
