@@ -83,11 +83,37 @@ fn check_word_and_run(
     Ok(taken + count as usize)
 }
 
+/// Whether the first `count` offsets all end in a hunk of `declared` longwords.
+#[inline(never)]
+fn are_inside(declared: u32, offsets: &[u8], count: usize) -> bool
+    requires offsets { 4 * count ≤ length offsets.now }
+    ensures { result ≡ true → AllByRecursion (EndsWithin (4 * declared))
+        (take count (longs offsets.now)) }
+{
+    let mut largest = 0;
+    'offsets: for i in 0..count {
+        // Where a longword is put together from its bytes, and not read by `word_at`, the compiler
+        // makes the loop four longwords wide.
+        let start = 4 * i;
+        let long = u32::from_be_bytes([
+            offsets[start],
+            offsets[start + 1],
+            offsets[start + 2],
+            offsets[start + 3],
+        ]);
+        largest = largest.max(long);
+    }
+    if is_outside(largest, declared) {
+        return false;
+    }
+    true
+}
+
 /// How many offsets, `most` at most, stand before the first that passes the end of a hunk of
 /// `declared` longwords.
 #[tactic(auto, using(crate::proofs::Offsets::inside_more))]
 #[inline(never)]
-fn offsets_inside(declared: u32, offsets: &[u8], most: usize) -> usize
+fn count_inside(declared: u32, offsets: &[u8], most: usize) -> usize
     requires offsets { 4 * most ≤ length offsets.now }
     ensures bound { result ≤ most }
     ensures ends_within { AllByRecursion (EndsWithin (4 * declared))
@@ -101,6 +127,20 @@ fn offsets_inside(declared: u32, offsets: &[u8], most: usize) -> usize
         count += 1;
     }
     count
+}
+
+/// The same; where none of them passes the end, by one loop that has no way out.
+#[inline(always)]
+fn offsets_inside(declared: u32, offsets: &[u8], most: usize) -> usize
+    requires offsets { 4 * most ≤ length offsets.now }
+    ensures bound { result ≤ most }
+    ensures ends_within { AllByRecursion (EndsWithin (4 * declared))
+        (take result (longs offsets.now)) }
+{
+    if are_inside(declared, offsets, most) {
+        return most;
+    }
+    count_inside(declared, offsets, most)
 }
 
 /// Takes the offsets that lie whole in the piece, up to the last but one of their list or to the
