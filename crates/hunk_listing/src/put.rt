@@ -33,6 +33,7 @@ pub(crate) fn put_decimal(room: &mut [u8], at: usize, number: u64) -> usize
     put_long_decimal(room, at, number)
 }
 
+/// Puts the number in decimal, which has two digits at least.
 fn put_long_decimal(room: &mut [u8], at: usize, number: u64) -> usize
     requires fits { at + 20 ≤ length room.old }
     requires long { 10 ≤ number }
