@@ -158,6 +158,7 @@ fn lends(rt: HostRuntime) -> Result<(), Fail> {
     assert_equal(&rt, source.held(), b"".as_slice());
     assert_equal(&rt, source.pull(&mut buf), Ok(2));
     assert_equal(&rt, source.held(), b"cde".as_slice());
+    assert!(rt; !source.held().is_empty());
     source.consume(1);
     assert_equal(&rt, source.pull(&mut buf), Ok(2));
     assert_equal(&rt, &buf, b"de");
