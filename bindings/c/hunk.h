@@ -4,7 +4,7 @@
  * Whatever the bytes are, each call gives one of the answers listed with it; what of this is proved
  * is in docs/PROVED.md of the source tree. A call reads and writes only what its arguments point
  * to, asks for no memory, and keeps nothing between two calls. So threads may call at the same
- * time, as long as no call writes memory that another one uses. hunk_load_packed needs 9 KiB of
+ * time, as long as no call writes memory that another one uses. hunk_load_packed needs 6 KiB of
  * stack, each other call less than 1 KiB.
  *
  * What the caller has to make sure of:

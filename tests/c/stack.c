@@ -4,25 +4,30 @@
 
 #define STACK (1 << 18)
 #define ALL 1024           /* bytes that each call may need */
-#define PACKED (9 * 1024)  /* that hunk_load_packed may */
+#define PACKED (6 * 1024)  /* that hunk_load_packed may */
 #define HUNKS 2
 #define HEADER 28
 #define FINDINGS 2
 #define BLOCKS 7
+#define MANY 4096          /* hunks of a file whose load keeps all marks */
+#define TABLE_LONGS 5      /* longwords of a header before its table */
 
 /* A load file of a code hunk with a relocation, a symbol and debug data, and of a BSS hunk. An
  * object file of such a code hunk, whose relocation has no target, and whose reference lies
- * outside. */
+ * outside. The hunk of which there are many, without its target. */
 static const uint32_t load_longs[] = {
     0x3F3, 0, HUNKS, 0, 1, 2, 1, 0x3E9, 2, 0, 0, 0x3EC, 1, 1, 4, 0,
     0x3F0, 1, 0x73000000, 0, 0, 0x3F1, 1, 0, 0x3F2, 0x3EB, 1, 0x3F2};
 static const uint32_t object_longs[] = {
     0x3E7, 0, 0x3E9, 1, 0, 0x3EC, 1, 1, 0, 0, 0x3EF, 0x81000001, 0x73000000, 1, 4, 0,
     0x3F0, 1, 0x73000000, 0, 0, 0x3F1, 1, 0, 0x3F2};
+static const uint32_t hunk_longs[] = {0x3E9, 1, 0, 0x3EC, 1, 0, 0, 0, 0x3F2};
 static uint8_t file[sizeof load_longs];
 static uint8_t object[sizeof object_longs];
+static uint8_t many[4 * (TABLE_LONGS + MANY) + MANY * sizeof hunk_longs];
 
 static uint8_t memory[12];
+static uint8_t many_memory[4 * MANY];
 static uint8_t text[sizeof load_longs];
 static struct hunk_row rows[HUNKS];
 static struct hunk_place places[HUNKS] = {{2, 0, 0}, {1, 0, 8}};
@@ -43,10 +48,30 @@ static void put_longs(uint8_t *bytes, const uint32_t *longs, size_t len)
         bytes[i] = (uint8_t)(longs[i / 4] >> (24 - 8 * (i % 4)));
 }
 
+/* A load file of many hunks of a longword, each relocated to one far from the last. */
+static void put_many(void)
+{
+    const uint32_t header[TABLE_LONGS] = {0x3F3, 0, MANY, 0, MANY - 1};
+    const uint32_t size = 1;
+    uint8_t *at = many + sizeof header;
+    put_longs(many, header, sizeof header);
+    for (uint32_t i = 0; i < MANY; i++, at += sizeof size)
+        put_longs(at, &size, sizeof size);
+    for (uint32_t i = 0; i < MANY; i++, at += sizeof hunk_longs) {
+        const uint32_t target = (i * 1777 + 1) % MANY;
+        put_longs(at, hunk_longs, sizeof hunk_longs);
+        put_longs(at + 20, &target, sizeof target);
+    }
+}
+
 static void nothing(void) { answer.number = HUNK_OK; }
 static void table(void) { answer = hunk_table(file, sizeof file, 12, rows, HUNKS); }
 static void load(void) { answer = hunk_load(file, sizeof file, bases, HUNKS, memory, 12); }
 static void packed(void) { answer = hunk_load_packed(file, sizeof file, 0, memory, 12); }
+static void packed_many(void)
+{
+    answer = hunk_load_packed(many, sizeof many, 0, many_memory, sizeof many_memory);
+}
 static void begin(void) { answer = hunk_begin(&loader, places, HUNKS, HEADER, memory, 12); }
 static void end(void) { answer = hunk_end(&loader); }
 static void want(void) { answer = hunk_want(&loader); }
@@ -77,6 +102,7 @@ static const struct {
     {"hunk_table", table, ALL},
     {"hunk_load", load, ALL},
     {"hunk_load_packed", packed, PACKED},
+    {"hunk_load_packed of many hunks", packed_many, PACKED},
     {"hunk_begin", begin, ALL},
     {"hunk_feed", feed, ALL},
     {"hunk_end", end, ALL},
@@ -122,6 +148,7 @@ int main(void)
 {
     put_longs(file, load_longs, sizeof file);
     put_longs(object, object_longs, sizeof object);
+    put_many();
     size_t none = stack_of(nothing);
     for (size_t i = 0; i < sizeof calls / sizeof *calls; i++) {
         size_t needed = stack_of(calls[i].make) - none;

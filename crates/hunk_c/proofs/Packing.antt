@@ -11,9 +11,9 @@ use Rattle.hunk_scatter.specs.Placing.{AreBases, IsFirstUnplaced, base_at, liste
 use Rattle.hunk_scatter.specs.{HeaderSizes.HasHeaderSize, declared.header_state.HeaderSize.HeaderSize}
 use Rattle.hunk_scatter.proofs.DeclaredBytes.{declared-append, declared-cons}
 use Rattle.hunk_c.specs.declared.packed.Mark.{Mark}
-use Rattle.hunk_c.specs.Packs.{ArePacked, AreMarksTo, AreNearTo, HasRow, IsRow, RowStandsAt, bases_in, hunks_a_mark, most_marks, no_mark, packed_after}
+use Rattle.hunk_c.specs.Packs.{ArePacked, AreMarksTo, AreNearTo, AreShort, HasRow, HasShortRows, IsRow, RowStandsAt, bases_in, hunks_a_mark, hunks_near, packed_after}
 use Rattle.hunk_c.specs.Loads.{AreBasesOf}
-use Rattle.hunk_c.proofs.{Succeeding.same_header, TableRows.{no_entry, stands_first, stands_next, entry_is}}
+use Rattle.hunk_c.proofs.{Succeeding.same_header, TableRows.{no_entry, stands_first, stands_next, entry_is, word_room}}
 
 -- ---- a table, entry by entry
 
@@ -89,28 +89,36 @@ module _ (bytes : List ℕ) (t : List TableEntry) (h : BeginsWithHeader bytes t)
 pub record PackedSoFar {bytes : List ℕ} {t : List TableEntry} (h : BeginsWithHeader bytes t) (start : ℕ) (marks : List Mark) (hunk at base : ℕ) : Type 0 where
   pub is_row : IsRow h start hunk at base
   pub near : at ≤ 5 + 2 * hunk
+  pub far : 5 + hunk ≤ at
+  pub short : at ≡ 5 + hunk → (i : ℕ) → i < hunk → RowStandsAt bytes t h i (5 + i)
   pub are_marks : AreMarksTo h start marks hunk
-  pub size : length marks ≡ most_marks
+  pub room : length t ≤ hunks_a_mark * length marks
   pub placed : (i : ℕ) → i < hunk → base_at (packed_from start) t i ≡ Some (start + declared_bytes (take i t))
   pub each : (i : ℕ) → i < hunk → start + declared_bytes (take i t) < 2 ^ 32
 
-pub none_packed : (bytes : List ℕ) (t : List TableEntry) (h : BeginsWithHeader bytes t) (start base : ℕ) (marks : List Mark) → base ≡ start → length marks ≡ most_marks → PackedSoFar h start marks 0 5 base
-none_packed bytes t h start base marks e n = record {
+pub none_packed : (bytes : List ℕ) (t : List TableEntry) (h : BeginsWithHeader bytes t) (start base : ℕ) (marks : List Mark) → base ≡ start → length t ≤ hunks_a_mark * length marks → PackedSoFar h start marks 0 5 base
+none_packed bytes t h start base marks e room = record {
   is_row = record { stands = stands_first bytes t h; base_is = omega (arith, e) };
   near = omega arith;
+  far = omega arith;
+  short = λ _ i less. absurd (omega (arith, less));
   are_marks = λ k less. absurd (omega (arith, less));
-  size = n;
+  room = room;
   placed = λ i less. absurd (omega (arith, less));
   each = λ i less. absurd (omega (arith, less));
 }
 
 module _ (bytes : List ℕ) (t : List TableEntry) (h : BeginsWithHeader bytes t) (start : ℕ) (marks : List Mark) (hunk at base : ℕ) (s : PackedSoFar h start marks hunk at base) (inside : hunk < length t) (at2 base2 : ℕ) (r : IsRow h start (hunk + 1) at2 base2) where
-  pub packed_more : (marks2 : List Mark) → at2 ≤ at + 2 → AreMarksTo h start marks2 (hunk + 1) → length marks2 ≡ length marks → base < 2 ^ 32 → base2 ≤ 2 ^ 32 → PackedSoFar h start marks2 (hunk + 1) at2 base2
-  packed_more marks2 near are n low fits = record {
+  pub packed_more : (marks2 : List Mark) → at < at2 → at2 ≤ at + 2 → AreMarksTo h start marks2 (hunk + 1) → length marks2 ≡ length marks → base < 2 ^ 32 → base2 ≤ 2 ^ 32 → PackedSoFar h start marks2 (hunk + 1) at2 base2
+  packed_more marks2 more near are n low fits = record {
     is_row = r;
     near = omega (arith, near, s.near);
+    far = omega (arith, more, s.far);
+    short = λ e.
+        let same : at ≡ 5 + hunk = omega (arith, e, more, s.far) in
+        below_more (λ (k : ℕ). RowStandsAt bytes t h k (5 + k)) hunk (s.short same) (subst (λ (n : ℕ). RowStandsAt bytes t h hunk n) same s.is_row.stands);
     are_marks = are;
-    size = n ∙ s.size;
+    room = omega (arith, n, s.room);
     placed =
         below_more (λ (k : ℕ). base_at (packed_from start) t k ≡ Some (start + declared_bytes (take k t))) hunk s.placed
         (placed_at t start hunk base base2 inside s.is_row.base_is r.base_is low fits ∙ ap (λ (k : ℕ). Some k) s.is_row.base_is);
@@ -139,31 +147,20 @@ module _ (bytes : List ℕ) (t : List TableEntry) (h : BeginsWithHeader bytes t)
     few = few;
     each = λ i less. s.each i (omega (arith, all, less, many));
     are_marks = λ k less. s.are_marks k (omega (arith, all, less, many));
-    size = s.size;
+    room = omega (arith, many, s.room);
   }
 
--- ---- the bases near a mark
+  pub are_short : at ≡ 5 + hunks → hunk ≡ hunks → AreShort h
+  are_short e end i less = s.short (omega (arith, e, end)) i (omega (arith, less, many, end))
 
--- Those of the hunks before this one stand there, and its row is the next.
-pub record NearSoFar {bytes : List ℕ} {hunks start : ℕ} {marks : List Mark} (p : ArePacked bytes hunks start marks) (number : ℕ) (near : List ℕ) (hunk at base : ℕ) : Type 0 where
-  pub is_row : IsRow p.header start hunk at base
-  pub are_near : AreNearTo (bases_in start hunks bytes) number near hunk
-
--- one base more stands there
-near_more : (bases near : List ℕ) (number hunk base : ℕ) → hunk / hunks_a_mark ≡ number → length near ≡ hunks_a_mark → base ≡ get_or bases hunk 0 → AreNearTo bases number near hunk →
-    AreNearTo bases number (set near (hunk % hunks_a_mark) base) (hunk + 1)
-near_more bases near number hunk base here long is are i less same = search rules
+-- ---- the rows by the marks
 
 module _ (bytes : List ℕ) (hunks start : ℕ) (marks : List Mark) (p : ArePacked bytes hunks start marks) where
   pub has_base : (hunk : ℕ) → hunk < length (bases_in start hunks bytes) → hunk < hunks
   has_base hunk less = omega (arith, less, bases_length bytes p.table p.header start hunks p.hunks_are, p.hunks_are)
 
-  module _ (number : ℕ) (less : hunks_a_mark * number < hunks) where
-    pub mark_inside : number < length marks
-    mark_inside = omega (arith, less, p.hunks_are, p.header.is_table.most, p.size)
-
-    pub none_near : (near : List ℕ) (base : ℕ) → base ≡ (get_or marks number no_mark).base → NearSoFar p number near (hunks_a_mark * number) (get_or marks number no_mark).longword base
-    none_near near base e = search rules
+  pub mark_inside : (hunk : ℕ) → hunk < hunks → hunk / hunks_a_mark < length marks
+  mark_inside hunk less = omega (arith, less, p.room)
 
   module _ (hunk at base : ℕ) (r : IsRow p.header start hunk at base) (less : hunk < hunks) where
     inside : hunk < length p.table
@@ -181,11 +178,49 @@ module _ (bytes : List ℕ) (hunks start : ℕ) (marks : List Mark) (p : ArePack
     pub row_after : (at2 base2 : ℕ) → (hunk < length p.table → IsRow p.header start hunk at base → IsRow p.header start (hunk + 1) at2 base2) → IsRow p.header start (hunk + 1) at2 base2
     row_after at2 base2 next = next inside r
 
-  pub near_next : (number : ℕ) (near : List ℕ) (hunk at base : ℕ) (s : NearSoFar p number near hunk at base) → hunk < hunks → (at2 base2 : ℕ) → hunk / hunks_a_mark ≡ number → length near ≡ hunks_a_mark →
-      (hunk < length p.table → IsRow p.header start hunk at base → IsRow p.header start (hunk + 1) at2 base2) → NearSoFar p number (set near (hunk % hunks_a_mark) base) (hunk + 1) at2 base2
+  -- where each row is a longword
+  module _ (short : HasShortRows bytes) where
+    pub short_at : (hunk at base : ℕ) → IsRow p.header start hunk at base → hunk < hunks → IsRow p.header start hunk (5 + hunk) base
+    short_at hunk at base r less = record { stands = short p.table p.header hunk (inside hunk at base r less); base_is = r.base_is }
+
+    module _ (hunk base : ℕ) (r : IsRow p.header start hunk (5 + hunk) base) (less : hunk + 1 < hunks) where
+      here : hunk < hunks
+      here = omega (arith, less)
+
+      pub short_room : 4 * (5 + hunk) + 4 ≤ length bytes
+      short_room = word_room bytes p.table p.header hunk (5 + hunk) r.stands (inside hunk (5 + hunk) base r here)
+
+      module _ (word : ℕ) (reads : word ≡ get_or (longs bytes) (5 + hunk) 0) where
+        after : IsRow p.header start (hunk + 1) (5 + hunk + entry_longs word) (base + 4 * size_longs word)
+        after = row_next bytes p.table p.header start hunk (5 + hunk) base r (inside hunk (5 + hunk) base r here) word _ reads refl (entry_longs word) (4 * size_longs word) refl refl
+
+        pub short_next : IsRow p.header start (hunk + 1) (5 + (hunk + 1)) (base + 4 * size_longs word)
+        short_next = short_at (hunk + 1) (5 + hunk + entry_longs word) (base + 4 * size_longs word) after less
+
+        pub short_low : base + 4 * size_longs word < 2 ^ 32
+        short_low = omega (arith, after.base_is, p.each (hunk + 1) less)
+
+-- ---- the bases kept together
+
+-- Those of the hunks before this one stand there, and its row is the next.
+pub record NearSoFar {bytes : List ℕ} {hunks start : ℕ} {marks : List Mark} (p : ArePacked bytes hunks start marks) (number : ℕ) (near : List ℕ) (hunk at base : ℕ) : Type 0 where
+  pub is_row : IsRow p.header start hunk at base
+  pub are_near : AreNearTo (bases_in start hunks bytes) number near hunk
+
+-- one base more stands there
+near_more : (bases near : List ℕ) (number hunk base : ℕ) → hunk / hunks_near ≡ number → length near ≡ hunks_near → base ≡ get_or bases hunk 0 → AreNearTo bases number near hunk →
+    AreNearTo bases number (set near (hunk % hunks_near) base) (hunk + 1)
+near_more bases near number hunk base here long is are i less same = search rules
+
+module _ (bytes : List ℕ) (hunks start : ℕ) (marks : List Mark) (p : ArePacked bytes hunks start marks) where
+  pub none_near : (number at base : ℕ) (near : List ℕ) → IsRow p.header start (hunks_near * number) at base → NearSoFar p number near (hunks_near * number) at base
+  none_near number at base near r = record { is_row = r; are_near = λ i less same. absurd (omega (arith, less, same)) }
+
+  pub near_next : (number : ℕ) (near : List ℕ) (hunk at base : ℕ) (s : NearSoFar p number near hunk at base) → hunk < hunks → (at2 base2 : ℕ) → hunk / hunks_near ≡ number → length near ≡ hunks_near →
+      (hunk < length p.table → IsRow p.header start hunk at base → IsRow p.header start (hunk + 1) at2 base2) → NearSoFar p number (set near (hunk % hunks_near) base) (hunk + 1) at2 base2
   near_next number near hunk at base s less at2 base2 here long next = record {
-    is_row = row_after hunk at base s.is_row less at2 base2 next;
-    are_near = near_more (bases_in start hunks bytes) near number hunk base here long (base_found hunk at base s.is_row less) s.are_near;
+    is_row = row_after bytes hunks start marks p hunk at base s.is_row less at2 base2 next;
+    are_near = near_more (bases_in start hunks bytes) near number hunk base here long (base_found bytes hunks start marks p hunk at base s.is_row less) s.are_near;
   }
 
 -- ---- lists of bases

@@ -1,5 +1,5 @@
 -- Hunks one right after the other, by a table that is read where it lies.
-use Rattle.std.specs.Prelude.{◌≡◌, ℕ, ◌+◌, ◌*◌, ◌/◌, ◌%◌, ◌^◌, ◌<◌, List, [], ◌∷◌, ◌++◌, length, take, drop, get_or}
+use Rattle.std.specs.Prelude.{◌≡◌, ℕ, ◌+◌, ◌*◌, ◌/◌, ◌%◌, ◌^◌, ◌<◌, ◌≤◌, List, [], ◌∷◌, ◌++◌, length, take, drop, get_or}
 use Rattle.std.specs.List.{flat_map}
 use Rattle.hunk_words.specs.Bits.{size_longs}
 use Rattle.hunk_words.specs.Longs.{longs}
@@ -31,20 +31,24 @@ pub record HasRow (bytes : List ℕ) (place : RowPlace) : Type 0 where
   pub inside : hunk < length table
   pub is_row : IsRow header start hunk place.longword place.base
 
--- ---- marks
+-- Each row is one longword.
+abbrev pub AreShort : {bytes : List ℕ} {t : List TableEntry} → BeginsWithHeader bytes t → Type 0
+AreShort {bytes} {t} h = (i : ℕ) → i < length t → RowStandsAt bytes t h i (5 + i)
 
--- how many there are
-abbrev pub most_marks : ℕ
-most_marks = 1024
+-- So it is with the table of the header that the bytes begin with.
+abbrev pub HasShortRows : List ℕ → Type 0
+HasShortRows bytes = (t : List TableEntry) (h : BeginsWithHeader bytes t) → AreShort h
+
+-- ---- marks
 
 -- how many hunks lie from one mark to the next
 abbrev pub hunks_a_mark : ℕ
-hunks_a_mark = 64
+hunks_a_mark = 128
 
 abbrev pub no_mark : Mark
 no_mark = record { longword = 0; base = 0 }
 
--- The marks of hunks before this one are the places of every 64th row.
+-- The marks of hunks before this one are the places of every 128th row.
 abbrev pub AreMarksTo : {bytes : List ℕ} {t : List TableEntry} → BeginsWithHeader bytes t → ℕ → List Mark → ℕ → Type 0
 AreMarksTo h start marks i =
     (k : ℕ) → hunks_a_mark * k < i → IsRow h start (hunks_a_mark * k) (get_or marks k no_mark).longword (get_or marks k no_mark).base
@@ -57,7 +61,7 @@ pub record ArePacked (bytes : List ℕ) (hunks start : ℕ) (marks : List Mark) 
   pub few : start < 2 ^ 32
   pub each : (i : ℕ) → i < hunks → start + declared_bytes (take i table) < 2 ^ 32
   pub are_marks : AreMarksTo header start marks hunks
-  pub size : length marks ≡ most_marks
+  pub room : hunks ≤ hunks_a_mark * length marks
 
 -- ---- the bases by the longwords
 
@@ -69,7 +73,11 @@ packed_after start (e ∷ t) = start ∷ packed_after (start + 4 * size_longs e.
 unfoldable pub bases_in : ℕ → ℕ → List ℕ → List ℕ
 bases_in start hunks bytes = packed_after start (table_cut hunks (drop 5 (longs bytes))).value
 
--- Of the hunks before this one, those from the mark of this number to the next have these bases.
+-- how many hunks have their bases kept together
+abbrev pub hunks_near : ℕ
+hunks_near = 32
+
+-- Of the hunks before this one, those of this number have these bases.
 abbrev pub AreNearTo : List ℕ → ℕ → List ℕ → ℕ → Type 0
 AreNearTo bases number near hunk =
-    (i : ℕ) → i < hunk → i / hunks_a_mark ≡ number → get_or near (i % hunks_a_mark) 0 ≡ get_or bases i 0
+    (i : ℕ) → i < hunk → i / hunks_near ≡ number → get_or near (i % hunks_near) 0 ≡ get_or bases i 0

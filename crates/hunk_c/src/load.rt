@@ -1,13 +1,14 @@
 //! Load files, loaded into the caller's memory.
-ghost use Rattle.std.specs.Prelude.{◌≡◌, ◌≤◌, ◌-◌, ◌^◌, length, IfOk, IfErr};
+ghost use Rattle.std.specs.Prelude.{◌≡◌, ◌≤◌, ◌-◌, ◌*◌, ◌^◌, length, IfOk, IfErr};
 ghost use Rattle.hunk_words.specs.declared.reason.Reason.TheVariants as reasons;
 ghost use Rattle.hunk_scatter.specs.HeaderSizes.{HasHeaderSize};
 ghost use Rattle.hunk_scatter.specs.Placing.{Placing, listed_in, packed_from};
 ghost use Rattle.hunk_c.specs.Answers.{refused};
 ghost use Rattle.hunk_c.specs.Loads.{AreBasesOf, IsNotLoaded, Loads, LoadsWhatFits};
+ghost use Rattle.hunk_c.specs.Packs.{hunks_a_mark};
 
 use crate::answer::{Answer, done, no_room, refused};
-use crate::packed::{MARKS, Mark, PackedBases, place_marks};
+use crate::packed::{FEW_MARKS, HUNKS_A_MARK, MARKS, Mark, PackedBases, place_marks};
 use hunk_files::{Bases, LoadView};
 use hunk_scatter::stream::{HeaderSize, header_size};
 use hunk_words::{Fault, Reason};
@@ -42,11 +43,54 @@ pub extern "C" fn hunk_load_packed(bytes: &[u8], base: u32, memory: &mut [u8]) -
         Ok(size) => size,
         Err(answer) => return answer,
     };
-    let mut marks = [Mark::NONE; MARKS];
-    if let Err(hunk) = place_marks(&mut marks, bytes, size.hunks, base) {
-        return no_base(size.bytes, hunk);
+    if size.hunks as usize <= HUNKS_A_MARK * FEW_MARKS {
+        return load_few(bytes, size, base, memory);
     }
-    let mut bases = PackedBases::by(&marks, bytes, size.hunks, base);
+    load_many(bytes, size, base, memory)
+}
+
+/// Loads the file that the bytes begin with, which has few hunks, one right after the other from
+/// `base` on. Only so many marks are cleared.
+#[inline(never)]
+fn load_few(bytes: &[u8], size: HeaderSize, base: u32, memory: &mut [u8]) -> Answer
+    requires size { HasHeaderSize (2 ^ 64 - 1) bytes.now size }
+    requires room { size.declared ≤ length memory.old }
+    requires few { size.hunks ≤ 16 * hunks_a_mark }
+    ensures { Loads (packed_from base) bytes.now memory.old memory.new result }
+{
+    let mut marks = [Mark::NONE; FEW_MARKS];
+    load_marked(&mut marks, bytes, size, base, memory)
+}
+
+/// The same for a file of any number of hunks.
+#[inline(never)]
+fn load_many(bytes: &[u8], size: HeaderSize, base: u32, memory: &mut [u8]) -> Answer
+    requires size { HasHeaderSize (2 ^ 64 - 1) bytes.now size }
+    requires room { size.declared ≤ length memory.old }
+    ensures { Loads (packed_from base) bytes.now memory.old memory.new result }
+{
+    let mut marks = [Mark::NONE; MARKS];
+    load_marked(&mut marks, bytes, size, base, memory)
+}
+
+/// The same by these marks, whatever they were.
+fn load_marked(
+    marks: &mut [Mark],
+    bytes: &[u8],
+    size: HeaderSize,
+    base: u32,
+    memory: &mut [u8],
+) -> Answer
+    requires size { HasHeaderSize (2 ^ 64 - 1) bytes.now size }
+    requires room { size.declared ≤ length memory.old }
+    requires marks { size.hunks ≤ hunks_a_mark * length marks.old }
+    ensures { Loads (packed_from base) bytes.now memory.old memory.new result }
+{
+    let short = match place_marks(marks, bytes, size.hunks, base) {
+        Ok(short) => short,
+        Err(hunk) => return no_base(size.bytes, hunk),
+    };
+    let mut bases = PackedBases::by(marks, bytes, size.hunks, base, short);
     load_at(bytes, size, memory, &mut bases)
 }
 

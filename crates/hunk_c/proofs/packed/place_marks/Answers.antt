@@ -1,7 +1,8 @@
 use Rattle.std.proofs.Common.{◌≡◌, ◌<◌, ℕ, List, length, sym, ap, ◌∙◌, arith, inl, inr}
+use Rattle.std.proofs.lemmas.Bool.{eqb-true}
 use Rattle.hunk_files.specs.LoadFile.{TableEntry}
 use Rattle.hunk_scatter.specs.HeaderBytes.{BeginsWithHeader}
-use Rattle.hunk_c.proofs.Packing.{all_packed, are_packed, none_packed, packed_more, packed_not}
+use Rattle.hunk_c.proofs.Packing.{all_packed, are_packed, are_short, none_packed, packed_more, packed_not}
 use Rattle.hunk_c.proofs.Succeeding.{same_header}
 use Rattle.hunk_c.proofs.packed.place_marks.Goals as goal
 use Rattle.hunk_c.proofs.packed.place_marks.Goals.{then-place-ge-END-via-then-place-ge-END, then-place-ge-END-via-else-place-ge-END+then-after-gt-END}
@@ -11,7 +12,7 @@ many : (bytes : List ℕ) (t u : List TableEntry) (n : ℕ) → BeginsWithHeader
 many bytes t u n h e k = ap (λ (v : List TableEntry). length v) (same_header bytes u t k h) ∙ e
 
 pub placing-init : goal.placing-init
-placing-init c t h e = none_packed _ t h c.args.start c.from.result _ c.from.ensures c.requires.room
+placing-init c t h e = none_packed _ t h c.args.start c.from.result _ c.from.ensures (omega (arith, e, c.requires.room))
 
 pub next_row-after-requires : goal.next_row-after-requires
 next_row-after-requires c =
@@ -42,7 +43,7 @@ returns-then-place-ge-END-clause-unplaced c = λ t h.
 pub put_mark-requires-clause-room : goal.put_mark-requires-clause-room
 put_mark-requires-clause-room c =
     let r = c.requires.table in
-    omega (arith, (c.placing.invariant r.0 r.1 r.2).size, r.1.is_table.most, r.2, c.placing-test.true)
+    omega (arith, (c.placing.invariant r.0 r.1 r.2).room, r.2, c.placing-test.true)
 
 pub put_mark-requires-clause-longword : goal.put_mark-requires-clause-longword
 put_mark-requires-clause-longword c =
@@ -54,7 +55,7 @@ placing-preserved c t h e =
     let s = c.placing.invariant t h e in
     let inside : c.placing.hunk < length t = omega (arith, e, c.placing-test.true) in
     packed_more _ t h c.args.start c.placing.marks c.placing.hunk _ _ s inside _ _ (c.next_row-after.ensures.row t h c.args.start c.placing.hunk inside s.is_row) c.put_mark.new.marks
-    c.next_row-after.ensures.near (c.put_mark.ensures _ t h c.args.start s.are_marks s.is_row) c.put_mark.auto.marks
+    c.next_row-after.ensures.more c.next_row-after.ensures.near (c.put_mark.ensures _ t h c.args.start s.are_marks s.is_row) c.put_mark.auto.marks
     (omega (arith, c.if-place-ge-END.false)) (omega (arith, c.if-after-gt-END.false))
 
 pub returns-clause-packed : goal.returns-clause-packed
@@ -67,3 +68,10 @@ returns-clause-bases c = λ t h.
     let r = c.requires.table in
     let e = many _ r.0 t c.args.hunks r.1 r.2 h in
     all_packed _ t h c.args.start c.args.hunks c.placing.marks c.placing.hunk _ _ (sym e) (omega (arith, e, c.placing-test.false)) (c.placing.invariant t h e)
+
+pub returns-clause-short : goal.returns-clause-short
+returns-clause-short c = λ short t h.
+    let r = c.requires.table in
+    let e = many _ r.0 t c.args.hunks r.1 r.2 h in
+    let s = c.placing.invariant t h e in
+    are_short _ t h c.args.start c.args.hunks c.placing.marks c.placing.hunk _ _ (sym e) (omega (arith, e, c.placing-test.false)) s (eqb-true _ _ short) (omega (arith, c.placing-test.false))

@@ -1,12 +1,9 @@
 use Rattle.std.proofs.Common.{◌<◌, arith}
-use Rattle.hunk_c.proofs.Packing.{base_low, has_row, mark_inside, near_next, none_near}
+use Rattle.hunk_c.proofs.Packing.{base_low, has_row, near_next, none_near}
 use Rattle.hunk_c.proofs.packed.put_near.Goals as goal
 
-pub bounds-marks-number : goal.bounds-marks-number
-bounds-marks-number c = mark_inside _ _ _ _ c.requires.packed.1 c.args.number c.requires.inside
-
 pub rows-init : goal.rows-init
-rows-init c start p = none_near _ _ _ _ p c.args.number c.requires.inside c.args.near.now c.from.result c.from.ensures
+rows-init c start p = none_near _ _ _ _ p c.args.number _ _ c.args.near.now (c.place_of-place.ensures start p)
 
 pub overflow_cast-near : goal.overflow_cast-near
 overflow_cast-near c =

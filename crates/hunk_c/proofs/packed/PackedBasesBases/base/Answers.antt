@@ -9,7 +9,7 @@ few bases now hunk e less = subst (λ (l : List ℕ). hunk < length l) (sym e) l
 pub returns-then-self-number-clause-base : goal.returns-then-self-number-clause-base
 returns-then-self-number-clause-base c =
     let less = has_base _ _ _ _ c.self.invariant.0 c.args.hunk (few _ _ _ c.self.view_is c.requires) in
-    c.self.invariant.1 c.args.hunk less (sym c.if-self-number.true)
+    c.self.invariant.2 c.args.hunk less (sym c.if-self-number.true)
     ∙ ap (λ (bases : List ℕ). get_or bases c.args.hunk 0) c.self.view_is
 
 pub base_of-requires-clause-inside : goal.base_of-requires-clause-inside
