@@ -6,6 +6,7 @@ pub mod MayStand
 pub mod Numbers
 pub mod OneFile
 pub mod Packing
+mod ShortRows
 pub mod Passing
 pub mod Streamed
 pub mod Succeeding

@@ -11,7 +11,7 @@ use Rattle.hunk_scatter.specs.Placing.{AreBases, IsFirstUnplaced, base_at, liste
 use Rattle.hunk_scatter.specs.{HeaderSizes.HasHeaderSize, declared.header_state.HeaderSize.HeaderSize}
 use Rattle.hunk_scatter.proofs.DeclaredBytes.{declared-append, declared-cons}
 use Rattle.hunk_c.specs.declared.packed.Mark.{Mark}
-use Rattle.hunk_c.specs.Packs.{ArePacked, AreMarksTo, AreNearTo, AreShort, HasRow, HasShortRows, IsRow, RowStandsAt, bases_in, hunks_a_mark, hunks_near, packed_after}
+use Rattle.hunk_c.specs.Packs.{ArePacked, AreMarksTo, AreNearTo, AreShort, AreShortFrom, HasRow, IsRow, RowStandsAt, bases_in, hunks_a_mark, hunks_near, no_mark, packed_after}
 use Rattle.hunk_c.specs.Loads.{AreBasesOf}
 use Rattle.hunk_c.proofs.{Succeeding.same_header, TableRows.{no_entry, stands_first, stands_next, entry_is, word_room}}
 
@@ -178,27 +178,33 @@ module _ (bytes : List ℕ) (hunks start : ℕ) (marks : List Mark) (p : ArePack
     pub row_after : (at2 base2 : ℕ) → (hunk < length p.table → IsRow p.header start hunk at base → IsRow p.header start (hunk + 1) at2 base2) → IsRow p.header start (hunk + 1) at2 base2
     row_after at2 base2 next = next inside r
 
-  -- where each row is a longword
-  module _ (short : HasShortRows bytes) where
-    pub short_at : (hunk at base : ℕ) → IsRow p.header start hunk at base → hunk < hunks → IsRow p.header start hunk (5 + hunk) base
-    short_at hunk at base r less = record { stands = short p.table p.header hunk (inside hunk at base r less); base_is = r.base_is }
+  -- where each row from a mark on is a longword
+  module _ (number : ℕ) (short : AreShortFrom p number) where
+    abbrev from : ℕ
+    from = (get_or marks number no_mark).longword
 
-    module _ (hunk base : ℕ) (r : IsRow p.header start hunk (5 + hunk) base) (less : hunk + 1 < hunks) where
-      here : hunk < hunks
-      here = omega (arith, less)
+    pub short_at : (k at base : ℕ) → IsRow p.header start (hunks_a_mark * number + k) at base → k < hunks_a_mark → hunks_a_mark * number + k < hunks → IsRow p.header start (hunks_a_mark * number + k) (from + k) base
+    short_at k at base r few less = record { stands = short k few less; base_is = r.base_is }
 
-      pub short_room : 4 * (5 + hunk) + 4 ≤ length bytes
-      short_room = word_room bytes p.table p.header hunk (5 + hunk) r.stands (inside hunk (5 + hunk) base r here)
+    module _ (k base : ℕ) (r : IsRow p.header start (hunks_a_mark * number + k) (from + k) base) (few : k + 1 < hunks_a_mark) (less : hunks_a_mark * number + (k + 1) < hunks) where
+      here : hunks_a_mark * number + k < length p.table
+      here = omega (arith, less, p.hunks_are)
 
-      module _ (word : ℕ) (reads : word ≡ get_or (longs bytes) (5 + hunk) 0) where
-        after : IsRow p.header start (hunk + 1) (5 + hunk + entry_longs word) (base + 4 * size_longs word)
-        after = row_next bytes p.table p.header start hunk (5 + hunk) base r (inside hunk (5 + hunk) base r here) word _ reads refl (entry_longs word) (4 * size_longs word) refl refl
+      pub short_room : 4 * (from + k) + 4 ≤ length bytes
+      short_room = word_room bytes p.table p.header (hunks_a_mark * number + k) (from + k) r.stands here
 
-        pub short_next : IsRow p.header start (hunk + 1) (5 + (hunk + 1)) (base + 4 * size_longs word)
-        short_next = short_at (hunk + 1) (5 + hunk + entry_longs word) (base + 4 * size_longs word) after less
+      module _ (word : ℕ) (reads : word ≡ get_or (longs bytes) (from + k) 0) where
+        after : IsRow p.header start (hunks_a_mark * number + k + 1) (from + k + entry_longs word) (base + 4 * size_longs word)
+        after = row_next bytes p.table p.header start (hunks_a_mark * number + k) (from + k) base r here word _ reads refl (entry_longs word) (4 * size_longs word) refl refl
+
+        pub short_next : IsRow p.header start (hunks_a_mark * number + (k + 1)) (from + (k + 1)) (base + 4 * size_longs word)
+        short_next =
+            let row : hunks_a_mark * number + k + 1 ≡ hunks_a_mark * number + (k + 1) = omega arith in
+            short_at (k + 1) (from + k + entry_longs word) (base + 4 * size_longs word)
+            (subst (λ (i : ℕ). IsRow p.header start i (from + k + entry_longs word) (base + 4 * size_longs word)) row after) few less
 
         pub short_low : base + 4 * size_longs word < 2 ^ 32
-        short_low = omega (arith, after.base_is, p.each (hunk + 1) less)
+        short_low = omega (arith, short_next.base_is, p.each (hunks_a_mark * number + (k + 1)) less)
 
 -- ---- the bases kept together
 

@@ -63,6 +63,11 @@ pub record ArePacked (bytes : List ℕ) (hunks start : ℕ) (marks : List Mark) 
   pub are_marks : AreMarksTo header start marks hunks
   pub room : hunks ≤ hunks_a_mark * length marks
 
+-- Each row from the mark of this number up to the next is one longword.
+abbrev pub AreShortFrom : {bytes : List ℕ} {hunks start : ℕ} {marks : List Mark} → ArePacked bytes hunks start marks → ℕ → Type 0
+AreShortFrom {bytes} {hunks} {start} {marks} p number =
+    (k : ℕ) → k < hunks_a_mark → hunks_a_mark * number + k < hunks → RowStandsAt bytes p.table p.header (hunks_a_mark * number + k) ((get_or marks number no_mark).longword + k)
+
 -- ---- the bases by the longwords
 
 -- where the hunks of a table begin

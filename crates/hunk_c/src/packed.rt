@@ -1,12 +1,12 @@
 //! Hunks one right after the other, by a table that is read where it lies.
-ghost use Rattle.std.specs.Prelude.{◌≡◌, ◌≤◌, ◌+◌, ◌*◌, ◌<◌, ◌^◌, ℕ, List, get_or, length};
+ghost use Rattle.std.specs.Prelude.{◌≡◌, ◌≤◌, ◌+◌, ◌*◌, ◌/◌, ◌<◌, ◌^◌, ℕ, List, get_or, length};
 ghost use Rattle.std.specs.Prelude.{IfErr, IfOk, IsTrue, OnOk};
 ghost use Rattle.hunk_files.specs.LoadFile.{TableEntry};
 ghost use Rattle.hunk_scatter.specs.HeaderBytes.{BeginsWithHeader};
 ghost use Rattle.hunk_scatter.specs.Placing.{IsFirstUnplaced, packed_from};
 ghost use Rattle.hunk_c.specs.Loads.{AreBasesOf};
-ghost use Rattle.hunk_c.specs.Packs.{AreMarksTo, AreNearTo, ArePacked, HasRow, HasShortRows, IsRow, bases_in};
-ghost use Rattle.hunk_c.specs.Packs.{hunks_a_mark, hunks_near};
+ghost use Rattle.hunk_c.specs.Packs.{AreMarksTo, AreNearTo, ArePacked, AreShortFrom, HasRow, HasShortRows};
+ghost use Rattle.hunk_c.specs.Packs.{IsRow, bases_in, hunks_a_mark, hunks_near};
 ghost use Rattle.hunk_c.specs.Tables.{BeginsWithTableOf};
 
 use hunk_files::Bases;
@@ -177,28 +177,49 @@ fn place_by_rows(bytes: &[u8], hunks: u32, marks: &[Mark], hunk: usize) -> RowPl
     place
 }
 
-/// The same where each row is one longword.
+/// The same where each row from the mark on is one longword.
 #[inline(never)]
 fn place_by_longwords(bytes: &[u8], hunks: u32, marks: &[Mark], hunk: usize) -> RowPlace
     requires packed { (start : ℕ) × ArePacked bytes.now hunks start marks.now }
-    requires short { HasShortRows bytes.now }
+    requires short { (start : ℕ) (p : ArePacked bytes.now hunks start marks.now)
+        → AreShortFrom p (hunk / hunks_a_mark) }
     requires inside { hunk < hunks }
     ensures { (start : ℕ) (p : ArePacked bytes.now hunks start marks.now)
         → IsRow p.header start hunk result.longword result.base }
 {
-    let number = hunk / HUNKS_A_MARK;
-    let mut base = marks[number].base;
-    'rows: for row in HUNKS_A_MARK * number..hunk {
+    let mark = marks[hunk / HUNKS_A_MARK];
+    let from = mark.longword as usize;
+    let mut base = mark.base;
+    let rows = hunk % HUNKS_A_MARK;
+    'rows: for row in 0..rows {
         // Where a longword is put together from its bytes, and not read by `word_at`, the compiler
         // makes the loop four longwords wide.
-        let at = 4 * (TABLE_AT + row);
+        let at = 4 * (from + row);
         let word = u32::from_be_bytes([bytes[at], bytes[at + 1], bytes[at + 2], bytes[at + 3]]);
         base += 4 * (word % CONTENT_LIMIT);
     }
     RowPlace {
-        longword: TABLE_AT + hunk,
+        longword: from + rows,
         base: u64::from(base),
     }
+}
+
+/// Whether each row from the mark of this number to the next is known to be one longword: where
+/// `short` says so of the whole table, or where the next mark lies that far on.
+#[inline(always)]
+fn are_short(bytes: &[u8], hunks: u32, marks: &[Mark], short: bool, number: usize) -> bool
+    requires room { hunks ≤ hunks_a_mark * length marks.now }
+    requires short { IsTrue short → HasShortRows bytes.now }
+    requires inside { hunks_a_mark * number < hunks }
+    ensures { (start : ℕ) (p : ArePacked bytes.now hunks start marks.now)
+        → IsTrue result → AreShortFrom p number }
+{
+    if short {
+        return true;
+    }
+    let next = number + 1;
+    HUNKS_A_MARK * next < hunks as usize
+        && marks[next].longword as usize == marks[number].longword as usize + HUNKS_A_MARK
 }
 
 /// The place of this hunk's row, where `short` says that each row is one longword.
@@ -210,7 +231,7 @@ fn place_of(bytes: &[u8], hunks: u32, marks: &[Mark], short: bool, hunk: usize) 
     ensures { (start : ℕ) (p : ArePacked bytes.now hunks start marks.now)
         → IsRow p.header start hunk result.longword result.base }
 {
-    if short {
+    if are_short(bytes, hunks, marks, short, hunk / HUNKS_A_MARK) {
         place_by_longwords(bytes, hunks, marks, hunk)
     } else {
         place_by_rows(bytes, hunks, marks, hunk)
