@@ -1,7 +1,9 @@
 -- What is passed over at once goes on, or stays.
-use Rattle.std.proofs.Common.{ℕ, ◌+◌, ◌<◌, ◌≤◌, Bool, List, length, arith}
+use Rattle.std.proofs.Common.{◌≡◌, ℕ, ◌+◌, ◌<◌, ◌≤◌, Bool, List, length, ap, arith}
 use Rattle.hunk_grammar.specs.declared.position.Position.{Position}
-use Rattle.hunk_files.specs.Passing.{AreGroups, AreRows, AreSymbols, IsPassed, IsWholeBlock, no_row, one_row, no_group, one_group, no_symbol, one_symbol, content, counted, groups, symbols, nothing, passed_rows, passed_blocks}
+use Rattle.hunk_files.specs.declared.load.passing.BlockPlace.{BlockPlace}
+use Rattle.hunk_files.specs.declared.load.walk.DeclaredHunk.{DeclaredHunk}
+use Rattle.hunk_files.specs.Passing.{AreBlocks, AreGroups, AreRows, AreSymbols, IsBlock, IsPassed, IsWholeBlock, no_row, one_row, no_group, one_group, no_symbol, one_symbol, content, counted, groups, symbols, of_hunk, hunk_end, no_block, one_block, nothing, passed_rows, passed_blocks}
 
 module _ (ws : List ℕ) where
   rows_on : (from count at : ℕ) → AreRows ws from count at → from ≤ at
@@ -23,7 +25,18 @@ module _ (ws : List ℕ) where
   block_on hunks declared at has _ _ (groups after begun l) = (omega (arith, groups_on hunks declared (at + 1) l.end l.items, l.ends), l.whole)
   block_on hunks declared at has _ _ (symbols after begun l) = (omega (arith, symbols_on (at + 1) l.end l.items, l.ends), l.whole)
 
-  pub passed_on : (declared from : ℕ) (p : Position) (end : ℕ) (q : Position) → IsPassed ws declared from p end q → from ≤ end
-  passed_on declared from p _ _ nothing = omega arith
-  passed_on declared from p _ _ (passed_rows hunks owed count end is few f) = rows_on from count end f
-  passed_on declared from p _ _ (passed_blocks o phase end now is at_word more f) = omega (arith, more)
+  -- So it does where the next hunk opens after it.
+  pub place_on : (p q : BlockPlace) → IsBlock ws p q → (p.at < q.at) × (q.at ≤ length ws)
+  place_on p _ (of_hunk after now b) = block_on p.hunk.hunks p.entry.longs p.at p.hunk.has_content after now b
+  place_on p q (hunk_end _ e o) =
+      let at : q.at ≡ p.at + 1 = ap (λ (q : BlockPlace). q.at) o.opens in
+      (omega (arith, at), omega (arith, at, e.inside))
+
+  blocks_on : (from to : BlockPlace) → AreBlocks ws from to → from.at ≤ to.at
+  blocks_on from _ no_block = omega arith
+  blocks_on from _ (one_block p q before b) = omega (arith, blocks_on from p before, (place_on p q b).0)
+
+  pub passed_on : (from : ℕ) (p : Position) (entry : DeclaredHunk) (end : ℕ) (q : Position) (now : DeclaredHunk) → IsPassed ws from p entry end q now → from ≤ end
+  passed_on from p entry _ _ _ nothing = omega arith
+  passed_on from p entry _ _ _ (passed_rows hunks owed count end is few f) = rows_on from count end f
+  passed_on from p entry _ _ _ (passed_blocks o phase to is at_word f) = blocks_on (record { at = from; hunk = o; phase = phase; entry = entry }) to f

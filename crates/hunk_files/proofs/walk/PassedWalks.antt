@@ -1,5 +1,5 @@
 -- The walk over a load file goes on after what is passed over at once.
-use Rattle.std.proofs.Common.{rules, ◌≡◌, ℕ, zero, suc, ◌+◌, ◌-◌, ◌*◌, ◌<◌, ◌≤◌, Bool, true, false, List, length, get_or, refl, sym, ap, subst, arith, Some, None, if◌then◌else◌, ltb, inl, inr, ◌⊎◌}
+use Rattle.std.proofs.Common.{rules, ◌≡◌, ℕ, zero, suc, ◌+◌, ◌-◌, ◌*◌, ◌<◌, ◌≤◌, Bool, true, false, List, length, get_or, refl, sym, ap, subst, ◌∙◌, arith, Some, None, if◌then◌else◌, ltb, inl, inr, ◌⊎◌}
 use Rattle.hunk_words.specs.declared.reason.Reason.TheVariants as reasons
 use Rattle.hunk_words.specs.{Longs.{IsBytes, longs}, Bits.{size_longs, has_both_bits, name_longs}}
 use Rattle.hunk_grammar.specs.{BlockParts.Part as parts, PhaseSteps.part_at, declared.phase.Phase.Phase}
@@ -12,7 +12,8 @@ use Rattle.hunk_grammar.specs.declared.position.Position.TheVariants as position
 use Rattle.hunk_grammar.specs.Positions as scan
 use Rattle.hunk_grammar.proofs.OffsetRuns.{offset_passes}
 use Rattle.hunk_files.specs.{declared.load.walk.DeclaredHunk.DeclaredHunk, Entries.entry_at}
-use Rattle.hunk_files.specs.Passing.{AreBlocks, AreGroups, AreRows, AreSymbols, BeginsBlock, IsGroup, IsList, IsPassed, IsWholeBlock, after_row, after_symbol, having, no_row, one_row, no_group, one_group, no_symbol, one_symbol, content, counted, groups, symbols, no_block, one_block, nothing, passed_rows, passed_blocks}
+use Rattle.hunk_files.specs.declared.load.passing.BlockPlace.{BlockPlace}
+use Rattle.hunk_files.specs.Passing.{AreBlocks, AreGroups, AreRows, AreSymbols, BeginsBlock, EndsHunk, IsBlock, IsGroup, IsList, IsPassed, IsWholeBlock, after_row, after_symbol, having, opening, no_row, one_row, no_group, one_group, no_symbol, one_symbol, content, counted, groups, symbols, of_hunk, hunk_end, no_block, one_block, nothing, passed_rows, passed_blocks}
 use Rattle.hunk_files.proofs.walk.LoadWalks.{Walks, none_left, passes}
 
 -- ---- a longword and its run
@@ -202,25 +203,51 @@ module _ (bytes : List ℕ) (fit : IsBytes bytes) (entry : DeclaredHunk) (o : nu
   block_over at phase after _ e h (groups _ begun l) = zero_over after phases.GroupCount l (groups_over bytes fit entry o (at + 1) l.end (word_over at phase phases.GroupCount e h begun refl) l.items) refl refl
   block_over at phase after _ e h (symbols _ begun l) = zero_over after phases.EntryWord l (symbols_over bytes fit entry o (at + 1) l.end (word_over at phase phases.EntryWord e h begun refl) l.items) refl refl
 
--- Blocks lead on, where there are some.
-blocks_over : (bytes : List ℕ) → IsBytes bytes → (entry : DeclaredHunk) (o : numbers.OpenHunk) (at : ℕ) (phase : Phase) → part_at phase ≡ parts.BlockWord → Walks bytes at (positions.Body o phase) entry → (end : ℕ) (now : Bool) →
-    AreBlocks (longs bytes) o.hunks entry.longs at o.has_content end now → ((at ≡ end) × (o.has_content ≡ now)) ⊎ Walks bytes end (positions.Body (having now o) phases.BlockWord) entry
-blocks_over bytes fit entry o at phase e h _ _ no_block = inl (refl, refl)
-blocks_over bytes fit entry o at phase e h _ _ (one_block mid after later now before block) =
-    inr (elim (blocks_over bytes fit entry o at phase e h mid later before) [
-      | inl same ↦ block_over bytes fit entry o at phase after now e h (subst (λ (k : Bool). IsWholeBlock (longs bytes) o.hunks entry.longs at k after now) (sym same.1) (subst (λ (k : ℕ). IsWholeBlock (longs bytes) o.hunks entry.longs k later after now) (sym same.0) block))
-      | inr walked ↦ block_over bytes fit entry (having later o) mid phases.BlockWord after now refl walked block
-    ])
+-- The walk stands where the next hunk opens.
+abbrev Opens : List ℕ → BlockPlace → Type 0
+Opens bytes p = let q = opening (longs bytes) p in Walks bytes q.at (positions.Body q.hunk q.phase) q.entry
+
+-- The END of a hunk leads to the next, and its entry.
+end_over : (bytes : List ℕ) → IsBytes bytes → (p : BlockPlace) → part_at p.phase ≡ parts.BlockWord → Walks bytes p.at (positions.Body p.hunk p.phase) p.entry → EndsHunk (longs bytes) p.hunk.has_content p.at → 0 < p.hunk.ahead → Opens bytes p
+end_over bytes fit p is h e more = go p.phase is h
+  where
+    ahead : p.hunk.ahead ≡ suc (p.hunk.ahead - 1)
+    ahead = omega (arith, more)
+
+    on : (phase : Phase) → Walks bytes p.at (positions.Body p.hunk phase) p.entry → scan.close p.hunk ≡ scan.step (positions.Body p.hunk phase) (get_or (longs bytes) p.at 0) → refuse (role_at p.entry.longs (positions.Body p.hunk phase)) (get_or (longs bytes) p.at 0) ≡ None → Opens bytes p
+    on phase h steps ok =
+        let next = positions.Body (record { hunks = p.hunk.hunks; ahead = p.hunk.ahead - 1; has_content = false }) phases.FirstBlock in
+        let opens : next ≡ scan.close p.hunk = sym (ap (scan.open_next p.hunk.hunks) ahead) in
+        passes bytes fit p.at (positions.Body p.hunk phase) p.entry h e.inside (get_or (longs bytes) p.at 0) refl next (opens ∙ steps) ok (λ d. absurd cc)
+
+    go : (phase : Phase) → part_at phase ≡ parts.BlockWord → Walks bytes p.at (positions.Body p.hunk phase) p.entry → Opens bytes p
+    go phases.FirstBlock is h = on phases.FirstBlock h (ap (scan.onward p.hunk (scan.close p.hunk)) (sym e.ends)) e.accepted
+    go phases.BlockWord is h = on phases.BlockWord h (ap (scan.onward p.hunk (scan.close p.hunk)) (sym e.ends)) e.accepted
+    go _ is h = absurd cc
+
+-- The walk stands at the place.
+record StandsAt (bytes : List ℕ) (p : BlockPlace) : Type 0 where
+  at_word : part_at p.phase ≡ parts.BlockWord
+  walks : Walks bytes p.at (positions.Body p.hunk p.phase) p.entry
+
+-- Blocks lead on.
+blocks_over : (bytes : List ℕ) → IsBytes bytes → (from to : BlockPlace) → StandsAt bytes from → AreBlocks (longs bytes) from to → StandsAt bytes to
+blocks_over bytes fit from _ h no_block = h
+blocks_over bytes fit from _ h (one_block p q before b) = go q (blocks_over bytes fit from p h before) b
+  where
+    go : (q : BlockPlace) → StandsAt bytes p → IsBlock (longs bytes) p q → StandsAt bytes q
+    go _ s (of_hunk after now block) = record { at_word = refl; walks = block_over bytes fit p.entry p.hunk p.at p.phase after now s.at_word s.walks block }
+    go _ s (hunk_end q e opened) =
+        subst (StandsAt bytes) (sym opened.opens)
+        (record { at_word = refl; walks = end_over bytes fit p s.at_word s.walks e opened.ahead })
 
 -- ---- what is passed over
 
 -- It leads on.
-pub walk_over : (bytes : List ℕ) → IsBytes bytes → (at : ℕ) (p : Position) (entry : DeclaredHunk) (end : ℕ) (q : Position) → Walks bytes at p entry → IsPassed (longs bytes) entry.longs at p end q → Walks bytes end q entry
-walk_over bytes fit at p entry _ _ h nothing = h
-walk_over bytes fit at p entry _ _ h (passed_rows hunks owed count end is few f) =
-    rows_over bytes fit entry hunks owed at (subst (λ (p : Position). Walks bytes at p entry) is h) count end few f
-walk_over bytes fit at p entry _ _ h (passed_blocks o phase end now is at_word more f) =
-    elim (blocks_over bytes fit entry o at phase at_word (subst (λ (p : Position). Walks bytes at p entry) is h) end now f) [
-      | inl same ↦ absurd (omega (arith, more, same.0))
-      | inr walked ↦ walked
-    ]
+pub walk_over : (bytes : List ℕ) → IsBytes bytes → (at : ℕ) (p : Position) (entry : DeclaredHunk) (to : ℕ) (q : Position) (now : DeclaredHunk) → Walks bytes at p entry → IsPassed (longs bytes) at p entry to q now → Walks bytes to q now
+walk_over bytes fit at p entry _ _ _ h nothing = h
+walk_over bytes fit at p entry _ _ _ h (passed_rows hunks owed count to is few f) =
+    rows_over bytes fit entry hunks owed at (subst (λ (p : Position). Walks bytes at p entry) is h) count to few f
+walk_over bytes fit at p entry _ _ _ h (passed_blocks o phase to is at_word f) =
+    let here : StandsAt bytes (record { at = at; hunk = o; phase = phase; entry = entry }) = record { at_word = at_word; walks = subst (λ (p : Position). Walks bytes at p entry) is h } in
+    (blocks_over bytes fit (record { at = at; hunk = o; phase = phase; entry = entry }) to here f).walks

@@ -2,140 +2,162 @@
 ghost use Rattle.std.specs.Prelude.{◌≡◌, ◌≤◌, ◌<◌, ◌+◌, ◌*◌, IfSome, length, slice_index};
 ghost use Rattle.hunk_words.specs.Longs.{longs};
 ghost use Rattle.hunk_files.specs.Passing.{AreBlocks, AreGroups, AreRows, AreSymbols, IsList};
-ghost use Rattle.hunk_files.specs.Passing.{IsContent, IsCounted, IsGroup, IsPassed, IsWholeBlock};
+ghost use Rattle.hunk_files.specs.Passing.{IsBlock, IsContent, IsCounted, IsGroup, IsOpened, IsPassed, past};
 
+use crate::load::walk::DeclaredHunk;
 use hunk_grammar::{OpenHunk, Phase, Position, by_kind, is_outside};
 use hunk_words::{BlockWord, CONTENT_LIMIT, NAME_LIMIT, SizeWord, word_at};
 
-/// The longword after what is passed over at once from `at` on, in a hunk of `declared` longs, and
-/// the position there: rows of the table up to its last, or blocks, all of them whole. Nothing of it
-/// is refused.
+/// A place between two blocks of a load file, and the hunk that is open there.
+#[derive(Clone, Copy)]
+pub(super) struct BlockPlace {
+    /// The longword.
+    pub at: usize,
+    /// The hunk.
+    pub hunk: OpenHunk,
+    /// What the longword is for: the word of its first block, or of a further one.
+    pub phase: Phase,
+    /// What the table declares of the hunk.
+    pub entry: DeclaredHunk,
+}
+
+impl BlockPlace {
+    /// The place after a block of the hunk that ends before this longword, by then with its content
+    /// block or not.
+    #[inline(always)]
+    fn past(self, after: usize, has_content: bool) -> BlockPlace
+        ensures { result ≡ past self after has_content }
+    {
+        BlockPlace {
+            at: after,
+            hunk: OpenHunk {
+                has_content,
+                ..self.hunk
+            },
+            phase: Phase::BlockWord,
+            entry: self.entry,
+        }
+    }
+}
+
+/// What is passed over at once from `at` on, at this position and with this entry of the open hunk:
+/// the longword after it, and the position and the entry there. It is rows of the table up to its
+/// last, or blocks and the hunks that open after them, all of them whole. Nothing of it is refused.
 #[inline(always)]
 pub(super) fn pass_over(
     bytes: &[u8],
     at: usize,
     position: Position,
-    declared: u32,
-) -> (usize, Position)
-    ensures { IsPassed (longs bytes.now) declared at position result.0 result.1 }
+    entry: DeclaredHunk,
+) -> (usize, Position, DeclaredHunk)
+    ensures { IsPassed (longs bytes.now) at position entry result.0 result.1 result.2 }
 {
     match position {
         Position::SizeWord { hunks, owed } => {
             let (end, count) = after_rows(bytes, at, owed);
             let owed = owed - count;
-            (end, Position::SizeWord { hunks, owed })
+            (end, Position::SizeWord { hunks, owed }, entry)
         }
-        Position::Body(hunk, Phase::FirstBlock | Phase::BlockWord) => {
-            let (end, has_content) = after_blocks(
-                bytes,
+        Position::Body(hunk, phase @ (Phase::FirstBlock | Phase::BlockWord)) => {
+            let from = BlockPlace {
                 at,
-                hunk.hunks,
-                declared,
-                hunk.has_content,
-            );
-            if end <= at {
-                return (at, position);
-            }
-            let hunk = OpenHunk {
-                has_content,
-                ..hunk
+                hunk,
+                phase,
+                entry,
             };
-            (end, Position::Body(hunk, Phase::BlockWord))
+            let end = after_blocks(bytes, from);
+            (end.at, Position::Body(end.hunk, end.phase), end.entry)
         }
-        _ => (at, position),
+        _ => (at, position, entry),
     }
 }
 
-/// The longword after the blocks that stand from `from` on and end in the bytes, up to the first
-/// that may be refused in a hunk of `declared` longs of a file of `hunks` hunks; and whether the
-/// content block of the hunk came up to there, as `has_content` says of `from`.
+/// The place after the blocks that stand from this one on and end in the bytes, up to the first
+/// that may be refused, or the END of the file.
 #[inline(never)]
-#[tactic(auto, using(crate::proofs::walk::Passed::block_on))]
-fn after_blocks(
-    bytes: &[u8],
-    from: usize,
-    hunks: u32,
-    declared: u32,
-    has_content: bool,
-) -> (usize, bool)
-    ensures { AreBlocks (longs bytes.now) hunks declared from has_content result.0 result.1 }
+#[tactic(auto, using(crate::proofs::walk::Passed::place_on))]
+fn after_blocks(bytes: &[u8], from: BlockPlace) -> BlockPlace
+    ensures { AreBlocks (longs bytes.now) from result }
 {
-    let mut at = from;
-    let mut has = has_content;
-    'passing: while let Some(next) = after_block(bytes, at, hunks, declared, has) {
-        at = next.0;
-        has = next.1;
+    let mut place = from;
+    'passing: while let Some(next) = after_block(bytes, place) {
+        place = next;
     }
-    (at, has)
+    place
 }
 
-/// The longword after one such block, where one stands at `at`, and whether the content block came
-/// up to there.
+/// The place after one such block, where one stands here.
 #[inline(always)]
-fn after_block(
-    bytes: &[u8],
-    at: usize,
-    hunks: u32,
-    declared: u32,
-    has_content: bool,
-) -> Option<(usize, bool)>
-    ensures { IfSome result (λ r.
-        IsWholeBlock (longs bytes.now) hunks declared at has_content r.0 r.1) }
+fn after_block(bytes: &[u8], place: BlockPlace) -> Option<BlockPlace>
+    ensures { IfSome result (IsBlock (longs bytes.now) place) }
 {
-    if at >= bytes.len() / 4 {
+    if place.at >= bytes.len() / 4 {
         return None;
     }
-    let word = word_at(bytes, at);
+    let word = word_at(bytes, place.at);
     by_kind!(
         BlockWord::of(word).kind(),
-        after_word(bytes, at, hunks, declared, has_content, word)
+        after_word(bytes, place, word)
     )
 }
 
 /// The same, by the block's word.
 #[inline(always)]
-fn after_word(
-    bytes: &[u8],
-    at: usize,
-    hunks: u32,
-    declared: u32,
-    has_content: bool,
-    word: u32,
-) -> Option<(usize, bool)>
-    requires inside { 4 * at + 4 ≤ length bytes.now }
-    requires word { word ≡ slice_index (longs bytes.now) at }
-    ensures { IfSome result (λ r.
-        IsWholeBlock (longs bytes.now) hunks declared at has_content r.0 r.1) }
+fn after_word(bytes: &[u8], place: BlockPlace, word: u32) -> Option<BlockPlace>
+    requires inside { 4 * place.at + 4 ≤ length bytes.now }
+    requires word { word ≡ slice_index (longs bytes.now) place.at }
+    ensures { IfSome result (IsBlock (longs bytes.now) place) }
 {
+    let BlockPlace { at, hunk, .. } = place;
     // The test of a block word looks at nothing else of its hunk.
-    let hunk = OpenHunk {
-        hunks: 0,
-        ahead: 0,
-        has_content,
-    };
     if let Some(_) = Position::Body(hunk, Phase::BlockWord).refuse(0, word) {
         return None;
     }
-    let phase = Phase::begin(BlockWord::of(word).kind())?;
+    let declared = place.entry.longs;
+    let Some(phase) = Phase::begin(BlockWord::of(word).kind()) else {
+        return after_end(bytes, place);
+    };
     match phase {
         Phase::ContentSize => {
             let after = after_content(bytes, at + 1, declared)?;
-            Some((after, true))
+            Some(place.past(after, true))
         }
         Phase::LongCount => {
             let after = after_counted(bytes, at + 1)?;
-            Some((after, has_content))
+            Some(place.past(after, hunk.has_content))
         }
         Phase::GroupCount => {
-            let after = after_groups(bytes, at + 1, hunks, declared)?;
-            Some((after, has_content))
+            let after = after_groups(bytes, at + 1, hunk.hunks, declared)?;
+            Some(place.past(after, hunk.has_content))
         }
         Phase::EntryWord => {
             let after = after_symbols(bytes, at + 1)?;
-            Some((after, has_content))
+            Some(place.past(after, hunk.has_content))
         }
         _ => None,
     }
+}
+
+/// The place after the END that stands at this one, where another hunk opens.
+#[inline(always)]
+fn after_end(bytes: &[u8], place: BlockPlace) -> Option<BlockPlace>
+    requires { 4 * place.at + 4 ≤ length bytes.now }
+    ensures { IfSome result (IsOpened (longs bytes.now) place) }
+{
+    let BlockPlace { at, hunk, entry, .. } = place;
+    if hunk.ahead == 0 || entry.next >= bytes.len() / 4 {
+        return None;
+    }
+    Some(BlockPlace {
+        at: at + 1,
+        hunk: OpenHunk {
+            ahead: hunk.ahead - 1,
+            has_content: false,
+            ..hunk
+        },
+        phase: Phase::FirstBlock,
+        entry: DeclaredHunk::at(bytes, entry.next),
+    })
 }
 
 /// The longword after the content whose size word stands at `at`, where it ends in the bytes and

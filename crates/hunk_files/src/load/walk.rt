@@ -1,5 +1,8 @@
 //! The walk over the longwords of a load file, from the first on: its end, or the first fault.
-ghost use Rattle.std.specs.Prelude.{◌≡◌, Some, None, IfOk, IfErr, OnOk, MatchResult};
+ghost use Rattle.std.specs.Prelude.{◌≡◌, ◌≤◌, ◌+◌, ◌*◌, Some, None, IfOk, IfErr, OnOk, MatchResult};
+ghost use Rattle.std.specs.Prelude.{length, slice_index};
+ghost use Rattle.hunk_words.specs.Longs.{longs};
+ghost use Rattle.hunk_files.specs.Entries.{entry_after};
 ghost use Rattle.hunk_files.specs.Fault.{HasFault, HasLoadText};
 ghost use Rattle.hunk_files.specs.FileParts.{IsPartAt, fault_at};
 ghost use Rattle.hunk_files.specs.ReaderPosition.{part_in};
@@ -22,10 +25,25 @@ pub(crate) struct DeclaredHunk {
     pub next: usize,
 }
 
+impl DeclaredHunk {
+    /// What the entry at this longword declares, of the hunk that opens.
+    #[inline(always)]
+    pub fn at(bytes: &[u8], at: usize) -> DeclaredHunk
+        requires { 4 * at + 4 ≤ length bytes.now }
+        ensures { result ≡ entry_after (slice_index (longs bytes.now) at) at }
+    {
+        let size = word_at(bytes, at);
+        DeclaredHunk {
+            longs: size % CONTENT_LIMIT,
+            next: at + SizeWord::entry_longs(size),
+        }
+    }
+}
+
 /// The number of bytes of the load file that the bytes begin with, or their first fault.
 ///
 /// It takes no memory. Payloads and names are passed over at once, as no test looks at their
-/// longwords, and so are rows of the table, groups of relocations and symbols that are whole.
+/// longwords, and so are rows of the table, and blocks that are whole, up to the END of the file.
 ///
 /// # Errors
 ///
@@ -53,15 +71,10 @@ pub(crate) fn walk(bytes: &[u8]) -> Result<usize, Refusal>
             return Ok(4 * (at + 1));
         }
         if after.is_between_hunks() {
-            // The next entry of the table declares the hunk that opens here.
-            let size = word_at(bytes, entry.next);
-            entry = DeclaredHunk {
-                longs: size % CONTENT_LIMIT,
-                next: entry.next + SizeWord::entry_longs(size),
-            };
+            entry = DeclaredHunk::at(bytes, entry.next);
         }
         let run = after.run();
-        (at, position) = pass_over(bytes, at + 1 + run as usize, after.pass(run), entry.longs);
+        (at, position, entry) = pass_over(bytes, at + 1 + run as usize, after.pass(run), entry);
     }
     Err(refusal_at(position, 4 * count as u64, Reason::Truncated))
 }

@@ -1,4 +1,4 @@
-use Rattle.std.proofs.Common.{rules, ◌≡◌, arith}
+use Rattle.std.proofs.Common.{rules, ◌≡◌}
 use Rattle.hunk_grammar.specs.{BlockParts.Part as parts, PhaseSteps.part_at}
 use Rattle.hunk_files.specs.Passing.{nothing, passed_rows, passed_blocks}
 use Rattle.hunk_files.proofs.load.passing.pass_over.Goals as goal
@@ -8,15 +8,11 @@ returns-in-SizeWord c =
     let row = c.after_rows-end in
     passed_rows c.in-SizeWord.hunks c.in-SizeWord.owed row.result.1 row.result.0 c.in-SizeWord.is row.ensures.few row.ensures.rows
 
-pub returns-then-end-at : goal.returns-then-end-at
-returns-then-end-at c = nothing
-
-pub returns-else-end-at : goal.returns-else-end-at
-returns-else-end-at c =
-    let end = c.after_blocks-end in
+pub returns-in-Body-default-FirstBlock : goal.returns-in-Body-default-FirstBlock
+returns-in-Body-default-FirstBlock c =
     let here = c.in-Body-default-FirstBlock in
-    let begins : part_at here.field-1 ≡ parts.BlockWord = search rules in
-    passed_blocks here.hunk here.field-1 end.result.0 end.result.1 here.is begins (omega (arith, c.if-end-at.false)) end.ensures
+    let begins : part_at here.phase ≡ parts.BlockWord = search rules in
+    passed_blocks here.hunk here.phase c.after_blocks-end.result here.is begins c.after_blocks-end.ensures
 
 pub returns-in_default : goal.returns-in_default
 returns-in_default c = nothing

@@ -40,23 +40,13 @@ returns-in-Done c =
     ends bytes (λ i. omega (arith, c.type_inv.bytes i)) w.at w.position w.entry w.invariant (omega (arith, length-longs bytes)) c.word_at-word.result c.word_at-word.ensures
     ok.after ok.ensures.steps ok.ensures.passes c.in-Done.is
 
-pub word_at-size-requires : goal.word_at-size-requires
-word_at-size-requires c =
+pub at-entry-requires : goal.at-entry-requires
+at-entry-requires c =
     let bytes = c.args.bytes.now in
     let w = c.walking in
     let ok = c.in-Ok in
     opens bytes (λ i. omega (arith, c.type_inv.bytes i)) w.at w.position w.entry w.invariant (omega (arith, length-longs bytes)) c.word_at-word.result c.word_at-word.ensures
     ok.after ok.ensures.steps ok.ensures.passes c.in_default.not-Done (sym c.is_between_hunks.ensures ∙ c.if-is_between_hunks.true)
-
-pub overflow_add-entry : goal.overflow_add-entry
-overflow_add-entry c =
-    let bytes = c.args.bytes.now in
-    let w = c.walking in
-    let ok = c.in-Ok in
-    let inside =
-    opens bytes (λ i. omega (arith, c.type_inv.bytes i)) w.at w.position w.entry w.invariant (omega (arith, length-longs bytes)) c.word_at-word.result c.word_at-word.ensures
-    ok.after ok.ensures.steps ok.ensures.passes c.in_default.not-Done (sym c.is_between_hunks.ensures ∙ c.if-is_between_hunks.true) in
-    omega (arith, inside, c.entry_longs.ensures.bound)
 
 pub walking-preserved : goal.walking-preserved
 walking-preserved c =
@@ -71,8 +61,7 @@ walking-preserved c =
     let opened : Bool → DeclaredHunk = λ b. if b then entry_after (slice_index (longs bytes) w.entry.next) w.entry.next else w.entry in
     let entry_is : entry ≡ entry_at (longs bytes) ok.after w.entry =
     elim c.if-is_between_hunks.branch [
-      | then-is_between_hunks v ↦ v.entry-is ∙ ap₂ (λ (word longs : ℕ). record { longs = size_longs word; next = w.entry.next + longs }) v.word_at-size.ensures (v.entry_longs.ensures.value ∙ ap entry_longs v.word_at-size.ensures)
-          ∙ ap opened (sym (sym c.is_between_hunks.ensures ∙ v.if-is_between_hunks.true))
+      | then-is_between_hunks v ↦ v.entry-is ∙ v.at-entry.ensures ∙ ap opened (sym (sym c.is_between_hunks.ensures ∙ v.if-is_between_hunks.true))
       | else-is_between_hunks v ↦ v.entry-is ∙ ap opened (sym (sym c.is_between_hunks.ensures ∙ v.if-is_between_hunks.false))
     ] in
     let from : w.at + (1 + c.run-run.result) ≡ w.at + 1 + c.run-run.result = omega arith in
@@ -81,7 +70,8 @@ walking-preserved c =
     (subst (λ (p : Position). Walks bytes (w.at + (1 + c.run-run.result)) p entry) (sym c.pass.ensures)
     (subst (λ (e : DeclaredHunk). Walks bytes (w.at + (1 + c.run-run.result)) (scan.pass ok.after c.run-run.result) e) (sym entry_is)
     (subst P (sym c.run-run.ensures.value) on))) in
-    walk_over bytes fit (w.at + 1 + c.run-run.result) c.pass.result entry c.pass_over.result.0 c.pass_over.result.1 here c.pass_over.ensures
+    let over = c.pass_over in
+    walk_over bytes fit (w.at + 1 + c.run-run.result) c.pass.result entry over.result.0 over.result.1 over.result.2 here over.ensures
 
 pub returns : goal.returns
 returns c =
@@ -95,5 +85,6 @@ returns c =
 
 pub walking-smaller : goal.walking-smaller
 walking-smaller c =
-    let on = passed_on (longs c.args.bytes.now) c.if-is_between_hunks.entry.longs (c.walking.at + 1 + c.run-run.result) c.pass.result c.pass_over.result.0 c.pass_over.result.1 c.pass_over.ensures in
+    let over = c.pass_over in
+    let on = passed_on (longs c.args.bytes.now) (c.walking.at + 1 + c.run-run.result) c.pass.result c.if-is_between_hunks.entry over.result.0 over.result.1 over.result.2 over.ensures in
     omega (arith, on, c.walking-test.true)
