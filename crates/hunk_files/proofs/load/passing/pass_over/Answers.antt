@@ -12,7 +12,7 @@ pub returns-in-Body-default-FirstBlock : goal.returns-in-Body-default-FirstBlock
 returns-in-Body-default-FirstBlock c =
     let here = c.in-Body-default-FirstBlock in
     let begins : part_at here.phase ≡ parts.BlockWord = search rules in
-    passed_blocks here.hunk here.phase c.after_blocks-end.result here.is begins c.after_blocks-end.ensures
+    passed_blocks here.hunk here.phase c.after_hunks-end.result here.is begins c.after_hunks-end.ensures
 
 pub returns-in_default : goal.returns-in_default
 returns-in_default c = nothing
