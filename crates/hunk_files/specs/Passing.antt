@@ -1,9 +1,7 @@
 -- What of a load file is passed over at once.
-use Rattle.std.specs.Prelude.{◌≡◌, ℕ, suc, ◌+◌, ◌-◌, ◌*◌, ◌<◌, ◌≤◌, Bool, true, false, List, length, slice_index, nat_eq, if◌then◌else◌, Some, None}
+use Rattle.std.specs.Prelude.{◌≡◌, ℕ, suc, ◌+◌, ◌-◌, ◌*◌, ◌<◌, ◌≤◌, Bool, true, false, List, length, slice_index, Some, None}
 use Rattle.hunk_words.specs.Bits.{entry_longs, kind, name_longs, size_longs}
-use Rattle.hunk_words.specs.declared.block_word.Kind.TheVariants as kinds
-use Rattle.hunk_grammar.specs.BlockParts.{Part as parts}
-use Rattle.hunk_grammar.specs.PhaseSteps.{begin, part_at}
+use Rattle.hunk_grammar.specs.PhaseSteps.{begin}
 use Rattle.hunk_grammar.specs.declared.phase.Phase.{Phase}
 use Rattle.hunk_grammar.specs.declared.phase.Phase.TheVariants as phases
 use Rattle.hunk_grammar.specs.declared.position.OpenHunk.{OpenHunk}
@@ -87,45 +85,54 @@ pub data IsWholeBlock (ws : List ℕ) (hunks longs at : ℕ) (has : Bool) : ℕ 
   groups : (after : ℕ) → BeginsBlock ws has at phases.GroupCount → IsList ws (AreGroups ws hunks longs (at + 1)) after → IsWholeBlock ws hunks longs at has after has
   symbols : (after : ℕ) → BeginsBlock ws has at phases.EntryWord → IsList ws (AreSymbols ws (at + 1)) after → IsWholeBlock ws hunks longs at has after has
 
--- Such blocks go from the one longword up to the other.
-pub data AreBlocks (ws : List ℕ) (hunks longs from : ℕ) (has : Bool) : ℕ → Bool → Type 0 where
-  no_block : AreBlocks ws hunks longs from has from has
-  one_block : (at after : ℕ) (before now : Bool) → AreBlocks ws hunks longs from has at before → IsWholeBlock ws hunks longs at before after now → AreBlocks ws hunks longs from has after now
-
--- ---- hunks
-
 -- the same hunk, with or without its content block
 abbrev pub having : Bool → OpenHunk → OpenHunk
 having has o = record { hunks = o.hunks; ahead = o.ahead; has_content = has }
 
--- The place after the blocks of the hunk that end before this longword, where the hunk has its content block or not: the same place
--- where there are none.
+-- the place after a block of the hunk that ends before this longword, where the hunk has its content block or not
 abbrev pub past : BlockPlace → ℕ → Bool → BlockPlace
-past p end has = if nat_eq end p.at then p else record { at = end; hunk = having has p.hunk; phase = phases.BlockWord; entry = p.entry }
+past p after has = record { at = after; hunk = having has p.hunk; begun = true; entry = p.entry }
+
+-- ---- hunks
+
+-- The END of the hunk stands at this longword, and is not refused.
+pub record EndsHunk (ws : List ℕ) (has : Bool) (at : ℕ) : Type 0 where
+  pub inside : at < length ws
+  pub accepted : refuse_word has (slice_index ws at) ≡ None
+  pub ends : begin (kind (slice_index ws at)) ≡ None
 
 -- the place after the END that stands at this one, where the next hunk opens, which the next entry of the table declares
 abbrev pub opening : List ℕ → BlockPlace → BlockPlace
 opening ws p = record {
   at = p.at + 1;
   hunk = record { hunks = p.hunk.hunks; ahead = p.hunk.ahead - 1; has_content = false };
-  phase = phases.FirstBlock;
+  begun = false;
   entry = entry_after (slice_index ws p.entry.next) p.entry.next;
 }
 
--- The word of END stands at the one place, and is not refused. Other hunks are ahead, and the other place is where the next opens.
+-- The other is the place after this END, and hunks are ahead of the one that ends.
 pub record IsOpened (ws : List ℕ) (p q : BlockPlace) : Type 0 where
-  pub inside : p.at < length ws
-  pub accepted : refuse_word p.hunk.has_content (slice_index ws p.at) ≡ None
-  pub ends : kind (slice_index ws p.at) ≡ kinds.End
   pub ahead : 0 < p.hunk.ahead
   pub entry_inside : p.entry.next < length ws
   pub opens : q ≡ opening ws p
 
--- Blocks, and ENDs after which another hunk opens, go from the one place up to the other.
-pub data AreParts (ws : List ℕ) (from : BlockPlace) : BlockPlace → Type 0 where
-  no_part : AreParts ws from from
-  more_blocks : (p : BlockPlace) (end : ℕ) (now : Bool) → AreParts ws from p → AreBlocks ws p.hunk.hunks p.entry.longs p.at p.hunk.has_content end now → AreParts ws from (past p end now)
-  one_hunk : (p q : BlockPlace) → AreParts ws from p → IsOpened ws p q → AreParts ws from q
+-- A block goes from the one place up to the other: one of the open hunk, or its END, after which another hunk opens.
+pub data IsBlock (ws : List ℕ) (p : BlockPlace) : BlockPlace → Type 0 where
+  of_hunk : (after : ℕ) (now : Bool) → IsWholeBlock ws p.hunk.hunks p.entry.longs p.at p.hunk.has_content after now → IsBlock ws p (past p after now)
+  hunk_end : (q : BlockPlace) → EndsHunk ws p.hunk.has_content p.at → IsOpened ws p q → IsBlock ws p q
+
+-- Such blocks go from the one place up to the other.
+pub data AreBlocks (ws : List ℕ) (from : BlockPlace) : BlockPlace → Type 0 where
+  no_block : AreBlocks ws from from
+  one_block : (p q : BlockPlace) → AreBlocks ws from p → IsBlock ws p q → AreBlocks ws from q
+
+-- what the longword at the place is for: the word of the first block of the hunk, or of a further one
+abbrev pub phase_at : Bool → Phase
+phase_at false = phases.FirstBlock
+phase_at true = phases.BlockWord
+
+abbrev pub position_at : BlockPlace → Position
+position_at p = positions.Body p.hunk (phase_at p.begun)
 
 -- ---- rows, or blocks
 
@@ -134,5 +141,5 @@ pub data AreParts (ws : List ℕ) (from : BlockPlace) : BlockPlace → Type 0 wh
 pub data IsPassed (ws : List ℕ) (at : ℕ) (p : Position) (entry : DeclaredHunk) : ℕ → Position → DeclaredHunk → Type 0 where
   nothing : IsPassed ws at p entry at p entry
   passed_rows : (hunks owed count end : ℕ) → p ≡ positions.SizeWord hunks owed → count ≤ owed → AreRows ws at count end → IsPassed ws at p entry end (positions.SizeWord hunks (owed - count)) entry
-  passed_blocks : (o : OpenHunk) (phase : Phase) (to : BlockPlace) → p ≡ positions.Body o phase → part_at phase ≡ parts.BlockWord → AreParts ws (record { at = at; hunk = o; phase = phase; entry = entry }) to →
-      IsPassed ws at p entry to.at (positions.Body to.hunk to.phase) to.entry
+  passed_blocks : (o : OpenHunk) (begun : Bool) (to : BlockPlace) → p ≡ positions.Body o (phase_at begun) → AreBlocks ws (record { at = at; hunk = o; begun = begun; entry = entry }) to →
+      IsPassed ws at p entry to.at (position_at to) to.entry

@@ -1,11 +1,9 @@
 -- What is passed over at once goes on, or stays.
-use Rattle.std.proofs.Common.{◌≡◌, ℕ, ◌+◌, ◌<◌, ◌≤◌, Bool, true, false, List, length, if◌then◌else◌, nat_eq, refl, sym, ap, arith}
-use Rattle.std.proofs.lemmas.Bool.{eqb-true}
-use Rattle.hunk_grammar.specs.declared.phase.Phase.TheVariants as phases
+use Rattle.std.proofs.Common.{◌≡◌, ℕ, ◌+◌, ◌<◌, ◌≤◌, Bool, List, length, ap, arith}
 use Rattle.hunk_grammar.specs.declared.position.Position.{Position}
 use Rattle.hunk_files.specs.declared.load.passing.BlockPlace.{BlockPlace}
 use Rattle.hunk_files.specs.declared.load.walk.DeclaredHunk.{DeclaredHunk}
-use Rattle.hunk_files.specs.Passing.{AreBlocks, AreGroups, AreParts, AreRows, AreSymbols, IsPassed, IsWholeBlock, having, past, no_row, one_row, no_group, one_group, no_symbol, one_symbol, content, counted, groups, symbols, no_block, one_block, no_part, more_blocks, one_hunk, nothing, passed_rows, passed_blocks}
+use Rattle.hunk_files.specs.Passing.{AreBlocks, AreGroups, AreRows, AreSymbols, IsBlock, IsPassed, IsWholeBlock, no_row, one_row, no_group, one_group, no_symbol, one_symbol, content, counted, groups, symbols, of_hunk, hunk_end, no_block, one_block, nothing, passed_rows, passed_blocks}
 
 module _ (ws : List ℕ) where
   rows_on : (from count at : ℕ) → AreRows ws from count at → from ≤ at
@@ -27,28 +25,18 @@ module _ (ws : List ℕ) where
   block_on hunks declared at has _ _ (groups after begun l) = (omega (arith, groups_on hunks declared (at + 1) l.end l.items, l.ends), l.whole)
   block_on hunks declared at has _ _ (symbols after begun l) = (omega (arith, symbols_on (at + 1) l.end l.items, l.ends), l.whole)
 
-  pub blocks_on : (hunks declared from : ℕ) (has : Bool) (end : ℕ) (now : Bool) → AreBlocks ws hunks declared from has end now → from ≤ end
-  blocks_on hunks declared from has _ _ no_block = omega arith
-  blocks_on hunks declared from has _ _ (one_block at after before now more block) = omega (arith, blocks_on hunks declared from has at before more, (block_on hunks declared at before after now block).0)
-
-  -- After blocks that end before a longword comes that longword.
-  pub past_at : (p : BlockPlace) (end : ℕ) (now : Bool) → (past p end now).at ≡ end
-  past_at p end now = go (nat_eq end p.at) refl
-    where
-      go : (b : Bool) → nat_eq end p.at ≡ b → (if b then p else record { at = end; hunk = having now p.hunk; phase = phases.BlockWord; entry = p.entry }).at ≡ end
-      go true e = sym (eqb-true end p.at e)
-      go false e = refl
-
-  parts_on : (from to : BlockPlace) → AreParts ws from to → from.at ≤ to.at
-  parts_on from _ no_part = omega arith
-  parts_on from _ (more_blocks p end now before b) =
-      let last = past_at p end now in
-      omega (arith, last, parts_on from p before, blocks_on p.hunk.hunks p.entry.longs p.at p.hunk.has_content end now b)
-  parts_on from _ (one_hunk p q before o) =
+  -- So it does where the next hunk opens after it.
+  pub place_on : (p q : BlockPlace) → IsBlock ws p q → (p.at < q.at) × (q.at ≤ length ws)
+  place_on p _ (of_hunk after now b) = block_on p.hunk.hunks p.entry.longs p.at p.hunk.has_content after now b
+  place_on p q (hunk_end _ e o) =
       let at : q.at ≡ p.at + 1 = ap (λ (q : BlockPlace). q.at) o.opens in
-      omega (arith, at, parts_on from p before)
+      (omega (arith, at), omega (arith, at, e.inside))
+
+  blocks_on : (from to : BlockPlace) → AreBlocks ws from to → from.at ≤ to.at
+  blocks_on from _ no_block = omega arith
+  blocks_on from _ (one_block p q before b) = omega (arith, blocks_on from p before, (place_on p q b).0)
 
   pub passed_on : (from : ℕ) (p : Position) (entry : DeclaredHunk) (end : ℕ) (q : Position) (now : DeclaredHunk) → IsPassed ws from p entry end q now → from ≤ end
   passed_on from p entry _ _ _ nothing = omega arith
   passed_on from p entry _ _ _ (passed_rows hunks owed count end is few f) = rows_on from count end f
-  passed_on from p entry _ _ _ (passed_blocks o phase to is at_word f) = parts_on (record { at = from; hunk = o; phase = phase; entry = entry }) to f
+  passed_on from p entry _ _ _ (passed_blocks o begun to is f) = blocks_on (record { at = from; hunk = o; begun = begun; entry = entry }) to f

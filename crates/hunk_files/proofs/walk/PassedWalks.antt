@@ -1,11 +1,11 @@
 -- The walk over a load file goes on after what is passed over at once.
-use Rattle.std.proofs.Common.{rules, ◌≡◌, ℕ, zero, suc, ◌+◌, ◌-◌, ◌*◌, ◌<◌, ◌≤◌, Bool, true, false, List, length, get_or, refl, sym, ap, subst, ◌∙◌, arith, Some, None, if◌then◌else◌, nat_eq, ltb, inl, inr, ◌⊎◌}
+use Rattle.std.proofs.Common.{rules, ◌≡◌, ℕ, zero, suc, ◌+◌, ◌-◌, ◌*◌, ◌<◌, ◌≤◌, Bool, true, false, List, length, get_or, refl, sym, ap, subst, ◌∙◌, arith, Some, None, if◌then◌else◌, ltb, inl, inr, ◌⊎◌}
 use Rattle.hunk_words.specs.declared.reason.Reason.TheVariants as reasons
-use Rattle.hunk_words.specs.{Longs.{IsBytes, longs}, Bits.{kind, size_longs, has_both_bits, name_longs}}
-use Rattle.hunk_grammar.specs.{BlockParts.Part as parts, PhaseSteps.{begin, part_at}, declared.phase.Phase.Phase}
+use Rattle.hunk_words.specs.{Longs.{IsBytes, longs}, Bits.{size_longs, has_both_bits, name_longs}}
+use Rattle.hunk_grammar.specs.{BlockParts.Part as parts, PhaseSteps.part_at, declared.phase.Phase.Phase}
 use Rattle.hunk_grammar.specs.declared.phase.Phase.TheVariants as phases
 use Rattle.hunk_blocks.proofs.Lists.{passes_else, passes_then}
-use Rattle.std.proofs.lemmas.Bool.{eq-eqb, le-ltb, lt-ltb}
+use Rattle.std.proofs.lemmas.Bool.{le-ltb, lt-ltb}
 use Rattle.hunk_grammar.specs.declared.position.OpenHunk as numbers
 use Rattle.hunk_grammar.specs.{declared.position.Position.Position, Positions.{role_at, EndsWithin}, Roles.refuse}
 use Rattle.hunk_grammar.specs.declared.position.Position.TheVariants as positions
@@ -13,7 +13,7 @@ use Rattle.hunk_grammar.specs.Positions as scan
 use Rattle.hunk_grammar.proofs.OffsetRuns.{offset_passes}
 use Rattle.hunk_files.specs.{declared.load.walk.DeclaredHunk.DeclaredHunk, Entries.entry_at}
 use Rattle.hunk_files.specs.declared.load.passing.BlockPlace.{BlockPlace}
-use Rattle.hunk_files.specs.Passing.{AreBlocks, AreGroups, AreParts, AreRows, AreSymbols, BeginsBlock, IsGroup, IsList, IsOpened, IsPassed, IsWholeBlock, after_row, after_symbol, having, opening, past, no_row, one_row, no_group, one_group, no_symbol, one_symbol, content, counted, groups, symbols, no_block, one_block, no_part, more_blocks, one_hunk, nothing, passed_rows, passed_blocks}
+use Rattle.hunk_files.specs.Passing.{AreBlocks, AreGroups, AreRows, AreSymbols, BeginsBlock, EndsHunk, IsBlock, IsGroup, IsList, IsPassed, IsWholeBlock, after_row, after_symbol, having, opening, phase_at, position_at, no_row, one_row, no_group, one_group, no_symbol, one_symbol, content, counted, groups, symbols, of_hunk, hunk_end, no_block, one_block, nothing, passed_rows, passed_blocks}
 use Rattle.hunk_files.proofs.walk.LoadWalks.{Walks, none_left, passes}
 
 -- ---- a longword and its run
@@ -203,70 +203,46 @@ module _ (bytes : List ℕ) (fit : IsBytes bytes) (entry : DeclaredHunk) (o : nu
   block_over at phase after _ e h (groups _ begun l) = zero_over after phases.GroupCount l (groups_over bytes fit entry o (at + 1) l.end (word_over at phase phases.GroupCount e h begun refl) l.items) refl refl
   block_over at phase after _ e h (symbols _ begun l) = zero_over after phases.EntryWord l (symbols_over bytes fit entry o (at + 1) l.end (word_over at phase phases.EntryWord e h begun refl) l.items) refl refl
 
--- Blocks lead on, where there are some.
-blocks_over : (bytes : List ℕ) → IsBytes bytes → (entry : DeclaredHunk) (o : numbers.OpenHunk) (at : ℕ) (phase : Phase) → part_at phase ≡ parts.BlockWord → Walks bytes at (positions.Body o phase) entry → (end : ℕ) (now : Bool) →
-    AreBlocks (longs bytes) o.hunks entry.longs at o.has_content end now → ((at ≡ end) × (o.has_content ≡ now)) ⊎ Walks bytes end (positions.Body (having now o) phases.BlockWord) entry
-blocks_over bytes fit entry o at phase e h _ _ no_block = inl (refl, refl)
-blocks_over bytes fit entry o at phase e h _ _ (one_block mid after later now before block) =
-    inr (elim (blocks_over bytes fit entry o at phase e h mid later before) [
-      | inl same ↦ block_over bytes fit entry o at phase after now e h (subst (λ (k : Bool). IsWholeBlock (longs bytes) o.hunks entry.longs at k after now) (sym same.1) (subst (λ (k : ℕ). IsWholeBlock (longs bytes) o.hunks entry.longs k later after now) (sym same.0) block))
-      | inr walked ↦ block_over bytes fit entry (having later o) mid phases.BlockWord after now refl walked block
-    ])
-
--- ---- hunks
-
 -- The walk stands at the place.
-record StandsAt (bytes : List ℕ) (p : BlockPlace) : Type 0 where
-  at_word : part_at p.phase ≡ parts.BlockWord
-  walks : Walks bytes p.at (positions.Body p.hunk p.phase) p.entry
+abbrev StandsAt : List ℕ → BlockPlace → Type 0
+StandsAt bytes p = Walks bytes p.at (position_at p) p.entry
 
--- It stands after blocks.
-past_over : (bytes : List ℕ) → IsBytes bytes → (p : BlockPlace) (end : ℕ) (now : Bool) → StandsAt bytes p → AreBlocks (longs bytes) p.hunk.hunks p.entry.longs p.at p.hunk.has_content end now → StandsAt bytes (past p end now)
-past_over bytes fit p end now h b = go (nat_eq end p.at) refl
-  where
-    go : (same : Bool) → nat_eq end p.at ≡ same → StandsAt bytes (if same then p else record { at = end; hunk = having now p.hunk; phase = phases.BlockWord; entry = p.entry })
-    go true e = h
-    go false e = elim (blocks_over bytes fit p.entry p.hunk p.at p.phase h.at_word h.walks end now b) [
-      | inl none ↦ let same = eq-eqb end p.at (sym none.0) in absurd (cc (e, same))
-      | inr walked ↦ record { at_word = refl; walks = walked }
-    ]
+at_word : (begun : Bool) → part_at (phase_at begun) ≡ parts.BlockWord
+at_word false = refl
+at_word true = refl
 
--- It stands where the next hunk opens.
-opening_over : (bytes : List ℕ) → IsBytes bytes → (p : BlockPlace) → StandsAt bytes p → (q : BlockPlace) → IsOpened (longs bytes) p q → StandsAt bytes (opening (longs bytes) p)
-opening_over bytes fit p s q o = record { at_word = refl; walks = go p.phase s.at_word s.walks }
+-- The END of a hunk leads to where the next opens, and to its entry.
+end_over : (bytes : List ℕ) → IsBytes bytes → (p : BlockPlace) → StandsAt bytes p → EndsHunk (longs bytes) p.hunk.has_content p.at → 0 < p.hunk.ahead → StandsAt bytes (opening (longs bytes) p)
+end_over bytes fit p h e more = go p.begun h
   where
     next : Position
-    next = positions.Body (opening (longs bytes) p).hunk phases.FirstBlock
-
-    ends : begin (kind (get_or (longs bytes) p.at 0)) ≡ None
-    ends = ap begin o.ends
+    next = position_at (opening (longs bytes) p)
 
     opens : next ≡ scan.close p.hunk
-    opens = let ahead : suc (p.hunk.ahead - 1) ≡ p.hunk.ahead = omega (arith, o.ahead) in ap (scan.open_next p.hunk.hunks) ahead
+    opens = let left : suc (p.hunk.ahead - 1) ≡ p.hunk.ahead = omega (arith, more) in ap (scan.open_next p.hunk.hunks) left
 
-    on : (phase : Phase) → Walks bytes p.at (positions.Body p.hunk phase) p.entry → scan.close p.hunk ≡ scan.step (positions.Body p.hunk phase) (get_or (longs bytes) p.at 0) → refuse (role_at p.entry.longs (positions.Body p.hunk phase)) (get_or (longs bytes) p.at 0) ≡ None →
-        (let q = opening (longs bytes) p in Walks bytes q.at (positions.Body q.hunk q.phase) q.entry)
-    on phase h steps ok = passes bytes fit p.at (positions.Body p.hunk phase) p.entry h o.inside (get_or (longs bytes) p.at 0) refl next (opens ∙ steps) ok (λ d. absurd cc)
+    on : (phase : Phase) → Walks bytes p.at (positions.Body p.hunk phase) p.entry → scan.close p.hunk ≡ scan.step (positions.Body p.hunk phase) (get_or (longs bytes) p.at 0) → refuse (role_at p.entry.longs (positions.Body p.hunk phase)) (get_or (longs bytes) p.at 0) ≡ None → StandsAt bytes (opening (longs bytes) p)
+    on phase h steps ok = passes bytes fit p.at (positions.Body p.hunk phase) p.entry h e.inside (get_or (longs bytes) p.at 0) refl next (opens ∙ steps) ok (λ d. absurd cc)
 
-    go : (phase : Phase) → part_at phase ≡ parts.BlockWord → Walks bytes p.at (positions.Body p.hunk phase) p.entry → (let q = opening (longs bytes) p in Walks bytes q.at (positions.Body q.hunk q.phase) q.entry)
-    go phases.FirstBlock is h = on phases.FirstBlock h (ap (scan.onward p.hunk (scan.close p.hunk)) (sym ends)) o.accepted
-    go phases.BlockWord is h = on phases.BlockWord h (ap (scan.onward p.hunk (scan.close p.hunk)) (sym ends)) o.accepted
-    go _ is h = absurd cc
+    go : (begun : Bool) → Walks bytes p.at (positions.Body p.hunk (phase_at begun)) p.entry → StandsAt bytes (opening (longs bytes) p)
+    go false h = on phases.FirstBlock h (ap (scan.onward p.hunk (scan.close p.hunk)) (sym e.ends)) e.accepted
+    go true h = on phases.BlockWord h (ap (scan.onward p.hunk (scan.close p.hunk)) (sym e.ends)) e.accepted
 
--- Blocks and hunks lead on.
-parts_over : (bytes : List ℕ) → IsBytes bytes → (from to : BlockPlace) → StandsAt bytes from → AreParts (longs bytes) from to → StandsAt bytes to
-parts_over bytes fit from _ h no_part = h
-parts_over bytes fit from _ h (more_blocks p end now before b) = past_over bytes fit p end now (parts_over bytes fit from p h before) b
-parts_over bytes fit from _ h (one_hunk p q before o) = subst (StandsAt bytes) (sym o.opens) (opening_over bytes fit p (parts_over bytes fit from p h before) q o)
+-- Blocks lead on.
+blocks_over : (bytes : List ℕ) → IsBytes bytes → (from to : BlockPlace) → StandsAt bytes from → AreBlocks (longs bytes) from to → StandsAt bytes to
+blocks_over bytes fit from _ h no_block = h
+blocks_over bytes fit from _ h (one_block p q before b) = go q (blocks_over bytes fit from p h before) b
+  where
+    go : (q : BlockPlace) → StandsAt bytes p → IsBlock (longs bytes) p q → StandsAt bytes q
+    go _ s (of_hunk after now block) = block_over bytes fit p.entry p.hunk p.at (phase_at p.begun) after now (at_word p.begun) s block
+    go _ s (hunk_end q e opened) = subst (StandsAt bytes) (sym opened.opens) (end_over bytes fit p s e opened.ahead)
 
 -- ---- what is passed over
 
 -- It leads on.
-pub walk_over : (bytes : List ℕ) → IsBytes bytes → (at : ℕ) (p : Position) (entry : DeclaredHunk) (end : ℕ) (q : Position) (now : DeclaredHunk) → Walks bytes at p entry → IsPassed (longs bytes) at p entry end q now → Walks bytes end q now
+pub walk_over : (bytes : List ℕ) → IsBytes bytes → (at : ℕ) (p : Position) (entry : DeclaredHunk) (to : ℕ) (q : Position) (now : DeclaredHunk) → Walks bytes at p entry → IsPassed (longs bytes) at p entry to q now → Walks bytes to q now
 walk_over bytes fit at p entry _ _ _ h nothing = h
-walk_over bytes fit at p entry _ _ _ h (passed_rows hunks owed count end is few f) =
-    rows_over bytes fit entry hunks owed at (subst (λ (p : Position). Walks bytes at p entry) is h) count end few f
-walk_over bytes fit at p entry _ _ _ h (passed_blocks o phase to is at_word f) =
-    let from : BlockPlace = record { at = at; hunk = o; phase = phase; entry = entry } in
-    let here : StandsAt bytes from = record { at_word = at_word; walks = subst (λ (p : Position). Walks bytes at p entry) is h } in
-    (parts_over bytes fit from to here f).walks
+walk_over bytes fit at p entry _ _ _ h (passed_rows hunks owed count to is few f) =
+    rows_over bytes fit entry hunks owed at (subst (λ (p : Position). Walks bytes at p entry) is h) count to few f
+walk_over bytes fit at p entry _ _ _ h (passed_blocks o begun to is f) =
+    blocks_over bytes fit (record { at = at; hunk = o; begun = begun; entry = entry }) to (subst (λ (p : Position). Walks bytes at p entry) is h) f

@@ -1,13 +1,12 @@
 //! Parts of a load file that are passed over at once.
 ghost use Rattle.std.specs.Prelude.{◌≡◌, ◌≤◌, ◌<◌, ◌+◌, ◌*◌, IfSome, length, slice_index};
 ghost use Rattle.hunk_words.specs.Longs.{longs};
-ghost use Rattle.hunk_files.specs.Passing.{AreBlocks, AreGroups, AreParts, AreRows, AreSymbols, IsList};
-ghost use Rattle.hunk_files.specs.Passing.{IsContent, IsCounted, IsGroup, IsOpened, IsPassed, IsWholeBlock};
-ghost use Rattle.hunk_files.specs.Passing.{past};
+ghost use Rattle.hunk_files.specs.Passing.{AreBlocks, AreGroups, AreRows, AreSymbols, IsList};
+ghost use Rattle.hunk_files.specs.Passing.{IsBlock, IsContent, IsCounted, IsGroup, IsOpened, IsPassed, past, position_at};
 
 use crate::load::walk::DeclaredHunk;
 use hunk_grammar::{OpenHunk, Phase, Position, by_kind, is_outside};
-use hunk_words::{BlockWord, CONTENT_LIMIT, Kind, NAME_LIMIT, SizeWord, word_at};
+use hunk_words::{BlockWord, CONTENT_LIMIT, NAME_LIMIT, SizeWord, word_at};
 
 /// A place between two blocks of a load file, and the hunk that is open there.
 #[derive(Clone, Copy)]
@@ -16,30 +15,39 @@ pub(super) struct BlockPlace {
     pub at: usize,
     /// The hunk.
     pub hunk: OpenHunk,
-    /// What the longword is for: the word of its first block, or of a further one.
-    pub phase: Phase,
+    /// Whether a block of it came.
+    pub begun: bool,
     /// What the table declares of the hunk.
     pub entry: DeclaredHunk,
 }
 
 impl BlockPlace {
-    /// The place after the blocks of the hunk that end before this longword, by then with its content
+    /// The place after a block of the hunk that ends before this longword, by then with its content
     /// block or not.
     #[inline(always)]
-    fn past(self, end: usize, has_content: bool) -> BlockPlace
-        ensures { result ≡ past self end has_content }
+    fn past(self, after: usize, has_content: bool) -> BlockPlace
+        ensures { result ≡ past self after has_content }
     {
-        if end == self.at {
-            return self;
-        }
         BlockPlace {
-            at: end,
+            at: after,
             hunk: OpenHunk {
                 has_content,
                 ..self.hunk
             },
-            phase: Phase::BlockWord,
+            begun: true,
             entry: self.entry,
+        }
+    }
+
+    /// The position here.
+    #[inline(always)]
+    fn position(self) -> Position
+        ensures { result ≡ position_at self }
+    {
+        if self.begun {
+            Position::Body(self.hunk, Phase::BlockWord)
+        } else {
+            Position::Body(self.hunk, Phase::FirstBlock)
         }
     }
 }
@@ -62,59 +70,112 @@ pub(super) fn pass_over(
             let owed = owed - count;
             (end, Position::SizeWord { hunks, owed }, entry)
         }
-        Position::Body(hunk, phase @ (Phase::FirstBlock | Phase::BlockWord)) => {
-            let from = BlockPlace {
+        Position::Body(hunk, Phase::FirstBlock) => pass_blocks(
+            bytes,
+            BlockPlace {
                 at,
                 hunk,
-                phase,
+                begun: false,
                 entry,
-            };
-            let end = after_hunks(bytes, from);
-            (end.at, Position::Body(end.hunk, end.phase), end.entry)
-        }
+            },
+        ),
+        Position::Body(hunk, Phase::BlockWord) => pass_blocks(
+            bytes,
+            BlockPlace {
+                at,
+                hunk,
+                begun: true,
+                entry,
+            },
+        ),
         _ => (at, position, entry),
     }
 }
 
-/// The place after the blocks, and the hunks among them, that stand from this one on and end in the
-/// bytes: up to the first that may be refused, or the END of the file.
+/// The same, from a place between two blocks on.
+#[inline(always)]
+fn pass_blocks(bytes: &[u8], from: BlockPlace) -> (usize, Position, DeclaredHunk)
+    ensures { IsPassed (longs bytes.now) from.at (position_at from) from.entry
+        result.0 result.1 result.2 }
+{
+    let end = after_blocks(bytes, from);
+    (end.at, end.position(), end.entry)
+}
+
+/// The place after the blocks that stand from this one on and end in the bytes, up to the first
+/// that may be refused, or the END of the file.
 #[inline(never)]
-fn after_hunks(bytes: &[u8], from: BlockPlace) -> BlockPlace
-    ensures { AreParts (longs bytes.now) from result }
+#[tactic(auto, using(crate::proofs::walk::Passed::place_on))]
+fn after_blocks(bytes: &[u8], from: BlockPlace) -> BlockPlace
+    ensures { AreBlocks (longs bytes.now) from result }
 {
     let mut place = from;
-    'hunks: loop {
-        let BlockPlace { at, hunk, entry, .. } = place;
-        let (end, has_content) = after_blocks(
-            bytes,
-            at,
-            hunk.hunks,
-            entry.longs,
-            hunk.has_content,
-        );
-        let last = place.past(end, has_content);
-        let Some(next) = after_end(bytes, last) else {
-            return last;
-        };
+    'passing: while let Some(next) = after_block(bytes, place) {
         place = next;
+    }
+    place
+}
+
+/// The place after one such block, where one stands here.
+#[inline(always)]
+fn after_block(bytes: &[u8], place: BlockPlace) -> Option<BlockPlace>
+    ensures { IfSome result (IsBlock (longs bytes.now) place) }
+{
+    if place.at >= bytes.len() / 4 {
+        return None;
+    }
+    let word = word_at(bytes, place.at);
+    by_kind!(
+        BlockWord::of(word).kind(),
+        after_word(bytes, place, word)
+    )
+}
+
+/// The same, by the block's word.
+#[inline(always)]
+fn after_word(bytes: &[u8], place: BlockPlace, word: u32) -> Option<BlockPlace>
+    requires inside { 4 * place.at + 4 ≤ length bytes.now }
+    requires word { word ≡ slice_index (longs bytes.now) place.at }
+    ensures { IfSome result (IsBlock (longs bytes.now) place) }
+{
+    let BlockPlace { at, hunk, .. } = place;
+    // The test of a block word looks at nothing else of its hunk.
+    if let Some(_) = Position::Body(hunk, Phase::BlockWord).refuse(0, word) {
+        return None;
+    }
+    let declared = place.entry.longs;
+    let Some(phase) = Phase::begin(BlockWord::of(word).kind()) else {
+        return after_end(bytes, place);
+    };
+    match phase {
+        Phase::ContentSize => {
+            let after = after_content(bytes, at + 1, declared)?;
+            Some(place.past(after, true))
+        }
+        Phase::LongCount => {
+            let after = after_counted(bytes, at + 1)?;
+            Some(place.past(after, hunk.has_content))
+        }
+        Phase::GroupCount => {
+            let after = after_groups(bytes, at + 1, hunk.hunks, declared)?;
+            Some(place.past(after, hunk.has_content))
+        }
+        Phase::EntryWord => {
+            let after = after_symbols(bytes, at + 1)?;
+            Some(place.past(after, hunk.has_content))
+        }
+        _ => None,
     }
 }
 
 /// The place after the END that stands at this one, where another hunk opens.
 #[inline(always)]
 fn after_end(bytes: &[u8], place: BlockPlace) -> Option<BlockPlace>
+    requires { 4 * place.at + 4 ≤ length bytes.now }
     ensures { IfSome result (IsOpened (longs bytes.now) place) }
 {
     let BlockPlace { at, hunk, entry, .. } = place;
-    let whole = bytes.len() / 4;
-    if at >= whole || hunk.ahead == 0 || entry.next >= whole {
-        return None;
-    }
-    let word = word_at(bytes, at);
-    let Kind::End = BlockWord::of(word).kind() else {
-        return None;
-    };
-    if let Some(_) = Position::Body(hunk, Phase::BlockWord).refuse(0, word) {
+    if hunk.ahead == 0 || entry.next >= bytes.len() / 4 {
         return None;
     }
     Some(BlockPlace {
@@ -124,101 +185,9 @@ fn after_end(bytes: &[u8], place: BlockPlace) -> Option<BlockPlace>
             has_content: false,
             ..hunk
         },
-        phase: Phase::FirstBlock,
+        begun: false,
         entry: DeclaredHunk::at(bytes, entry.next),
     })
-}
-
-/// The longword after the blocks that stand from `from` on and end in the bytes, up to the first
-/// that may be refused in a hunk of `declared` longs of a file of `hunks` hunks; and whether the
-/// content block of the hunk came up to there, as `has_content` says of `from`.
-#[inline(always)]
-#[tactic(auto, using(crate::proofs::walk::Passed::block_on))]
-fn after_blocks(
-    bytes: &[u8],
-    from: usize,
-    hunks: u32,
-    declared: u32,
-    has_content: bool,
-) -> (usize, bool)
-    ensures { AreBlocks (longs bytes.now) hunks declared from has_content result.0 result.1 }
-{
-    let mut at = from;
-    let mut has = has_content;
-    'passing: while let Some(next) = after_block(bytes, at, hunks, declared, has) {
-        at = next.0;
-        has = next.1;
-    }
-    (at, has)
-}
-
-/// The longword after one such block, where one stands at `at`, and whether the content block came
-/// up to there.
-#[inline(always)]
-fn after_block(
-    bytes: &[u8],
-    at: usize,
-    hunks: u32,
-    declared: u32,
-    has_content: bool,
-) -> Option<(usize, bool)>
-    ensures { IfSome result (λ r.
-        IsWholeBlock (longs bytes.now) hunks declared at has_content r.0 r.1) }
-{
-    if at >= bytes.len() / 4 {
-        return None;
-    }
-    let word = word_at(bytes, at);
-    by_kind!(
-        BlockWord::of(word).kind(),
-        after_word(bytes, at, hunks, declared, has_content, word)
-    )
-}
-
-/// The same, by the block's word.
-#[inline(always)]
-fn after_word(
-    bytes: &[u8],
-    at: usize,
-    hunks: u32,
-    declared: u32,
-    has_content: bool,
-    word: u32,
-) -> Option<(usize, bool)>
-    requires inside { 4 * at + 4 ≤ length bytes.now }
-    requires word { word ≡ slice_index (longs bytes.now) at }
-    ensures { IfSome result (λ r.
-        IsWholeBlock (longs bytes.now) hunks declared at has_content r.0 r.1) }
-{
-    // The test of a block word looks at nothing else of its hunk.
-    let hunk = OpenHunk {
-        hunks: 0,
-        ahead: 0,
-        has_content,
-    };
-    if let Some(_) = Position::Body(hunk, Phase::BlockWord).refuse(0, word) {
-        return None;
-    }
-    let phase = Phase::begin(BlockWord::of(word).kind())?;
-    match phase {
-        Phase::ContentSize => {
-            let after = after_content(bytes, at + 1, declared)?;
-            Some((after, true))
-        }
-        Phase::LongCount => {
-            let after = after_counted(bytes, at + 1)?;
-            Some((after, has_content))
-        }
-        Phase::GroupCount => {
-            let after = after_groups(bytes, at + 1, hunks, declared)?;
-            Some((after, has_content))
-        }
-        Phase::EntryWord => {
-            let after = after_symbols(bytes, at + 1)?;
-            Some((after, has_content))
-        }
-        _ => None,
-    }
 }
 
 /// The longword after the content whose size word stands at `at`, where it ends in the bytes and
@@ -303,8 +272,9 @@ fn after_group(bytes: &[u8], at: usize, count: u32, hunks: u32, declared: u32) -
     if after > bytes.len() / 4 || word_at(bytes, at + 1) >= hunks {
         return None;
     }
-    let mut largest = 0;
-    'offsets: for i in at + 2..after {
+    // Most groups of small hunks have one offset.
+    let mut largest = word_at(bytes, at + 2);
+    'offsets: for i in at + 3..after {
         // Where a longword is put together from its bytes, and not read by `word_at`, the compiler
         // makes the loop four longwords wide.
         let start = 4 * i;

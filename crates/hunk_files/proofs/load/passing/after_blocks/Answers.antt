@@ -6,6 +6,5 @@ passing-init c = no_block
 
 pub passing-preserved : goal.passing-preserved
 passing-preserved c =
-    let l = c.passing in
-    let next = c.in-Some.next in
-    one_block l.at next.0 l.has next.1 l.invariant c.in-Some.ensures
+    let p = c.passing in
+    one_block p.place c.in-Some.next p.invariant c.in-Some.ensures

@@ -4,7 +4,7 @@ use Rattle.hunk_files.specs.Passing.{AreBlocks}
 use Rattle.hunk_files.proofs.load.passing.after_blocks.Given as goal
 
 abbrev pub invariant-passing : goal.invariant-passing
-invariant-passing l = AreBlocks (longs l.bytes) l.hunks l.declared l.from l.has_content l.at l.has
+invariant-passing l = AreBlocks (longs l.bytes) l.fn.from l.place
 
 abbrev pub decreases-passing : goal.decreases-passing
-decreases-passing l = length (longs l.bytes) - l.at
+decreases-passing l = length (longs l.bytes) - l.place.at
