@@ -8,7 +8,7 @@ use Rattle.hunk_grammar.specs.declared.position.OpenHunk.{OpenHunk}
 use Rattle.hunk_grammar.specs.declared.position.Position.{Position}
 use Rattle.hunk_grammar.specs.declared.position.Position.TheVariants as positions
 use Rattle.hunk_grammar.specs.Positions.{EndsWithin}
-use Rattle.hunk_grammar.specs.Roles.{refuse_word}
+use Rattle.hunk_grammar.specs.Roles.{Role as roles, refuse, refuse_word}
 use Rattle.hunk_files.specs.Entries.{entry_after}
 use Rattle.hunk_files.specs.declared.load.passing.BlockPlace.{BlockPlace}
 use Rattle.hunk_files.specs.declared.load.walk.DeclaredHunk.{DeclaredHunk}
@@ -143,3 +143,28 @@ pub data IsPassed (ws : List ℕ) (at : ℕ) (p : Position) (entry : DeclaredHun
   passed_rows : (hunks owed count end : ℕ) → p ≡ positions.SizeWord hunks owed → count ≤ owed → AreRows ws at count end → IsPassed ws at p entry end (positions.SizeWord hunks (owed - count)) entry
   passed_blocks : (o : OpenHunk) (begun : Bool) (to : BlockPlace) → p ≡ positions.Body o (phase_at begun) → AreBlocks ws (record { at = at; hunk = o; begun = begun; entry = entry }) to →
       IsPassed ws at p entry to.at (position_at to) to.entry
+
+-- ---- the front
+
+-- The longwords of a header of so many hunks stand up to its table, and another after them. None is refused.
+pub record HasHeaderFront (ws : List ℕ) (hunks : ℕ) : Type 0 where
+  pub whole : 5 < length ws
+  pub hunks_are : hunks ≡ slice_index ws 2
+  pub some : 0 < hunks
+  pub word : refuse roles.FirstLong (slice_index ws 0) ≡ None
+  pub names : refuse roles.ResidentName (slice_index ws 1) ≡ None
+  pub size : refuse roles.TableSize hunks ≡ None
+  pub first : refuse roles.FirstHunk (slice_index ws 3) ≡ None
+  pub last : refuse (roles.LastHunk hunks) (slice_index ws 4) ≡ None
+
+-- The header is whole, and at the place after it the first hunk opens, which the first entry of the table declares.
+pub record IsFirstPlace (ws : List ℕ) (p : BlockPlace) : Type 0 where
+  pub header : HasHeaderFront ws p.hunk.hunks
+  pub table : AreRows ws 5 p.hunk.hunks p.at
+  pub opens : p ≡ record { at = p.at; hunk = record { hunks = p.hunk.hunks; ahead = p.hunk.hunks - 1; has_content = false }; begun = false; entry = entry_after (slice_index ws 5) 5 }
+
+-- What is passed over from the start on goes up to the longword, and the position and the entry come there: nothing, or the header
+-- and the blocks after it.
+pub data IsFrontPassed (ws : List ℕ) : ℕ → Position → DeclaredHunk → Type 0 where
+  no_front : IsFrontPassed ws 0 positions.FirstLong (record { longs = 0; next = 5 })
+  passed_front : (first : BlockPlace) (to : ℕ) (q : Position) (entry : DeclaredHunk) → IsFirstPlace ws first → IsPassed ws first.at (position_at first) first.entry to q entry → IsFrontPassed ws to q entry

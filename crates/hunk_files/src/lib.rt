@@ -22,7 +22,9 @@ pub use crate::blocks::BlockViews;
 pub use crate::file_view::{FileView, sniff};
 pub use crate::hunk_file::HunkFile;
 pub use crate::items::{Item, Items};
-pub use crate::load::{ImageFault, LoadFile, LoadHunkView, LoadHunkViews, LoadView, TableIter};
+pub use crate::load::{
+    ImageFault, LoadFile, LoadHunkView, LoadHunkViews, LoadView, TableIter, header_hunks,
+};
 pub use crate::object::{
     Finding, FindingKind, Findings, Hunk, HunkView, ObjectFile, ObjectView, PlacedFinding, Unit,
     UnitView, reference_width, relocation_width,

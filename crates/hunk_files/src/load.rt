@@ -2,6 +2,7 @@
 
 mod file;
 mod filling;
+mod header;
 mod hunk;
 mod hunk_views;
 mod image;
@@ -14,6 +15,7 @@ mod view;
 mod walk;
 
 pub use crate::load::file::LoadFile;
+pub use crate::load::header::header_hunks;
 pub use crate::load::hunk_views::{LoadHunkView, LoadHunkViews};
 pub use crate::load::image::ImageFault;
 pub use crate::load::table::TableIter;

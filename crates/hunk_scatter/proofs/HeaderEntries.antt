@@ -1,9 +1,13 @@
 -- Entries of a header's table that are a longword each, passed at once.
-use Rattle.std.proofs.Common.{◌≡◌, ℕ, zero, suc, ◌+◌, ◌-◌, ◌*◌, ◌<◌, ◌≤◌, Bool, false, if◌then◌else◌, List, length, drop, get_or, refl, sym, ap, subst, ◌∙◌, arith}
+use Rattle.std.proofs.Common.{◌≡◌, ℕ, zero, suc, ◌+◌, ◌-◌, ◌*◌, ◌<◌, ◌≤◌, Bool, false, if◌then◌else◌, List, length, drop, get_or, refl, sym, ap, subst, ◌∙◌, arith, None}
 use Rattle.hunk_words.specs.{Bits.{has_both_bits, size_longs}, Longs.longs}
 use Rattle.hunk_grammar.specs.{Positions.owe_entries, declared.position.Position.Position}
 use Rattle.hunk_grammar.specs.declared.position.Position.TheVariants as positions
-use Rattle.hunk_scatter.specs.{declared.header_state.HeaderState.HeaderState, HeaderLoaderFields.{PassesWord, PassesWords}}
+use Rattle.hunk_grammar.specs.{Positions.role_at, Roles.refuse}
+use Rattle.hunk_files.specs.Passing.{HasHeaderFront}
+use Rattle.hunk_words.proofs.PartLaws.{longs-drop}
+use Rattle.std.proofs.lemmas.List.{get_or-drop}
+use Rattle.hunk_scatter.specs.{declared.header_state.HeaderState.HeaderState, HeaderLoaderFields.{PassesWord, PassesWords, at_start}}
 
 -- the state at an entry, after which so many come
 abbrev pub at_entry : ℕ → ℕ → ℕ → HeaderState
@@ -50,3 +54,32 @@ one_passed budget bytes from state hunks at owed total p some word size here is 
       position_is = sym (ap (λ (both : Bool). if both then positions.Attributes hunks word owed else owe_entries hunks owed) one ∙ owe_next hunks owed some);
       total_is = ap (λ (n : ℕ). total + n) is;
     }
+
+-- ---- the longwords before the table
+
+module _ (budget : ℕ) (bytes : List ℕ) where
+  long_at : (k : ℕ) → get_or (longs (drop (0 + 4 * k) bytes)) 0 0 ≡ get_or (longs bytes) k 0
+  long_at k = let from : 0 + 4 * k ≡ 4 * k = omega arith in let same : k + 0 ≡ k = omega arith in ap (λ (ws : List ℕ). get_or ws 0 0) (longs-drop bytes k (0 + 4 * k) from) ∙ get_or-drop k (longs bytes) 0 0 ∙ ap (λ (n : ℕ). get_or (longs bytes) n 0) same
+
+  -- One of them passes.
+  front_word : (k : ℕ) (s next : HeaderState) → PassesWord budget s (get_or (longs bytes) k 0) next → PassesWord budget s (get_or (longs (drop (0 + 4 * k) bytes)) 0 0) next
+  front_word k s next passes = subst (λ (w : ℕ). PassesWord budget s w next) (sym (long_at k)) passes
+
+  at : Position → HeaderState
+  at position = record { position = position; total = 0 }
+
+  -- All of them pass.
+  pub front_passes : (hunks : ℕ) → HasHeaderFront (longs bytes) hunks → PassesWords budget bytes 0 at_start 5 (at_entry hunks (hunks - 1) 0)
+  unfolding at
+  front_passes hunks f = go hunks f.hunks_are f.some f.size f.last
+    where
+      go : (n : ℕ) → n ≡ get_or (longs bytes) 2 0 → 0 < n → refuse (role_at 0 positions.TableSize) n ≡ None → refuse (role_at 0 (positions.LastHunk n)) (get_or (longs bytes) 4 0) ≡ None → PassesWords budget bytes 0 at_start 5 (at_entry n (n - 1) 0)
+      go zero is some size last = absurd (omega (arith, some))
+      go (suc k) is some size last =
+          let left : k ≡ suc k - 1 = omega arith in
+          let word = front_word 0 at_start (at positions.ResidentName) (record { accepted = f.word; within = omega arith; position_is = refl; total_is = refl }) in
+          let names = front_word 1 (at positions.ResidentName) (at positions.TableSize) (record { accepted = f.names; within = omega arith; position_is = refl; total_is = refl }) in
+          let sized = front_word 2 (at positions.TableSize) (at (positions.FirstHunk (suc k))) (record { accepted = subst (λ (n : ℕ). refuse (role_at 0 positions.TableSize) n ≡ None) is size; within = omega arith; position_is = ap (λ (n : ℕ). positions.FirstHunk n) is; total_is = refl }) in
+          let first = front_word 3 (at (positions.FirstHunk (suc k))) (at (positions.LastHunk (suc k))) (record { accepted = f.first; within = omega arith; position_is = refl; total_is = refl }) in
+          let end = front_word 4 (at (positions.LastHunk (suc k))) (at_entry (suc k) (suc k - 1) 0) (record { accepted = last; within = omega arith; position_is = ap (λ (n : ℕ). positions.SizeWord (suc k) n) (sym left); total_is = refl }) in
+          (at (positions.LastHunk (suc k)), (at (positions.FirstHunk (suc k)), (at positions.TableSize, (at positions.ResidentName, (at_start, refl, refl, word), refl, names), refl, sized), refl, first), refl, end)

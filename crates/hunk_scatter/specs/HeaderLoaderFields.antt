@@ -52,6 +52,9 @@ pub record PassesWord (budget : ℕ) (s : HeaderState) (w : ℕ) (next : HeaderS
   pub position_is : next.position ≡ step s.position w
   pub total_is : next.total ≡ s.total + declares s.position w
 
+abbrev pub at_start : HeaderState
+at_start = record { position = positions.FirstLong; total = 0 }
+
 -- So many longwords pass, of which the first stands at this byte.
 abbrev pub PassesWords : ℕ → List ℕ → ℕ → HeaderState → ℕ → HeaderState → Type 0
 PassesWords budget bytes at s zero next = s ≡ next

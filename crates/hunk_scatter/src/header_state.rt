@@ -8,8 +8,8 @@ ghost use Rattle.hunk_scatter.specs.HeaderLoaderFields as heading;
 ghost use Rattle.hunk_scatter.specs.HeaderSizes.{HasHeaderInFront, HasHeaderSize, RefusesHeader, TellsOwed};
 ghost use Rattle.hunk_scatter.specs.Rows.{row_of};
 
-use hunk_files::Row;
-use hunk_grammar::{Position, TABLE_SIZE_AT};
+use hunk_files::{Row, header_hunks};
+use hunk_grammar::{Position, TABLE_AT, TABLE_SIZE_AT};
 use hunk_words::{LoadFault, Reason, SizeWord, word_at};
 
 /// The position, and the bytes that the size words so far declare.
@@ -133,6 +133,26 @@ pub(crate) fn take_header_word(
     by_size_word!(state, take)
 }
 
+/// Passes over the longwords before the table at once, where none of them is refused: the byte after
+/// them, and the state there. Else it is the start.
+#[inline(always)]
+fn pass_front(bytes: &[u8], budget: u64) -> (usize, HeaderState)
+    ensures passes { (count : ℕ) × (result.0 ≡ 0 + 4 * count)
+        × heading.PassesWords budget bytes.now 0 heading.at_start count result.1 }
+    ensures inside { result.0 ≤ length bytes.now }
+{
+    let start = HeaderState {
+        position: Position::FirstLong,
+        total: 0,
+    };
+    let Some(hunks) = header_hunks(bytes) else {
+        return (0, start);
+    };
+    let owed = hunks - 1;
+    let position = Position::SizeWord { hunks, owed };
+    (4 * TABLE_AT, HeaderState { position, total: 0 })
+}
+
 /// Passes over the entries of a table that are a longword each, as far as they keep to the budget
 /// and another comes after them: the byte after them, and the state there.
 #[inline(always)]
@@ -209,11 +229,7 @@ pub fn header_size(bytes: &[u8], budget: u64) -> Result<HeaderSize, NoHeader>
         (λ none. HasHeaderInFront bytes.now → none.fault.reason ≡ reasons.Budget) }
     ensures owed { IfErr result (λ none. TellsOwed bytes.now none.fault.reason none.owed) }
 {
-    let mut state = HeaderState {
-        position: Position::FirstLong,
-        total: 0,
-    };
-    let mut at = 0;
+    let (mut at, mut state) = pass_front(bytes, budget);
     'words: while !state.position.is_after_header() {
         (at, state) = pass_entries(bytes, at, state, budget);
         let rest = &bytes[at..];

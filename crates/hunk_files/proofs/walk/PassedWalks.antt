@@ -1,5 +1,5 @@
 -- The walk over a load file goes on after what is passed over at once.
-use Rattle.std.proofs.Common.{rules, ◌≡◌, ℕ, zero, suc, ◌+◌, ◌-◌, ◌*◌, ◌<◌, ◌≤◌, Bool, true, false, List, length, get_or, refl, sym, ap, subst, ◌∙◌, arith, Some, None, if◌then◌else◌, ltb, inl, inr, ◌⊎◌}
+use Rattle.std.proofs.Common.{rules, ◌≡◌, ℕ, zero, suc, ◌+◌, ◌-◌, ◌*◌, ◌<◌, ◌≤◌, Bool, true, false, List, length, get_or, refl, sym, ap, subst, ◌∙◌, arith, Some, None, if◌then◌else◌, ltb}
 use Rattle.hunk_words.specs.declared.reason.Reason.TheVariants as reasons
 use Rattle.hunk_words.specs.{Longs.{IsBytes, longs}, Bits.{size_longs, has_both_bits, name_longs}}
 use Rattle.hunk_grammar.specs.{BlockParts.Part as parts, PhaseSteps.part_at, declared.phase.Phase.Phase}
@@ -7,14 +7,14 @@ use Rattle.hunk_grammar.specs.declared.phase.Phase.TheVariants as phases
 use Rattle.hunk_blocks.proofs.Lists.{passes_else, passes_then}
 use Rattle.std.proofs.lemmas.Bool.{le-ltb, lt-ltb}
 use Rattle.hunk_grammar.specs.declared.position.OpenHunk as numbers
-use Rattle.hunk_grammar.specs.{declared.position.Position.Position, Positions.{role_at, EndsWithin}, Roles.refuse}
+use Rattle.hunk_grammar.specs.{declared.position.Position.Position, Positions.{role_at, EndsWithin}, Roles.{Role as roles, refuse}}
 use Rattle.hunk_grammar.specs.declared.position.Position.TheVariants as positions
 use Rattle.hunk_grammar.specs.Positions as scan
 use Rattle.hunk_grammar.proofs.OffsetRuns.{offset_passes}
-use Rattle.hunk_files.specs.{declared.load.walk.DeclaredHunk.DeclaredHunk, Entries.entry_at}
+use Rattle.hunk_files.specs.{declared.load.walk.DeclaredHunk.DeclaredHunk, Entries.{entry_after, entry_at}}
 use Rattle.hunk_files.specs.declared.load.passing.BlockPlace.{BlockPlace}
-use Rattle.hunk_files.specs.Passing.{AreBlocks, AreGroups, AreRows, AreSymbols, BeginsBlock, EndsHunk, IsBlock, IsGroup, IsList, IsPassed, IsWholeBlock, after_row, after_symbol, having, opening, phase_at, position_at, no_row, one_row, no_group, one_group, no_symbol, one_symbol, content, counted, groups, symbols, of_hunk, hunk_end, no_block, one_block, nothing, passed_rows, passed_blocks}
-use Rattle.hunk_files.proofs.walk.LoadWalks.{Walks, none_left, passes}
+use Rattle.hunk_files.specs.Passing.{AreBlocks, AreGroups, AreRows, AreSymbols, BeginsBlock, EndsHunk, HasHeaderFront, IsBlock, IsFrontPassed, IsGroup, IsList, IsPassed, IsWholeBlock, after_row, after_symbol, having, opening, phase_at, position_at, no_row, one_row, no_group, one_group, no_symbol, one_symbol, content, counted, groups, symbols, of_hunk, hunk_end, no_block, one_block, nothing, passed_rows, passed_blocks, no_front, passed_front}
+use Rattle.hunk_files.proofs.walk.LoadWalks.{Walks, none_left, passes, start_walk}
 
 -- ---- a longword and its run
 
@@ -246,3 +246,74 @@ walk_over bytes fit at p entry _ _ _ h (passed_rows hunks owed count to is few f
     rows_over bytes fit entry hunks owed at (subst (λ (p : Position). Walks bytes at p entry) is h) count to few f
 walk_over bytes fit at p entry _ _ _ h (passed_blocks o begun to is f) =
     blocks_over bytes fit (record { at = at; hunk = o; begun = begun; entry = entry }) to (subst (λ (p : Position). Walks bytes at p entry) is h) f
+
+-- ---- the front
+
+-- A longword of the header leads to the next, where no hunk opens.
+header_word_over : (bytes : List ℕ) → IsBytes bytes → (entry : DeclaredHunk) (at : ℕ) (from to : Position) → Walks bytes at from entry → at < length (longs bytes) → to ≡ scan.step from (get_or (longs bytes) at 0) → refuse (role_at entry.longs from) (get_or (longs bytes) at 0) ≡ None → PassesOver to 0 to → Walks bytes (at + 1) to entry
+header_word_over bytes fit entry at from to h inside steps ok over =
+    leads bytes fit entry at (at + 1) from to to h 0 (omega arith) (omega (arith, inside)) (get_or (longs bytes) at 0) refl steps ok over
+
+-- The longwords before the table lead to it.
+front_over : (bytes : List ℕ) → IsBytes bytes → (entry : DeclaredHunk) (hunks : ℕ) → Walks bytes 0 positions.FirstLong entry → HasHeaderFront (longs bytes) hunks → Walks bytes 5 (positions.SizeWord hunks (hunks - 1)) entry
+front_over bytes fit entry hunks h f = go hunks f.hunks_are f.some f.size f.last
+  where
+    go : (n : ℕ) → n ≡ get_or (longs bytes) 2 0 → 0 < n → refuse roles.TableSize n ≡ None → refuse (roles.LastHunk n) (get_or (longs bytes) 4 0) ≡ None → Walks bytes 5 (positions.SizeWord n (n - 1)) entry
+    go zero is some size last = absurd (omega (arith, some))
+    go (suc k) is some size last =
+        let names = header_word_over bytes fit entry 0 positions.FirstLong positions.ResidentName h (omega (arith, f.whole)) refl f.word (record { goes_on = λ d. absurd cc; run = refl; passed = refl; same = λ all entry. refl }) in
+        let sized = header_word_over bytes fit entry 1 positions.ResidentName positions.TableSize names (omega (arith, f.whole)) refl f.names (record { goes_on = λ d. absurd cc; run = refl; passed = refl; same = λ all entry. refl }) in
+        let first = header_word_over bytes fit entry 2 positions.TableSize (positions.FirstHunk (suc k)) sized (omega (arith, f.whole)) (ap (λ (n : ℕ). positions.FirstHunk n) is) (subst (λ (n : ℕ). refuse roles.TableSize n ≡ None) is size) (record { goes_on = λ d. absurd cc; run = refl; passed = refl; same = λ all entry. refl }) in
+        let last_hunk = header_word_over bytes fit entry 3 (positions.FirstHunk (suc k)) (positions.LastHunk (suc k)) first (omega (arith, f.whole)) refl f.first (record { goes_on = λ d. absurd cc; run = refl; passed = refl; same = λ all entry. refl }) in
+        let left : k ≡ suc k - 1 = omega arith in
+        subst (λ (n : ℕ). Walks bytes 5 (positions.SizeWord (suc k) n) entry) left
+        (header_word_over bytes fit entry 4 (positions.LastHunk (suc k)) (positions.SizeWord (suc k) k) last_hunk (omega (arith, f.whole)) refl last (record { goes_on = λ d. absurd cc; run = refl; passed = refl; same = λ all entry. refl }))
+
+-- The last row leads to where the first hunk opens.
+last_row_over : (bytes : List ℕ) → IsBytes bytes → (entry : DeclaredHunk) (left at : ℕ) → Walks bytes at (positions.SizeWord (suc left) 0) entry → after_row (longs bytes) at ≤ length (longs bytes) →
+    Walks bytes (after_row (longs bytes) at) (scan.open_next (suc left) (suc left)) (entry_after (get_or (longs bytes) entry.next 0) entry.next)
+last_row_over bytes fit entry left at h whole = go (has_both_bits (get_or (longs bytes) at 0)) refl
+  where
+    opens : Position
+    opens = scan.open_next (suc left) (suc left)
+
+    go : (b : Bool) → has_both_bits (get_or (longs bytes) at 0) ≡ b → Walks bytes (after_row (longs bytes) at) (scan.open_next (suc left) (suc left)) (entry_after (get_or (longs bytes) entry.next 0) entry.next)
+    go false e =
+        let w = get_or (longs bytes) at 0 in
+        let end : at + (1 + 0) ≡ after_row (longs bytes) at = omega (arith, ap (λ (b : Bool). at + (if b then 2 else 1)) e) in
+        let next : Bool → Position = λ b. if b then positions.Attributes (suc left) w 0 else opens in
+        subst (λ (n : ℕ). Walks bytes n opens (entry_after (get_or (longs bytes) entry.next 0) entry.next)) end
+        (passes bytes fit at (positions.SizeWord (suc left) 0) entry h (omega (arith, end, whole)) w refl opens (ap next (sym e)) refl (λ d. absurd cc))
+    go true e =
+        let w = get_or (longs bytes) at 0 in
+        let end : at + 1 + (1 + 0) ≡ after_row (longs bytes) at = omega (arith, ap (λ (b : Bool). at + (if b then 2 else 1)) e) in
+        let here : Position = positions.Attributes (suc left) w 0 in
+        let next : Bool → Position = λ b. if b then here else opens in
+        let extra = header_word_over bytes fit entry at (positions.SizeWord (suc left) 0) here h (omega (arith, end, whole)) (ap next (sym e)) refl (record { goes_on = λ d. absurd cc; run = refl; passed = refl; same = λ all entry. refl }) in
+        subst (λ (n : ℕ). Walks bytes n opens (entry_after (get_or (longs bytes) entry.next 0) entry.next)) end
+        (passes bytes fit (at + 1) here entry extra (omega (arith, end, whole)) (get_or (longs bytes) (at + 1) 0) refl opens refl refl (λ d. absurd cc))
+
+-- The table leads to where the first hunk opens.
+table_over : (bytes : List ℕ) → IsBytes bytes → (entry : DeclaredHunk) (left at end : ℕ) → Walks bytes at (positions.SizeWord (suc left) left) entry → AreRows (longs bytes) at (suc left) end →
+    Walks bytes end (scan.open_next (suc left) (suc left)) (entry_after (get_or (longs bytes) entry.next 0) entry.next)
+table_over bytes fit entry left at _ h (one_row _ mid before whole) =
+    let none : left - left ≡ 0 = none_left left in
+    let few : left ≤ left = omega arith in
+    let rows = rows_over bytes fit entry (suc left) left at h left mid few before in
+    last_row_over bytes fit entry left mid (subst (λ (n : ℕ). Walks bytes mid (positions.SizeWord (suc left) n) entry) none rows) whole
+
+-- What is passed over from the start on leads on.
+pub walk_front : (bytes : List ℕ) → IsBytes bytes → (at : ℕ) (p : Position) (entry : DeclaredHunk) → IsFrontPassed (longs bytes) at p entry → Walks bytes at p entry
+walk_front bytes fit _ _ _ no_front = start_walk bytes
+walk_front bytes fit _ _ _ (passed_front first to q entry f passed) =
+    walk_over bytes fit first.at (position_at first) first.entry to q entry (subst (StandsAt bytes) (sym f.opens) (go first.hunk.hunks f.header f.table)) passed
+  where
+    go : (hunks : ℕ) → HasHeaderFront (longs bytes) hunks → AreRows (longs bytes) 5 hunks first.at → StandsAt bytes (record { at = first.at; hunk = record { hunks = hunks; ahead = hunks - 1; has_content = false }; begun = false; entry = entry_after (get_or (longs bytes) 5 0) 5 })
+    go zero header table = absurd (omega (arith, header.some))
+    go (suc left) header table =
+        let ahead : left ≡ suc left - 1 = omega arith in
+        let entry : DeclaredHunk = record { longs = 0; next = 5 } in
+        let at_table = front_over bytes fit entry (suc left) (start_walk bytes) header in
+        let here = subst (λ (n : ℕ). Walks bytes 5 (positions.SizeWord (suc left) n) entry) (sym ahead) at_table in
+        let opened = table_over bytes fit entry left 5 first.at here table in
+        subst (λ (n : ℕ). Walks bytes first.at (positions.Body (record { hunks = suc left; ahead = n; has_content = false }) phases.FirstBlock) (entry_after (get_or (longs bytes) 5 0) 5)) ahead opened

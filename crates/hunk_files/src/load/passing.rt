@@ -94,7 +94,7 @@ pub(super) fn pass_over(
 
 /// The same, from a place between two blocks on.
 #[inline(always)]
-fn pass_blocks(bytes: &[u8], from: BlockPlace) -> (usize, Position, DeclaredHunk)
+pub(super) fn pass_blocks(bytes: &[u8], from: BlockPlace) -> (usize, Position, DeclaredHunk)
     ensures { IsPassed (longs bytes.now) from.at (position_at from) from.entry
         result.0 result.1 result.2 }
 {
@@ -125,10 +125,7 @@ fn after_block(bytes: &[u8], place: BlockPlace) -> Option<BlockPlace>
         return None;
     }
     let word = word_at(bytes, place.at);
-    by_kind!(
-        BlockWord::of(word).kind(),
-        after_word(bytes, place, word)
-    )
+    by_kind!(BlockWord::of(word).kind(), after_word(bytes, place, word))
 }
 
 /// The same, by the block's word.
@@ -174,7 +171,12 @@ fn after_end(bytes: &[u8], place: BlockPlace) -> Option<BlockPlace>
     requires { 4 * place.at + 4 ≤ length bytes.now }
     ensures { IfSome result (IsOpened (longs bytes.now) place) }
 {
-    let BlockPlace { at, hunk, entry, .. } = place;
+    let BlockPlace {
+        at,
+        hunk,
+        entry,
+        ..
+    } = place;
     if hunk.ahead == 0 || entry.next >= bytes.len() / 4 {
         return None;
     }
@@ -226,7 +228,7 @@ fn after_counted(bytes: &[u8], at: usize) -> Option<usize>
 /// The longword after the rows of a table that stand from `from` on and end in the bytes, and how
 /// many these are, at most `most`.
 #[inline(never)]
-fn after_rows(bytes: &[u8], from: usize, most: u32) -> (usize, u32)
+pub(super) fn after_rows(bytes: &[u8], from: usize, most: u32) -> (usize, u32)
     ensures rows { AreRows (longs bytes.now) from result.1 result.0 }
     ensures few { result.1 ≤ most }
 {

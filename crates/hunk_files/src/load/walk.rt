@@ -10,10 +10,11 @@ ghost use Rattle.hunk_grammar.specs.declared.file_kind.Sniff.TheVariants.{Load};
 ghost use Rattle.hunk_grammar.specs.Positions.{role_at, step};
 ghost use Rattle.hunk_grammar.specs.Roles.{refuse};
 
+use crate::load::header::pass_front;
 use crate::load::passing::pass_over;
 use crate::part::Part;
 use crate::refusal::Refusal;
-use hunk_grammar::{OpenHunk, Phase, Position, TABLE_AT, by_kind, by_phase};
+use hunk_grammar::{OpenHunk, Phase, Position, by_kind, by_phase};
 use hunk_words::{BlockWord, CONTENT_LIMIT, FileFault, Reason, SizeWord, word_at};
 
 /// What the table declares of the open hunk, 0 longwords before the first.
@@ -55,12 +56,7 @@ pub(crate) fn walk(bytes: &[u8]) -> Result<usize, Refusal>
         × IsPartAt Load bytes.now refusal.fault.place refusal.part) }
 {
     let count = bytes.len() / 4;
-    let mut position = Position::FirstLong;
-    let mut entry = DeclaredHunk {
-        longs: 0,
-        next: TABLE_AT,
-    };
-    let mut at = 0;
+    let (mut at, mut position, mut entry) = pass_front(bytes);
     'walking: while at < count {
         let word = word_at(bytes, at);
         let after = match step_from(position, entry.longs, word) {

@@ -6,17 +6,19 @@ use Rattle.hunk_scatter.proofs.HeaderOwed.{least_some}
 use Rattle.hunk_scatter.proofs.HeaderSizes.{HeaderSoFar, none_so_far, none_cut, cut_within, word_accepted, so_far_room, so_far_within, header_cut, header_whole, header_total, header_end, word_passes, word_stops, word_owes, words_pass, cut_owes, hunks_in}
 use Rattle.hunk_scatter.proofs.header_state.header_size.Goals as goal
 
-pub words-init : goal.words-init
-words-init c = none_so_far c.args.budget c.args.bytes.now
-
-pub pass_entries-requires-clause-within : goal.pass_entries-requires-clause-within
-pass_entries-requires-clause-within c = so_far_within _ _ _ _ c.words.invariant
-
--- so far, after the entries that pass at once
+-- so far, after longwords that pass at once
 there : (budget : ℕ) (bytes : List ℕ) (at : ℕ) (state : HeaderState) → HeaderSoFar budget bytes state at → IsBytes bytes → (to : ℕ) (next : HeaderState) → ((count : ℕ) × (to ≡ at + 4 * count) × PassesWords budget bytes at state count next) → to ≤ length bytes →
     HeaderSoFar budget bytes next to
 there budget bytes at state h are to next (count, is, passes) inside =
     subst (λ (n : ℕ). HeaderSoFar budget bytes next n) (sym is) (words_pass budget bytes state at h are count next passes (omega (arith, is, inside)))
+
+pub words-init : goal.words-init
+words-init c =
+    let front = c.pass_front in
+    there _ _ _ _ (none_so_far c.args.budget c.args.bytes.now) (λ k. omega (arith, c.type_inv.bytes k)) _ _ front.ensures.passes front.ensures.inside
+
+pub pass_entries-requires-clause-within : goal.pass_entries-requires-clause-within
+pass_entries-requires-clause-within c = so_far_within _ _ _ _ c.words.invariant
 
 pub returns-then-rest-lt4-clause-refusal : goal.returns-then-rest-lt4-clause-refusal
 returns-then-rest-lt4-clause-refusal c =

@@ -65,4 +65,3 @@ returns-in_ok-after-in-EntryWord c =
     (sym c.refuse.ensures ∙ c.in_default.is, sym (c.in-Some-begin.ensures ∙ ap begin (c.kind.ensures ∙ ap kind c.of.ensures))) c.in-EntryWord.is in
     subst (IsBlock (longs c.args.bytes.now) p) (sym c.past-in-EntryWord.ensures)
     (of_hunk c.in_ok-after-in-EntryWord.after p.hunk.has_content (symbols c.in_ok-after-in-EntryWord.after begun c.in_ok-after-in-EntryWord.ensures))
-

@@ -1,6 +1,5 @@
-use Rattle.std.proofs.Common.{◌≡◌, ℕ, ◌+◌, ◌*◌, ◌/◌, ◌≤◌, List, length, Bool, arith, ap, ap₂, sym, subst, ◌∙◌, slice_index, if◌then◌else◌, Some, IfErr}
+use Rattle.std.proofs.Common.{◌≡◌, ℕ, ◌+◌, ◌*◌, ◌/◌, ◌≤◌, List, length, Bool, arith, ap, sym, subst, ◌∙◌, slice_index, if◌then◌else◌, Some, IfErr}
 use Rattle.hunk_words.specs.Longs.{longs, IsBytes}
-use Rattle.hunk_words.specs.Bits.{entry_longs, size_longs}
 use Rattle.std.proofs.lemmas.List.{take_all}
 use Rattle.hunk_words.specs.declared.reason.Reason.{Reason}
 use Rattle.hunk_words.specs.declared.reason.Reason.TheVariants as reasons
@@ -14,14 +13,16 @@ use Rattle.hunk_files.specs.Fault.{HasFault}
 use Rattle.hunk_files.specs.FileParts.{IsLoadPart}
 use Rattle.hunk_files.specs.ReaderPosition.{part_in}
 use Rattle.hunk_files.specs.declared.load.walk.DeclaredHunk.{DeclaredHunk}
-use Rattle.hunk_files.proofs.walk.LoadWalks.{Walks, start_walk, refused, ends, opens, passes, ends_early, part_here, part_at_end}
-use Rattle.hunk_files.proofs.{parts.FileParts.refuses, walk.PassedWalks.walk_over}
+use Rattle.hunk_files.proofs.walk.LoadWalks.{Walks, refused, ends, opens, passes, ends_early, part_here, part_at_end}
+use Rattle.hunk_files.proofs.{parts.FileParts.refuses, walk.PassedWalks.{walk_front, walk_over}}
 use Rattle.hunk_files.proofs.walk.Passed.{passed_on}
 use Rattle.hunk_files.proofs.load.walk.walk.Goals as goal
 use Rattle.hunk_files.proofs.load.walk.walk.Goals.{then-is_between_hunks, else-is_between_hunks}
 
 pub walking-init : goal.walking-init
-walking-init c = start_walk c.args.bytes.now
+walking-init c =
+    let front = c.pass_front-at in
+    walk_front c.args.bytes.now (λ i. omega (arith, c.type_inv.bytes i)) front.result.0 front.result.1 front.result.2 front.ensures
 
 pub returns-in-Err : goal.returns-in-Err
 returns-in-Err c =
