@@ -14,7 +14,7 @@ there budget bytes at state h are to next (count, is, passes) inside =
 
 pub words-init : goal.words-init
 words-init c =
-    let front = c.pass_front in
+    let front = c.pass_front-at in
     there _ _ _ _ (none_so_far c.args.budget c.args.bytes.now) (λ k. omega (arith, c.type_inv.bytes k)) _ _ front.ensures.passes front.ensures.inside
 
 pub pass_entries-requires-clause-within : goal.pass_entries-requires-clause-within
