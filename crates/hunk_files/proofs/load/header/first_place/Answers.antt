@@ -1,4 +1,4 @@
-use Rattle.std.proofs.Common.{ℕ, ◌-◌, ◌≡◌, arith, refl, subst, ap, false}
+use Rattle.std.proofs.Common.{ℕ, ◌-◌, ◌≡◌, arith, subst, ap, false}
 use Rattle.hunk_words.specs.Longs.{longs}
 use Rattle.hunk_files.specs.declared.load.passing.BlockPlace.{BlockPlace}
 use Rattle.hunk_files.specs.declared.load.walk.DeclaredHunk.{DeclaredHunk}
