@@ -1,5 +1,5 @@
 //! The header of a load file, passed over at once.
-ghost use Rattle.std.specs.Prelude.{◌≡◌, IfSome};
+ghost use Rattle.std.specs.Prelude.{IfSome};
 ghost use Rattle.hunk_words.specs.Longs.{longs};
 ghost use Rattle.hunk_files.specs.Passing.{HasHeaderFront, IsFirstPlace, IsFrontPassed};
 
