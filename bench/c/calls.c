@@ -70,6 +70,15 @@ static size_t plain_feeds(void)
     return 0;
 }
 
+static size_t careful_feeds(void)
+{
+    careful_begin(&loader, places, table.hunk, table.place, memory, table.count);
+    for (size_t at = table.place; at < file_len; at += piece)
+        careful_feed(&loader, places, table.hunk, memory, table.count, file + at, next_piece(at));
+    careful_end(&loader);
+    return 0;
+}
+
 static size_t our_check(void)
 {
     hunk_check(file, file_len, findings, findings_len);
@@ -123,7 +132,7 @@ TABLE(references, HAND_REFERENCES, hunk_reference)
 static const struct call calls[] = {
     {"table", our_table, plain_table, NULL, 0},
     {"load", our_load, plain_load, careful_loaded, 0},
-    {"feed", our_feeds, plain_feeds, NULL, 0},
+    {"feed", our_feeds, plain_feeds, careful_feeds, 0},
     {"check", our_check, plain_check, careful_checked, 1},
     {"strip", our_strip, plain_strip, careful_stripped, 1},
     {"units", our_units, plain_units, careful_units, 1},

@@ -17,4 +17,12 @@ size_t careful_items(enum hand_table table, const uint8_t *b, size_t len, void *
 /* How many bytes the stripped file has. */
 size_t careful_strip(const uint8_t *b, size_t len, uint8_t *out, size_t out_len);
 
+/* The calls hunk_begin, hunk_feed and hunk_end, in careful_feed.c: they answer what hunk.h says, whatever numbers stand in the
+ * loader. */
+struct hunk_answer careful_begin(struct hunk_loader *loader, const struct hunk_place *places, size_t places_len, uint64_t header,
+                                 uint8_t *memory, size_t memory_len);
+struct hunk_answer careful_feed(struct hunk_loader *loader, const struct hunk_place *places, size_t places_len, uint8_t *memory,
+                                size_t memory_len, const uint8_t *bytes, size_t len);
+struct hunk_answer careful_end(const struct hunk_loader *loader);
+
 #endif
