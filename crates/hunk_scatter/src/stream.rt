@@ -122,6 +122,23 @@ impl Standing {
             _ => false,
         }
     }
+
+    /// The same of numbers that lead out of nothing as long as no hunk opens.
+    #[inline(always)]
+    fn fits_still(&self, rows: &[Row], total: usize) -> bool
+        requires { IsWithin rows.now total self.now }
+        ensures sound { result ≡ true → FitsStore rows.now total self.now }
+        ensures complete { (store fed : List ℕ) → IsFed rows.now store self.now fed
+            → length store ≡ total → result ≡ true }
+    {
+        if self.state.position.is_between_hunks() {
+            return self.fits(rows, total);
+        }
+        match self.state.position {
+            Position::Body(hunk, _) => hunk.hunks as usize == rows.len(),
+            _ => false,
+        }
+    }
 }
 
 /// The number of bytes of a part that is taken, at least one; or why none is, the reason for which
@@ -136,10 +153,10 @@ fn feed_byte(store: &mut [u8], rows: &[Row], at: &mut Standing, piece: &[u8]) ->
 {
     let (pending, next) = at.pending.take(piece[0]);
     if let Some(word) = next {
-        if !at.state.is_in_store(rows, store.len()) {
+        let position = at.state.position;
+        if position.is_between_hunks() && !at.state.is_in_store(rows, store.len()) {
             return Err(None);
         }
-        let position = at.state.position;
         let four = word.to_be_bytes();
         match take_word(store, rows, &mut at.state, position, word, four.as_slice()) {
             Ok(_) => {}
@@ -184,6 +201,7 @@ pub(crate) fn feed_all(
 ) -> Result<usize, Stop>
     requires { IsWithin rows.now (length store.old) at.old }
     ensures inside { IfOk result (λ n. n ≤ length piece.now) }
+    ensures within { IfOk result (λ n. IsWithin rows.now (length store.new) at.new) }
     ensures all { IfOk result
         (λ n. n < length piece.now → is_done at.new.state.position ≡ true) }
     ensures takes { (fed : List ℕ) → IsFed rows.now store.old at.old fed
@@ -251,12 +269,34 @@ pub fn feed_piece(
     if !at.fits(rows, store.len()) {
         return Err(Stop::Strange);
     }
+    feed_fitting(store, rows, at, piece)
+}
+
+/// The same of numbers that are known to fit the rows and the store.
+#[inline(always)]
+pub fn feed_fitting(
+    store: &mut [u8],
+    rows: &[Row],
+    at: Standing,
+    piece: &[u8],
+) -> Result<(Standing, usize), Stop>
+    requires { FitsStore rows.now (length store.old) at }
+    ensures inside { IfOk result (λ r. r.1 ≤ length piece.now) }
+    ensures all { IfOk result
+        (λ r. r.1 < length piece.now → is_done r.0.state.position ≡ true) }
+    ensures takes { (fed : List ℕ) → IsFed rows.now store.old at fed
+        → TakesOn rows.now store.new fed piece.now result }
+    ensures counted { IfOk result (λ r. r.0.fed ≡ saturated (at.fed + r.1)) }
+    ensures fits_still { IfOk result (λ r. FitsStore rows.now (length store.new) r.0) }
+    ensures own_reasons { IfErr result StopsForBody }
+    ensures whole_longs { IfErr result StopsAtLong }
+{
     let mut to = at;
     let taken = match feed_all(store, rows, &mut to, piece) {
         Ok(taken) => taken,
         Err(stop) => return Err(stop),
     };
-    if !to.fits(rows, store.len()) {
+    if !to.fits_still(rows, store.len()) {
         return Err(Stop::Strange);
     }
     Ok((to, taken))

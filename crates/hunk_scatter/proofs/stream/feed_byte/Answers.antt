@@ -6,7 +6,7 @@ use Rattle.hunk_words.proofs.{LongLaws.length-bytes_of, PendingLaws.few_pending}
 use Rattle.hunk_scatter.specs.BodyLoaderFields.{ReadsOn, StandsAfter}
 use Rattle.hunk_scatter.proofs.{BodyFields.gone, Faults.refusal_front, OneByte.{more_pending, stands_as}, StreamLaws.{first_byte, stands_more, strange}}
 use Rattle.hunk_scatter.proofs.WholeLongs.{gathered_reads, gathered_refused}
-use Rattle.hunk_scatter.proofs.stream.feed_byte.Goals.{in-Some+else-not-is_in_store+in-Ok, in_default}
+use Rattle.hunk_scatter.proofs.stream.feed_byte.Goals.{in-Some+else-is_between_hunks+in-Ok, in_default}
 use Rattle.hunk_scatter.proofs.stream.feed_byte.Goals as goal
 
 pub returns-then-not-is_in_store : goal.returns-then-not-is_in_store
@@ -41,7 +41,7 @@ returns c =
     let one = first_byte c.args.piece.now c.requires.nonempty in
     let gathers = subst (λ (xs : List ℕ). Gathers (pending_of at.pending ++ xs) (pending_of c.take-next.result.0) c.take-next.result.1) one c.take-next.ensures.gathers in
     elim c.match-next.branch [
-      | in-Some+else-not-is_in_store+in-Ok w ↦
+      | in-Some+else-is_between_hunks+in-Ok w ↦
           let whole = subst (λ (o : Option ℕ). Gathers (pending_of at.pending ++ bytes) (pending_of c.take-next.result.0) o) w.in-Some.is gathers in
           let four = whole.0 ∙ append-nil (to_be_bytes w32 w.in-Some.word) ∙ sym (w.as_slice.ensures ∙ w.to_be_bytes-four.ensures) in
           let long : length w.as_slice.result.now ≤ w.in-Ok.field-0 =
