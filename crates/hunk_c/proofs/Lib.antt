@@ -8,6 +8,7 @@ pub mod OneFile
 pub mod Packing
 mod ShortRows
 pub mod Passing
+pub mod Readying
 pub mod Streamed
 pub mod Succeeding
 pub mod TableRows

@@ -81,7 +81,7 @@ numbers_are l p h = λ i. record {
   reserved = unused;
 }
 
-has_numbers : (l : Loader) (at : Standing) → unrefused l ≡ loader_at at → HasNumbers l at.state.position
+pub has_numbers : (l : Loader) (at : Standing) → unrefused l ≡ loader_at at → HasNumbers l at.state.position
 has_numbers l at e = record {
   hunks = ap (λ (x : Loader). x.hunks) e;
   ahead = ap (λ (x : Loader). x.ahead) e;

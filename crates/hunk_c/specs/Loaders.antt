@@ -266,18 +266,25 @@ pub record LiesIn (rows : List Row) (total : ℕ) (l : Loader) : Type 0 where
   pub segment : l.start + 4 * longs_at (words_of rows) l.hunk ≤ total
   pub content : l.phase ≡ 7 → l.part ≤ longs_at (words_of rows) l.hunk
 
+-- No longword was refused.
+pub record TellsNone (l : Loader) : Type 0 where
+  pub place : l.place ≡ 0
+  pub number : l.refused ≡ 0
+  pub hunk : l.refused_hunk ≡ 0
+
+-- A hunk is open, and a loader with these rows and a memory of this many bytes may stand so.
+pub record IsReady (rows : List Row) (total : ℕ) (l : Loader) : Type 0 where
+  pub clean : TellsNone l
+  pub counts : CountsBytes l.start l.fed l.pending
+  pub in_body : MayBeInBody l
+  pub lies : LiesIn rows total l
+
 -- A loader may stand so, or have stood so before a refusal.
 pub record MayHaveStood (l : Loader) : Type 0 where
   pub counts : CountsBytes l.start l.fed l.pending
   pub position : MatchOption (loader_position l) ⊥ (MayHavePosition l)
 
 -- ---- which loader the numbers are
-
--- No longword was refused.
-pub record TellsNone (l : Loader) : Type 0 where
-  pub place : l.place ≡ 0
-  pub number : l.refused ≡ 0
-  pub hunk : l.refused_hunk ≡ 0
 
 -- This is the refusal, of a longword of a body.
 pub record TellsFault (l : Loader) (f : Fault) : Type 0 where

@@ -6,7 +6,7 @@ ghost use Rattle.hunk_grammar.specs.Positions.{is_done};
 ghost use Rattle.hunk_grammar.specs.declared.position.Position.TheVariants as positions;
 ghost use Rattle.hunk_files.specs.declared.row.Row.{Row};
 ghost use Rattle.hunk_scatter.specs.Streaming.{IsFed};
-ghost use Rattle.hunk_c.specs.Loaders.{CountsBytes, LiesIn, MayBeInBody, MayHavePosition, MayHaveStood};
+ghost use Rattle.hunk_c.specs.Loaders.{CountsBytes, IsReady, LiesIn, MayBeInBody, MayHavePosition, MayHaveStood};
 ghost use Rattle.hunk_c.specs.Loaders.{OwesByPhase, StandsAt, TellsAgain, TellsFault, TellsNone};
 ghost use Rattle.hunk_c.specs.Loaders.{least_file, loader_at, loader_position, open_hunk, refusing, standing_in, whole};
 ghost use Rattle.hunk_c.specs.Loaders.{pending_in, refusal_in, with_numbers};
@@ -200,6 +200,14 @@ impl Loader {
         true
     }
 
+    /// Whether a hunk is open, and a loader with these rows and this memory may stand so.
+    #[inline(always)]
+    pub(crate) fn is_ready(&self, rows: &[Row], total: usize) -> bool
+        ensures { IsTrue result ↔ IsReady rows.now total self.now }
+    {
+        self.is_clean() && self.counts_bytes() && self.may_be_open() && self.lies_in(rows, total)
+    }
+
     /// Keeps a byte that does not complete the next longword.
     #[inline(always)]
     fn push(&mut self, byte: u8)
@@ -225,7 +233,7 @@ impl Loader {
     #[inline(always)]
     fn lies_in(&self, rows: &[Row], total: usize) -> bool
         requires { MayBeInBody self.now }
-        ensures { result ≡ true → LiesIn rows.now total self.now }
+        ensures { IsTrue result ↔ LiesIn rows.now total self.now }
     {
         let hunks = rows.len();
         if self.hunks as usize != hunks {
@@ -264,7 +272,7 @@ impl Loader {
 
     /// Where the loader stands at this position, by its other numbers.
     #[inline(always)]
-    fn standing_at(&self, position: Position) -> Standing
+    pub(crate) fn standing_at(&self, position: Position) -> Standing
         ensures { result ≡ standing_in self.now position }
     {
         Standing {
@@ -315,7 +323,7 @@ impl Loader {
 
     /// What the next longword is for, as the number of the phase tells it.
     #[inline(always)]
-    fn position(&self) -> Option<Position>
+    pub(crate) fn position(&self) -> Option<Position>
         ensures { result ≡ loader_position self.now }
     {
         if self.phase == WHOLE {
@@ -377,21 +385,28 @@ impl Loader {
         if self.phase == OFFSET {
             return self.part < self.hunks && self.has_content == 1;
         }
-        let owes_none = self.part == 0 && self.owed == 0;
         match self.phase {
-            1 => owes_none && self.has_content != 1,
-            2 => owes_none,
-            3 => owes_none,
-            4 => owes_none,
-            5 => owes_none && self.has_content != 1,
-            6 => owes_none && self.has_content != 1,
+            1 => self.owes_none() && self.has_content != 1,
+            2 => self.owes_none(),
+            3 => self.owes_none(),
+            4 => self.owes_none(),
+            5 => self.owes_none() && self.has_content != 1,
+            6 => self.owes_none() && self.has_content != 1,
             8 => self.part == 0,
-            9 => owes_none && self.has_content == 1,
+            9 => self.owes_none() && self.has_content == 1,
             10 => self.part == 0 && self.has_content == 1,
-            12 => owes_none,
+            12 => self.owes_none(),
             13 => self.part == 0 && self.owed < NAME_LIMIT,
             _ => false,
         }
+    }
+
+    /// Whether no part is told, and no longword is owed.
+    #[inline(always)]
+    fn owes_none(&self) -> bool
+        ensures { IsTrue result ↔ ((self.now.part ≡ 0) × (self.now.owed ≡ 0)) }
+    {
+        self.part == 0 && self.owed == 0
     }
 }
 

@@ -17,6 +17,6 @@ returns-clause-passes c = λ passed.
     } in
     let gathers = subst (λ (xs : List ℕ). pending_of pending ≡ pending_of (pending_in l) ++ xs) (one_byte piece one) c.push.ensures.gathers in
     let passes = passes_byte c.args.rows.now c.args.total l piece pending (c.may_be_open.ensures.0 c.if-not-may_be_open.false) counts (c.is_clean.ensures.0 c.if-not-is_clean.false)
-    (c.lies_in.ensures c.if-not-lies_in.false) gathers c.push.ensures.few in
+    (c.lies_in.ensures.0 c.if-not-lies_in.false) gathers c.push.ensures.few in
     let fed : saturated (l.fed + length piece) ≡ l.fed + 1 = omega (arith, one, c.if-self-from.false, c.from.ensures, c.if-self-gt2.false) in
     subst (PassesOver c.args.rows.now c.args.total l piece) (ap (λ (n : ℕ). loader_with l n pending) fed ∙ sym c.push.ensures.numbers) passes
