@@ -1,5 +1,6 @@
 pub mod AnsweredNumbers
 pub mod Filling
+pub mod LastBytes
 pub mod LoadRows
 mod Loaded
 pub mod MayStand

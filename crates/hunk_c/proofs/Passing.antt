@@ -25,7 +25,7 @@ abbrev pub loader_with : Loader → ℕ → Pending → Loader
 loader_with l fed pending = with_numbers l fed l.owed pending (refusal_in l)
 
 -- no refusal is in the numbers of one that stands
-clean_is : (l : Loader) (at : Standing) → StandsAt l at → refusal_in l ≡ (0, 0, 0)
+pub clean_is : (l : Loader) (at : Standing) → StandsAt l at → refusal_in l ≡ (0, 0, 0)
 clean_is l at s = λ i. (s.clean.place i, s.clean.number i, s.clean.hunk i)
 
 with_is : (l : Loader) (at : Standing) (fed : ℕ) (pending : Pending) → StandsAt l at → loader_with l fed pending ≡ loader_at (with_pending at fed pending)

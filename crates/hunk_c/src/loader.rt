@@ -1,19 +1,22 @@
 //! A loader in numbers, which its caller keeps.
-ghost use Rattle.std.specs.Prelude.{◌≡◌, ◌≤◌, ◌<◌, ◌+◌, ◌-◌, ◌^◌, ◌++◌, ◌∷◌, [], ◌↔◌, false, true, ℕ, List, IfErr, IfOk, IsTrue, MatchOption};
+ghost use Rattle.std.specs.Prelude.{◌≡◌, ◌≤◌, ◌<◌, ◌+◌, ◌-◌, ◌^◌, ◌++◌, ◌∷◌, [], ◌*◌, ◌↔◌, false, true, length, ℕ, List, IfErr, IfOk, IsTrue, MatchOption};
+ghost use Rattle.hunk_words.specs.Carriers.{saturated};
+ghost use Rattle.hunk_words.specs.Longs.{IsBytes};
 ghost use Rattle.hunk_words.specs.PendingBytes.{pending_of};
 ghost use Rattle.hunk_words.specs.declared.fault.Fault.{Fault};
 ghost use Rattle.hunk_grammar.specs.Positions.{is_done};
 ghost use Rattle.hunk_grammar.specs.declared.position.Position.TheVariants as positions;
 ghost use Rattle.hunk_files.specs.declared.row.Row.{Row};
+ghost use Rattle.hunk_scatter.specs.StoreContent.{put_slice};
 ghost use Rattle.hunk_scatter.specs.Streaming.{IsFed};
 ghost use Rattle.hunk_c.specs.Loaders.{CountsBytes, IsReady, LiesIn, MayBeInBody, MayHavePosition, MayHaveStood};
 ghost use Rattle.hunk_c.specs.Loaders.{OwesByPhase, StandsAt, TellsAgain, TellsFault, TellsNone};
 ghost use Rattle.hunk_c.specs.Loaders.{least_file, loader_at, loader_position, open_hunk, refusing, standing_in, whole};
 ghost use Rattle.hunk_c.specs.Loaders.{pending_in, refusal_in, with_numbers};
-ghost use Rattle.hunk_c.specs.Streams.{PassesOver};
+ghost use Rattle.hunk_c.specs.Streams.{PassesOver, TakesPiece};
 
 use crate::answer::{Answer, refused, strange};
-use crate::phases::{CONTENT, OFFSET, PAYLOAD, WHOLE, numbers_of, phase_in};
+use crate::phases::{CONTENT, OFFSET, PAYLOAD, SYMBOL, WHOLE, numbers_of, phase_in};
 use hunk_files::Row;
 use hunk_grammar::{OpenHunk, Position};
 use hunk_scatter::stream::{BodyState, Pending, Standing};
@@ -206,6 +209,69 @@ impl Loader {
         ensures { IsTrue result ↔ IsReady rows.now total self.now }
     {
         self.is_clean() && self.counts_bytes() && self.may_be_open() && self.lies_in(rows, total)
+    }
+
+    /// Takes the byte that completes a longword of a content, a payload or a symbol, where more of
+    /// that is to come. Whether it did; it does not where the longword is anything else.
+    ///
+    /// Nothing changes but what is owed, and in a content the longword of the memory: so a position
+    /// is not made of the numbers here, either.
+    #[inline(always)]
+    pub(crate) fn take_last(&mut self, rows: &[Row], memory: &mut [u8], piece: &[u8]) -> bool
+        requires { IsReady rows.now (length memory.old) self.old }
+        ensures takes { result ≡ true → TakesPiece rows.now self.old self.new memory.old
+            memory.new piece.now 1 }
+        ensures stays { result ≡ false → self.new ≡ self.old }
+        ensures keeps { result ≡ false → memory.new ≡ memory.old }
+    {
+        // The rows are for the contract alone.
+        let _ = rows;
+        if piece.len() != 1 || self.pending != 3 || self.owed == 0 {
+            return false;
+        }
+        let long = long_of(self.first, self.second, self.third, piece[0]);
+        if self.phase == CONTENT {
+            let at = self.content_at();
+            put_long(memory, at as usize, long);
+            self.pass_last();
+            return true;
+        }
+        if self.phase == PAYLOAD {
+            self.pass_last();
+            return true;
+        }
+        if self.phase == SYMBOL {
+            self.pass_last();
+            return true;
+        }
+        false
+    }
+
+    /// The byte of the memory where the next longword of a content goes.
+    #[inline(always)]
+    fn content_at(&self) -> u64
+        requires inside { self.now.owed < self.now.part }
+        requires small { self.now.start + 4 * self.now.part < 2 ^ 64 }
+        ensures { result ≡ self.now.start + 4 * (self.now.part - self.now.owed - 1) }
+    {
+        self.start + 4 * u64::from(self.part - self.owed - 1)
+    }
+
+    /// Counts a byte that completes a longword of a run, after which others are owed.
+    #[inline(always)]
+    fn pass_last(&mut self)
+        requires { 0 < self.old.owed }
+        ensures { self.new ≡ with_numbers self.old (saturated (self.old.fed + 1))
+            (self.old.owed - 1) (record { count = 0; first = 0; second = 0; third = 0 })
+            (refusal_in self.old) }
+    {
+        self.fed = self.fed.saturating_add(1);
+        self.owed -= 1;
+        self.pending = 0;
+        self.first = 0;
+        self.second = 0;
+        self.third = 0;
+        self.reserved = UNUSED;
     }
 
     /// Keeps a byte that does not complete the next longword.
@@ -408,6 +474,24 @@ impl Loader {
     {
         self.part == 0 && self.owed == 0
     }
+}
+
+/// A longword of these bytes.
+#[inline(always)]
+fn long_of(first: u8, second: u8, third: u8, fourth: u8) -> [u8; 4]
+    ensures value { result ≡ first ∷ second ∷ third ∷ fourth ∷ [] }
+    ensures bytes { IsBytes result }
+{
+    [first, second, third, fourth]
+}
+
+/// Puts a longword at the offset.
+#[inline(always)]
+fn put_long(memory: &mut [u8], at: usize, long: [u8; 4])
+    requires { at + 4 ≤ length memory.old }
+    ensures { memory.new ≡ put_slice memory.old at long }
+{
+    memory[at..at + 4].copy_from_slice(long.as_slice());
 }
 
 /// The bytes of the least file of so many hunks: five longwords, and four for each.

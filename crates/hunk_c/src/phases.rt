@@ -13,6 +13,9 @@ pub(crate) const OFFSET: u32 = 11;
 /// The phase of a loader inside a payload.
 pub(crate) const PAYLOAD: u32 = 8;
 
+/// The phase of a loader inside a symbol.
+pub(crate) const SYMBOL: u32 = 13;
+
 /// The phase of a loader whose file is whole.
 pub(crate) const WHOLE: u32 = 14;
 

@@ -83,6 +83,26 @@ fn feed_on(
     if !loader.is_ready(rows, memory.len()) {
         return feed_closed(loader, rows, memory, piece);
     }
+    if loader.take_last(rows, memory, piece) {
+        return Ok(1);
+    }
+    feed_ready(loader, rows, memory, piece)
+}
+
+/// The same of a loader that is ready, whatever its next longword is for.
+#[inline(always)]
+fn feed_ready(
+    loader: &mut Loader,
+    rows: &[Row],
+    memory: &mut [u8],
+    piece: &[u8],
+) -> Result<u64, Answer>
+    requires { IsReady rows.now (length memory.old) loader.old }
+    ensures takes { IfOk result (λ count. TakesPiece rows.now loader.old loader.new
+        memory.old memory.new piece.now count) }
+    ensures answers { IfErr result
+        (Feeds rows.now loader.old loader.new memory.old memory.new piece.now) }
+{
     let Some(position) = loader.position() else {
         return Err(strange());
     };
