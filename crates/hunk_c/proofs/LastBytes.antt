@@ -1,5 +1,5 @@
 -- A byte that completes a longword of a run, after which others are owed.
-use Rattle.std.proofs.Common.{rules, ◌≡◌, ◌≤◌, ◌<◌, ◌+◌, ◌-◌, ◌*◌, ℕ, List, [], ◌∷◌, ◌++◌, length, Option, MatchOption, refl, sym, ap, subst, ◌∙◌, arith, length-append}
+use Rattle.std.proofs.Common.{rules, ◌≡◌, ◌<◌, ◌+◌, ◌-◌, ℕ, List, [], ◌∷◌, ◌++◌, length, Option, MatchOption, refl, sym, ap, subst, ◌∙◌, arith, length-append}
 use Rattle.hunk_words.specs.{Carriers.saturated, Longs.IsBytes, PendingBytes.pending_of}
 use Rattle.hunk_words.specs.declared.pending.Pending.{Pending}
 use Rattle.hunk_grammar.specs.declared.phase.Phase.{Phase}
@@ -7,7 +7,7 @@ use Rattle.hunk_grammar.specs.declared.phase.Phase.TheVariants as phases
 use Rattle.hunk_grammar.specs.{Positions.{pass, run}, declared.position.OpenHunk.OpenHunk, declared.position.Position.Position}
 use Rattle.hunk_grammar.specs.declared.position.Position.TheVariants as positions
 use Rattle.hunk_files.specs.declared.row.Row.{Row}
-use Rattle.hunk_scatter.specs.{BodyLoaderFields.{ReadsOn, StandsAfter}, BodySteps.{RoomFor, longs_at}, Rows.words_of, StoreContent.stored_run, Streaming.{FitsStore, IsFed}}
+use Rattle.hunk_scatter.specs.{BodyLoaderFields.ReadsOn, BodySteps.{RoomFor, longs_at}, Rows.words_of, StoreContent.stored_run, Streaming.{FitsStore, IsFed}}
 use Rattle.hunk_scatter.specs.declared.stream.Standing.{Standing}
 use Rattle.hunk_scatter.specs.declared.store.BodyState.{BodyState}
 use Rattle.hunk_scatter.proofs.{BodyFields.fed_more, OneByte.stands_as, WholeLongs.{gathered_reads, run_taken}}
@@ -22,9 +22,6 @@ none = record { count = 0; first = 0; second = 0; third = 0 }
 -- the longword, and the loader after it
 abbrev pub four_of : Loader → ℕ → List ℕ
 four_of l byte = l.first ∷ l.second ∷ l.third ∷ byte ∷ []
-
-pub are_bytes : (l : Loader) (byte : ℕ) → l.first < 256 → l.second < 256 → l.third < 256 → byte < 256 → IsBytes (four_of l byte)
-are_bytes l byte a b c d = search rules
 
 abbrev pub after_last : Loader → Loader
 after_last l = with_numbers l (saturated (l.fed + 1)) (l.owed - 1) none (refusal_in l)

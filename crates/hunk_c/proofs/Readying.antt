@@ -1,5 +1,5 @@
 -- A loader that stands where a hunk is open, and its numbers.
-use Rattle.std.proofs.Common.{rules, ◌≡◌, ◌==◌, ℕ, ◌+◌, ◌*◌, ◌≤◌, Bool, true, false, List, Option, None, Some, MatchOption, refl, sym, ap, subst, ◌∙◌, arith, true≢false, if◌then◌else◌}
+use Rattle.std.proofs.Common.{rules, ◌≡◌, ◌==◌, ℕ, ◌+◌, ◌*◌, ◌≤◌, Bool, true, false, List, Option, None, Some, MatchOption, sym, ap, subst, ◌∙◌, true≢false, if◌then◌else◌}
 use Rattle.hunk_grammar.specs.declared.phase.Phase.{Phase}
 use Rattle.hunk_grammar.specs.{Positions.is_done, declared.position.OpenHunk.OpenHunk, declared.position.Position.Position}
 use Rattle.hunk_grammar.specs.declared.position.Position.TheVariants as positions
@@ -7,7 +7,7 @@ use Rattle.hunk_files.specs.declared.row.Row.{Row}
 use Rattle.hunk_scatter.specs.{BodySteps.{RoomIn, longs_at, targets_at}, Rows.words_of, Streaming.FitsStore}
 use Rattle.hunk_scatter.specs.declared.stream.Standing.{Standing}
 use Rattle.hunk_c.specs.declared.loader.Loader.{Loader}
-use Rattle.hunk_c.specs.Loaders.{IsReady, LiesIn, MayBeInBody, MayHavePosition, StandsAt, body_in, hunk_of, loader_position, open_hunk, phase_in, position_numbers, standing_in, whole}
+use Rattle.hunk_c.specs.Loaders.{IsReady, LiesIn, MayHavePosition, StandsAt, body_in, hunk_of, loader_position, open_hunk, phase_in, position_numbers, standing_in, whole}
 use Rattle.hunk_c.proofs.{Numbers.{counts_of, has_numbers, position_of, stands_by, told_is}, Passing.fits_open}
 
 -- ---- from its numbers to where it stands

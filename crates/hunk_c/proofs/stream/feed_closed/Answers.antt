@@ -1,4 +1,4 @@
-use Rattle.std.proofs.Common.{◌≡◌, ◌++◌, ℕ, List, [], length, refl, sym, ap, subst, arith, append-nil}
+use Rattle.std.proofs.Common.{ℕ, List, refl, sym, ap, subst, arith, append-nil}
 use Rattle.hunk_grammar.specs.{Positions.is_done, declared.position.Position.Position}
 use Rattle.hunk_scatter.proofs.StreamLaws.{open_unless_done}
 use Rattle.hunk_c.specs.Loaders.{MayStandAt, Stands}

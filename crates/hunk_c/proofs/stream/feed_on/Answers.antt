@@ -1,4 +1,4 @@
-use Rattle.std.proofs.Common.{ℕ, List, length, subst, sym, ap, IfErr, IfOk, Result}
+use Rattle.std.proofs.Common.{ℕ, List, length, subst, sym, IfErr, IfOk}
 use Rattle.hunk_c.specs.declared.loader.Loader.{Loader}
 use Rattle.hunk_c.specs.Loaders.{IsReady}
 use Rattle.hunk_c.specs.Streams.{Feeds, TakesPiece}

@@ -1,4 +1,4 @@
-use Rattle.std.proofs.Common.{◌++◌, ◌∙◌, length, refl, sym, subst}
+use Rattle.std.proofs.Common.{◌++◌, refl, sym, subst}
 use Rattle.hunk_scatter.specs.{Streaming.{StopsAt, StopsForBody, StopsAtLong}, declared.stream.Stop.Stop}
 use Rattle.hunk_c.specs.Streams.{HasRefused, IsStrange}
 use Rattle.hunk_c.proofs.{Readying.{stands_ready, tells_position}, Streamed.{stands_at, stands_so}}

@@ -6,7 +6,7 @@ use Rattle.hunk_c.specs.declared.loader.Loader.{Loader}
 use Rattle.hunk_c.specs.Loaders.{open_hunk}
 use Rattle.hunk_c.specs.Streams.{TakesPiece}
 use Rattle.hunk_c.proofs.Passing.{one_byte}
-use Rattle.hunk_c.proofs.LastBytes.{content_less, four_of, payload_less, stands_at_phase, symbol_less, takes_last}
+use Rattle.hunk_c.proofs.LastBytes.{content_less, payload_less, stands_at_phase, symbol_less, takes_last}
 use Rattle.hunk_c.proofs.loader.Loader.take_last.Goals as goal
 
 pub returns-then-self-eq-CONTENT-clause-takes : goal.returns-then-self-eq-CONTENT-clause-takes
