@@ -1,4 +1,5 @@
 pub mod AnsweredNumbers
+pub mod FewRows
 pub mod Filling
 pub mod LastBytes
 pub mod LoadRows

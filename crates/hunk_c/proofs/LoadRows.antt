@@ -1,14 +1,16 @@
--- A load file has no EXT blocks, so no rows of what stands in them.
+-- A load file has no units, and no EXT blocks, so no rows of what stands in them.
 use Rattle.std.proofs.Common.{◌≡◌, ℕ, ◌+◌, ◌*◌, List, [], ◌∷◌, ◌++◌, length, map, refl, ap, ◌∙◌}
 use Rattle.std.specs.List.{AllByRecursion, flat_map}
 use Rattle.hunk_grammar.specs.declared.mode.Mode.TheVariants as modes
 use Rattle.hunk_blocks.specs.Modes.{IsOfLoadMode, IsOfMode}
 use Rattle.hunk_blocks.specs.{Parts.block_text, Values.{BlockBody, BlockValue, Ext}}
-use Rattle.hunk_files.specs.Items.{ItemValue, blocks_items, hunks_items}
+use Rattle.hunk_files.specs.Items.{ItemValue, HunkItem, BlockItem, blocks_items, hunks_items, item_text}
+use Rattle.hunk_files.specs.ObjectFile.{ObjectHunk}
 use Rattle.hunk_files.specs.{LoadFile.{HunkValue, IsHunk, IsHunkBlock, IsLoadFile, LoadFileValue, declared_longs}, StandingBlocks.{StandingBlock, items_blocks, standing_blocks}, Tables.header_text}
 use Rattle.hunk_files.specs.declared.hunk_file.HunkFile.TheVariants as files
 use Rattle.hunk_c.specs.Entries.{block_rows, body_rows, entries_in}
 use Rattle.hunk_c.specs.References.{blocks_references, body_entries, body_references, references_in}
+use Rattle.hunk_c.specs.Units.{items_units, units_in}
 
 abbrev IsOfLoadFile : StandingBlock → Type 0
 IsOfLoadFile s = IsOfMode modes.Load s.block.value
@@ -52,3 +54,18 @@ no_references number (s ∷ ss) each = go s.block.value.word s.block.value.body 
 
 pub references_none : (v : LoadFileValue) (rest : ℕ) → IsLoadFile v → references_in (files.Load v rest) ≡ []
 references_none v rest h = no_references 0 (standing_blocks (files.Load v rest)) (standing_are v rest h)
+
+-- ---- units
+
+-- hunks and blocks have none
+blocks_none : (place unit hunk : ℕ) (bs : List BlockValue) (rest : List ItemValue) → ((at : ℕ) → items_units at rest ≡ []) → items_units place (blocks_items unit hunk bs ++ rest) ≡ []
+blocks_none place unit hunk [] rest none = none place
+blocks_none place unit hunk (b ∷ bs) rest none = blocks_none (place + 4 * length (item_text (BlockItem unit hunk b))) unit hunk bs rest none
+
+hunks_none : (place unit number : ℕ) (hs : List ObjectHunk) → items_units place (hunks_items unit number hs) ≡ []
+hunks_none place unit number [] = refl
+hunks_none place unit number (h ∷ hs) =
+    blocks_none (place + 4 * length (item_text (HunkItem unit number h))) unit number h (hunks_items unit (number + 1) hs) (λ at. hunks_none at unit (number + 1) hs)
+
+pub units_none : (v : LoadFileValue) (rest : ℕ) → units_in (files.Load v rest) ≡ []
+units_none v rest = hunks_none (4 * length (header_text v)) 0 0 (map (λ (h : HunkValue). h.blocks) v)

@@ -1,5 +1,5 @@
 -- What is listed in the caller's rows.
-use Rattle.std.proofs.Common.{◌≡◌, ◌++◌, ◌≤◌, ◌<◌, ◌^◌, ℕ, List, length, drop, sym, ap, ap₂, subst, ◌∙◌, arith, take-append-drop}
+use Rattle.std.proofs.Common.{◌≡◌, ◌++◌, ◌≤◌, ◌<◌, ◌^◌, ℕ, List, [], ◌∷◌, length, drop, refl, sym, ap, ap₂, subst, ◌∙◌, arith, take-append-drop}
 use Rattle.std.proofs.lemmas.List.{length-map}
 use Rattle.hunk_words.specs.Carriers.{saturated}
 use Rattle.hunk_words.proofs.LongLaws.{length-bytes_of}
@@ -22,6 +22,14 @@ what_fits rows told bytes old new answer (HasNoFile f absent same e) b ok room =
 -- A count that fits a slice is exact.
 pub counted : (count n room : ℕ) → count ≡ saturated n → count ≤ room → room < 2 ^ 63 → count ≡ n
 counted count n room is fits small = omega (arith, is, fits, small)
+
+-- No rows are written over none.
+pub none_written : {Row : Type 0} (xs old : List Row) → xs ≡ [] → old ≡ xs ++ drop (length xs) old
+none_written {Row} xs old e = sym (ap (λ (ys : List Row). ys ++ drop (length ys) old) e)
+
+pub none_left : {Row : Type 0} (xs : List Row) → length xs ≡ 0 → xs ≡ []
+none_left [] e = refl
+none_left (x ∷ xs) e = absurd (omega (arith, e))
 
 -- Where they are few, just so many are told.
 pub exactly : {Row : Type 0} (rows : HunkFile → List Row) (bytes : List ℕ) (old new : List Row) (answer : Answer) → ((file : HunkFile) → IsFileOf bytes file → length (rows file) < 2 ^ 64) →
@@ -47,7 +55,7 @@ few_findings bytes (files.Object value) small is = omega (
 
 -- ---- what is copied
 
-pub copied : (old bytes new : List ℕ) (n : ℕ) → Copies old 0 bytes new n → length bytes ≤ length old → new ≡ bytes ++ drop n old
-copied old bytes new n copies room =
+pub copied : {A : Type 0} (old items new : List A) (n : ℕ) → Copies old 0 items new n → length items ≤ length old → new ≡ items ++ drop n old
+copied {A} old items new n copies room =
     let follows = copies.1 (omega (arith, room)) in
-    sym (take-append-drop n new) ∙ ap₂ (λ (xs ys : List ℕ). xs ++ ys) follows.front follows.rest
+    sym (take-append-drop n new) ∙ ap₂ (λ (xs ys : List A). xs ++ ys) follows.front follows.rest

@@ -17,5 +17,4 @@ pub mod Streams
 pub mod Strips
 pub mod Symbols
 pub mod Tables
-pub mod Filling
 pub mod Units

@@ -8,9 +8,9 @@ ghost use Rattle.hunk_files.specs.FileView.{file_of};
 ghost use Rattle.hunk_c.specs.Blocks.{block_row, block_rows, blocks_in, content, items, payload_of};
 ghost use Rattle.hunk_c.specs.Rows.{ListsWhatFits, Tabulates};
 
-use crate::answer::{Answer, refused};
+use crate::answer::Answer;
 use crate::entries::list_entries;
-use crate::rows::{InBlock, RowCount, write_rows};
+use crate::rows::{CountedRow, InBlock, RowCount, tabulate};
 use crate::symbols::list_symbols;
 use hunk_blocks::{BlockView, BodyView, Payload};
 use hunk_files::{FileView, Item, Takes};
@@ -38,10 +38,7 @@ pub extern "C" fn hunk_blocks(bytes: &[u8], rows: &mut [BlockRow]) -> Answer
     ensures outcome { Tabulates blocks_in bytes.now rows.old rows.new result }
     ensures succeeds { ListsWhatFits blocks_in (length rows.old) bytes.now result }
 {
-    match FileView::read(bytes) {
-        Ok(file) => write_rows(bytes, &file, count_blocks(&file), rows),
-        Err(refusal) => refused(refusal.fault),
-    }
+    tabulate(bytes, rows)
 }
 
 /// How many blocks there are, up to 2 ^ 64 - 1: what stands in them is not looked at.
@@ -62,6 +59,17 @@ impl InBlock for BlockRow {
 
     fn list<T: Takes<BlockRow>>(unit: u64, hunk: u64, block: BlockView<'_>, taker: &mut T) {
         taker.take(block_row(unit, hunk, &block));
+    }
+}
+
+impl CountedRow for BlockRow {
+    fn count(file: &FileView<'_>) -> u64 {
+        count_blocks(file)
+    }
+
+    #[tactic(auto, using(crate::proofs::FewRows::few_blocks))]
+    fn most_rows(size: u64) -> u64 {
+        size / 4
     }
 }
 

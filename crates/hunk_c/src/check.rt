@@ -6,7 +6,7 @@ ghost use Rattle.hunk_c.specs.Checks.{Checks, finding_row, finding_rows, kind_nu
 ghost use Rattle.hunk_c.specs.Rows.{ListsWhatFits};
 
 use crate::answer::Answer;
-use crate::rows::{FileRow, tabulate};
+use crate::rows::{CountedRow, FileRow, count_rows, tabulate};
 use hunk_files::{FileView, FindingKind, PlacedFinding, Takes};
 
 /// What is wrong with an offset, `struct hunk_finding`: 40 bytes, with no padding.
@@ -38,6 +38,17 @@ impl FileRow for FindingRow {
             let mut rows = FindingRows { taker };
             let _units = file.check_in_place(&mut rows);
         }
+    }
+}
+
+impl CountedRow for FindingRow {
+    fn count(file: &FileView<'_>) -> u64 {
+        count_rows::<FindingRow>(file)
+    }
+
+    #[tactic(auto, using(crate::proofs::FewRows::few_findings))]
+    fn most_rows(size: u64) -> u64 {
+        size / 2
     }
 }
 

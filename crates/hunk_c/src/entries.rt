@@ -8,9 +8,9 @@ ghost use Rattle.hunk_c.specs.Entries.{block_rows, entries_in, entry_row};
 
 use crate::answer::Answer;
 use crate::name::text_length;
-use crate::rows::{InBlock, tabulate_object};
+use crate::rows::{CountedRow, InBlock, count_rows, tabulate_object};
 use hunk_blocks::{BlockView, BodyView, EntriesIter, Entry};
-use hunk_files::Takes;
+use hunk_files::{FileView, Takes};
 use hunk_words::NAME_LIMIT;
 
 /// An entry of an EXT block, `struct hunk_entry`: 64 bytes, with no padding.
@@ -44,6 +44,17 @@ impl InBlock for EntryRow {
         if let BodyView::Ext(entries) = block.into_body() {
             list_entries(taker, unit, hunk, entries);
         }
+    }
+}
+
+impl CountedRow for EntryRow {
+    fn count(file: &FileView<'_>) -> u64 {
+        count_rows::<EntryRow>(file)
+    }
+
+    #[tactic(auto, using(crate::proofs::FewRows::few_entries))]
+    fn most_rows(size: u64) -> u64 {
+        size / 4
     }
 }
 

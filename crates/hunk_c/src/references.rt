@@ -9,7 +9,7 @@ ghost use Rattle.hunk_c.specs.References.{reference_row, references_in};
 ghost use Rattle.hunk_c.specs.Rows.{ListsWhatFits, Tabulates};
 
 use crate::answer::Answer;
-use crate::rows::{FileRow, tabulate_object};
+use crate::rows::{CountedRow, FileRow, count_rows, tabulate_object};
 use hunk_blocks::{BlockView, BodyView, EntriesIter, Longs};
 use hunk_files::{FileView, Item, Takes, reference_width};
 
@@ -44,6 +44,17 @@ impl FileRow for ReferenceRow {
                 number = list_block(taker, number, view);
             }
         }
+    }
+}
+
+impl CountedRow for ReferenceRow {
+    fn count(file: &FileView<'_>) -> u64 {
+        count_rows::<ReferenceRow>(file)
+    }
+
+    #[tactic(auto, using(crate::proofs::FewRows::few_references))]
+    fn most_rows(size: u64) -> u64 {
+        size / 4
     }
 }
 

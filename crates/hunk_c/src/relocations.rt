@@ -5,9 +5,9 @@ ghost use Rattle.hunk_c.specs.Relocations.{relocations_in};
 ghost use Rattle.hunk_c.specs.Rows.{ListsWhatFits, Tabulates};
 
 use crate::answer::Answer;
-use crate::rows::{InBlock, tabulate};
+use crate::rows::{CountedRow, InBlock, count_rows, tabulate};
 use hunk_blocks::{BlockView, BodyView, GroupsIter, Longs};
-use hunk_files::{Takes, relocation_width};
+use hunk_files::{FileView, Takes, relocation_width};
 use hunk_words::BlockWord;
 
 /// An offset that is relocated, `struct hunk_relocation`: 48 bytes, with no padding.
@@ -41,6 +41,17 @@ impl InBlock for RelocationRow {
         if let BodyView::Reloc(groups) = block.into_body() {
             list_groups(taker, relocated, groups);
         }
+    }
+}
+
+impl CountedRow for RelocationRow {
+    fn count(file: &FileView<'_>) -> u64 {
+        count_rows::<RelocationRow>(file)
+    }
+
+    #[tactic(auto, using(crate::proofs::FewRows::few_relocations))]
+    fn most_rows(size: u64) -> u64 {
+        size / 4
     }
 }
 

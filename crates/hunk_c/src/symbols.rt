@@ -8,9 +8,9 @@ ghost use Rattle.hunk_c.specs.Symbols.{block_rows, symbol_row, symbols_in};
 
 use crate::answer::Answer;
 use crate::name::text_length;
-use crate::rows::{InBlock, tabulate};
+use crate::rows::{CountedRow, InBlock, count_rows, tabulate};
 use hunk_blocks::{BlockView, BodyView, SymbolView, SymbolsIter};
-use hunk_files::Takes;
+use hunk_files::{FileView, Takes};
 
 /// A symbol, `struct hunk_symbol`: 48 bytes, with no padding.
 #[repr(C)]
@@ -41,6 +41,17 @@ impl InBlock for SymbolRow {
         if let BodyView::Symbol(symbols) = block.into_body() {
             list_symbols(taker, unit, hunk, symbols);
         }
+    }
+}
+
+impl CountedRow for SymbolRow {
+    fn count(file: &FileView<'_>) -> u64 {
+        count_rows::<SymbolRow>(file)
+    }
+
+    #[tactic(auto, using(crate::proofs::FewRows::few_symbols))]
+    fn most_rows(size: u64) -> u64 {
+        size / 4
     }
 }
 

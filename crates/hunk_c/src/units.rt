@@ -5,9 +5,9 @@ ghost use Rattle.hunk_files.specs.FileView.{file_of};
 ghost use Rattle.hunk_c.specs.Rows.{ListsWhatFits, Tabulates};
 ghost use Rattle.hunk_c.specs.Units.{unit_row, units_in};
 
-use crate::answer::{Answer, refused};
+use crate::answer::Answer;
 use crate::name::text_length;
-use crate::rows::{FileRow, write_rows};
+use crate::rows::{CountedRow, FileRow, tabulate_object};
 use hunk_files::{FileView, Item, Takes, UnitView};
 
 /// A unit of an object file, `struct hunk_unit`: 40 bytes, with no padding.
@@ -27,20 +27,7 @@ pub extern "C" fn hunk_units(bytes: &[u8], rows: &mut [UnitRow]) -> Answer
     ensures outcome { Tabulates units_in bytes.now rows.old rows.new result }
     ensures succeeds { ListsWhatFits units_in (length rows.old) bytes.now result }
 {
-    match FileView::read(bytes) {
-        Ok(file) => write_rows(bytes, &file, count_units(&file), rows),
-        Err(refusal) => refused(refusal.fault),
-    }
-}
-
-/// How many units there are, for which no hunk of theirs is looked at.
-fn count_units(file: &FileView<'_>) -> u64
-    ensures { result ≡ saturated (length (units_in (file_of file.now))) }
-{
-    match file {
-        FileView::Load { .. } => 0,
-        FileView::Object(file) => file.units(),
-    }
+    tabulate_object(bytes, rows)
 }
 
 impl FileRow for UnitRow {
@@ -52,6 +39,21 @@ impl FileRow for UnitRow {
                 taker.take(unit_row(&view));
             }
         }
+    }
+}
+
+impl CountedRow for UnitRow {
+    fn count(file: &FileView<'_>) -> u64 {
+        match file {
+            FileView::Load { .. } => 0,
+            // No hunk of theirs is looked at.
+            FileView::Object(file) => file.units(),
+        }
+    }
+
+    #[tactic(auto, using(crate::proofs::FewRows::few_units))]
+    fn most_rows(size: u64) -> u64 {
+        size / 4
     }
 }
 

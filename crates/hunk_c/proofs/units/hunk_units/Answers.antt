@@ -1,6 +1,5 @@
-use Rattle.std.proofs.Common.{refl}
-use Rattle.hunk_c.specs.Rows.{HasNoFile}
+use Rattle.hunk_c.proofs.LoadRows.{units_none}
 use Rattle.hunk_c.proofs.units.hunk_units.Goals as goal
 
-pub returns-in-Err-clause-outcome : goal.returns-in-Err-clause-outcome
-returns-in-Err-clause-outcome c = HasNoFile c.in-Err.refusal.fault (c.in-Err.ensures.refused, c.in-Err.ensures.none) refl c.refused.ensures
+pub tabulate_object-requires-clause-none : goal.tabulate_object-requires-clause-none
+tabulate_object-requires-clause-none c = λ v rest is. units_none v rest

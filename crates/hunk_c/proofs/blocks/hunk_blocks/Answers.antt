@@ -1,6 +1,0 @@
-use Rattle.std.proofs.Common.{refl}
-use Rattle.hunk_c.specs.Rows.{HasNoFile}
-use Rattle.hunk_c.proofs.blocks.hunk_blocks.Goals as goal
-
-pub returns-in-Err-clause-outcome : goal.returns-in-Err-clause-outcome
-returns-in-Err-clause-outcome c = HasNoFile c.in-Err.refusal.fault (c.in-Err.ensures.refused, c.in-Err.ensures.none) refl c.refused.ensures
