@@ -60,6 +60,7 @@ impl<'a> LongReader<'a> {
         requires { count ≤ length self.old.rest }
         ensures read { Reads self.old self.new (longs result) }
         ensures count { length (longs result) ≡ count }
+        ensures bound { self.new.place < 2 ^ 64 }
     {
         let end = self.at + 4 * count as usize;
         let words = &self.bytes[self.at..end];
@@ -110,6 +111,7 @@ impl<'a> LongReader<'a> {
         requires { name_longs word ≤ length self.old.rest }
         ensures read { Reads self.old self.new (longs result) }
         ensures count { length (longs result) ≡ name_longs word }
+        ensures bound { self.new.place < 2 ^ 64 }
     {
         self.payload(word % NAME_LIMIT)
     }

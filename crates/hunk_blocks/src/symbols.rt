@@ -1,5 +1,5 @@
 //! The entries of a SYMBOL block.
-ghost use Rattle.std.specs.Prelude.{◌≡◌, IfErr, IfOk, map};
+ghost use Rattle.std.specs.Prelude.{◌≡◌, ◌+◌, ◌<◌, ◌^◌, IfErr, IfOk, length, map};
 ghost use Rattle.std.specs.Iterator.{item_count};
 ghost use Rattle.hunk_words.specs.declared.reason.Reason.TheVariants as reasons;
 ghost use Rattle.hunk_words.specs.Longs.{bytes_of};
@@ -41,10 +41,12 @@ pub type Symbols<'a> = BlockList<SymbolView<'a>>;
 #[derive(Drop)]
 pub struct SymbolsIter<'a> {
     reader: LongReader<'a>,
+    /// How many entries are still to come.
+    left: usize,
 }
 
 impl<'a> Model for SymbolsIter<'a> {
-    ghost use Rattle.std.specs.Prelude.{List};
+    ghost use Rattle.std.specs.Prelude.{◌≡◌, List, length};
     ghost use Rattle.hunk_blocks.specs.Cuts.{symbol_cut, list_cut};
     ghost use Rattle.hunk_blocks.specs.Parts.{symbol_text};
     ghost use Rattle.hunk_blocks.specs.Placed.{Placed};
@@ -58,7 +60,8 @@ impl<'a> Model for SymbolsIter<'a> {
       value = (list_cut symbol_cut s.reader.rest).value;
     } };
 
-    ghost invariant = { λ s. BeginsWithList IsSymbolEntry symbol_text s.reader.rest };
+    ghost invariant = { λ s. BeginsWithList IsSymbolEntry symbol_text s.reader.rest
+        × (s.left ≡ length (list_cut symbol_cut s.reader.rest).value) };
 }
 
 impl<'a> SymbolsIter<'a> {
@@ -69,14 +72,17 @@ impl<'a> SymbolsIter<'a> {
         ensures read { ReadsValue (list_cut symbol_cut) reader.old reader.new result.value }
         ensures place { result.place ≡ reader.old.place }
     {
-        let symbols = SymbolsIter {
-            reader: reader.again(),
-        };
+        let start = reader.again();
+        let mut count = 0;
         'passing: while reader.peek() != 0 {
             let _ = read_symbol(reader);
+            count += 1;
         }
         let _ = reader.long();
-        symbols
+        SymbolsIter {
+            reader: start,
+            left: count,
+        }
     }
 
     /// The byte of the input at which the next entry begins, or the zero that ends the block.
@@ -87,6 +93,14 @@ impl<'a> SymbolsIter<'a> {
         self.reader.at as u64
     }
 
+    /// How many entries are still to come.
+    #[inline(always)]
+    pub fn len(&self) -> usize
+        ensures { result ≡ length self.now.value }
+    {
+        self.left
+    }
+
     /// The same entries again.
     #[inline(always)]
     pub fn again(&self) -> SymbolsIter<'a>
@@ -94,6 +108,7 @@ impl<'a> SymbolsIter<'a> {
     {
         SymbolsIter {
             reader: self.reader.again(),
+            left: self.left,
         }
     }
 }
@@ -111,6 +126,7 @@ impl<'a> Iterator for SymbolsIter<'a> {
         if self.reader.peek() == 0 {
             return None;
         }
+        self.left -= 1;
         Some(read_symbol(&mut self.reader))
     }
 }
@@ -119,7 +135,8 @@ impl<'a> Iterator for SymbolsIter<'a> {
 #[inline(always)]
 fn read_symbol<'a>(reader: &mut LongReader<'a>) -> SymbolView<'a>
     requires { BeginsWithSome IsSymbolEntry symbol_text reader.old.rest }
-    ensures { ReadsValue symbol_cut reader.old reader.new (symbol_of result) }
+    ensures read { ReadsValue symbol_cut reader.old reader.new (symbol_of result) }
+    ensures bound { reader.old.place + 4 < 2 ^ 64 }
 {
     let word = reader.long();
     let name = reader.name(word);

@@ -6,7 +6,7 @@ use Rattle.hunk_words.proofs.LongLaws.{length-bytes_of}
 use Rattle.hunk_grammar.specs.BlockParts.{Part, Payload}
 use Rattle.hunk_blocks.specs.Parts.{block_parts, block_text, group_text}
 use Rattle.hunk_blocks.specs.Values.{BlockBody, BlockValue, RelocGroup, offset_count, Name, Code, Data, Debug, Advisory}
-use Rattle.hunk_c.specs.{Blocks.{Span, payload_of}, Counting.Counts, Relocations.{Relocated, group_rows, offset_rows}}
+use Rattle.hunk_c.specs.{Blocks.{Span, payload_of}, Counting.Counts, Listing.item_rows, Relocations.{Relocated, group_rows, offset_rows}}
 
 -- a count that begins at 0
 pub rows_counted : {Row : Type 0} (n : ℕ) (xs ys : List Row) → Counts 0 xs n → xs ≡ ys → n ≡ saturated (length ys)
@@ -32,6 +32,11 @@ payload_len block words len is size = size ∙ payload_text block.word block.bod
 -- two spans that end at one byte, and have as many bytes
 pub same_span : (a b : Span) → a.place + a.bytes ≡ b.place + b.bytes → a.bytes ≡ b.bytes → a ≡ b
 same_span a b end bytes = search rules
+
+-- There is a row for each item.
+pub length-item_rows : {A Row : Type 0} (row : ℕ → A → Row) (text : A → List ℕ) (place : ℕ) (xs : List A) → length (item_rows row text place xs) ≡ length xs
+length-item_rows row text place [] = omega arith
+length-item_rows row text place (x ∷ xs) = omega (arith, length-item_rows row text (place + 4 * length (text x)) xs)
 
 -- ---- the rows of relocations
 

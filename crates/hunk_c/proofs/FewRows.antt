@@ -23,7 +23,7 @@ use Rattle.hunk_c.specs.{Blocks.blocks_in, Checks.{finding_row, finding_rows}, E
 use Rattle.hunk_c.specs.{Symbols.{symbol_row, symbols_in}, Units.{items_units, units_in}}
 use Rattle.hunk_c.specs.References.{body_entries, body_references, blocks_references, entries_references, entry_references, long_text, reference_row, references_in}
 use Rattle.hunk_c.specs.declared.check.FindingRow.{FindingRow}
-use Rattle.hunk_c.proofs.{BlockRows.length-group_rows, LoadRows.references_none}
+use Rattle.hunk_c.proofs.{BlockRows.{length-group_rows, length-item_rows}, LoadRows.references_none}
 
 -- ---- the longwords of all that stands in a file
 
@@ -81,10 +81,6 @@ module _ {A P : Type 0} (parts : A → List P) (some : (x : A) → 1 ≤ length 
   least : (xs : List A) → length xs ≤ length (flat_map parts xs)
   least [] = omega arith
   least (x ∷ xs) = omega (arith, some x, least xs, length-append (parts x) (flat_map parts xs))
-
-length-item_rows : {A Row : Type 0} (row : ℕ → A → Row) (text : A → List ℕ) (place : ℕ) (xs : List A) → length (item_rows row text place xs) ≡ length xs
-length-item_rows row text place [] = omega arith
-length-item_rows row text place (x ∷ xs) = omega (arith, length-item_rows row text (place + 4 * length (text x)) xs)
 
 pub few_blocks : (bytes : List ℕ) (file : HunkFile) (size : ℕ) → IsFileOf bytes file → length (file_bytes file) ≤ size → length (blocks_in file) ≤ size / 4
 few_blocks bytes file size is = few_in_file blocks.block_rows (λ s. omega arith) file size

@@ -10,7 +10,8 @@ use Rattle.hunk_files.proofs.{findings.FindingCounts.findings_few, findings.Plac
 use Rattle.hunk_c.specs.{Answers.no_room, Checks.{finding_row, finding_rows}, Copying.Copies, Files.hunks_in}
 use Rattle.hunk_c.specs.Rows.{Lists, ListsExactly, ListsWhatFits, Tabulates, HasRows, HasNoRoom, HasNoFile}
 use Rattle.hunk_c.specs.declared.{answer.Answer.Answer, check.FindingRow.FindingRow}
-use Rattle.hunk_c.proofs.OneFile.{are_file, one_file}
+use Rattle.hunk_c.proofs.OneFile.{are_file, file_size, one_file}
+use Rattle.hunk_c.proofs.FewRows as few
 
 pub what_fits : {Row : Type 0} (rows : HunkFile → List Row) (told : ℕ → ℕ) (bytes : List ℕ) (old new : List Row) (answer : Answer) → Lists rows told bytes old new answer →
     ListsWhatFits rows (length old) bytes answer
@@ -40,18 +41,7 @@ exactly rows bytes old new answer few (HasNoFile f absent same e) = HasNoFile f 
 
 -- They are few where there is one for each finding.
 pub few_findings : (bytes : List ℕ) (file : HunkFile) → length bytes < 2 ^ 63 → IsFileOf bytes file → length (finding_rows file) < 2 ^ 64
-few_findings bytes (files.Load value rest) small is = omega arith
-few_findings bytes (files.Object value) small is = omega (
-  arith,
-  length-map {B = FindingRow} (placed_findings value) finding_row,
-  length-map {B = FindingValue} (placed_findings value) (λ f. f.value),
-  ap (λ (found : List FindingValue). length found) (findings_placed value),
-  findings_few value (subst IsObjectFile (sym is.1) is.0.is_object_file),
-  ap (λ (o : ObjectFileValue). length (object_text o)) is.1,
-  ap (λ (xs : List ℕ). length xs) is.0.text_is,
-  length-bytes_of (object_text is.0.value),
-  small,
-)
+few_findings bytes file small is = omega (arith, few.few_findings bytes file (length (file_bytes file)) is (omega arith), file_size bytes file is, small)
 
 -- ---- what is copied
 

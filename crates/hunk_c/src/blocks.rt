@@ -11,7 +11,6 @@ ghost use Rattle.hunk_c.specs.Rows.{ListsWhatFits, Tabulates};
 use crate::answer::Answer;
 use crate::entries::list_entries;
 use crate::rows::{CountedRow, InBlock, RowCount, tabulate};
-use crate::symbols::list_symbols;
 use hunk_blocks::{BlockView, BodyView, Payload};
 use hunk_files::{FileView, Item, Takes};
 
@@ -146,12 +145,14 @@ fn span_before(end: u64, payload: &Payload<'_>) -> Span
 fn items(unit: u64, hunk: u64, block: &BlockView<'_>) -> u64
     ensures { result ≡ items (record { unit = unit; hunk = hunk; block = block.now }) }
 {
-    let mut counter = RowCount { count: 0 };
     match block.body() {
-        BodyView::Reloc(groups) => return groups.offset_count(),
-        BodyView::Symbol(symbols) => list_symbols(&mut counter, unit, hunk, symbols.again()),
-        BodyView::Ext(entries) => list_entries(&mut counter, unit, hunk, entries.again()),
-        _ => {}
+        BodyView::Reloc(groups) => groups.offset_count(),
+        BodyView::Symbol(symbols) => symbols.len() as u64,
+        BodyView::Ext(entries) => {
+            let mut counter = RowCount { count: 0 };
+            list_entries(&mut counter, unit, hunk, entries.again());
+            counter.count
+        }
+        _ => 0,
     }
-    counter.count
 }

@@ -56,7 +56,7 @@ impl CountedRow for SymbolRow {
 }
 
 /// Hands over the row of each symbol of a block.
-pub(crate) fn list_symbols<T: Takes<SymbolRow>>(
+fn list_symbols<T: Takes<SymbolRow>>(
     taker: &mut T,
     unit: u64,
     hunk: u64,
