@@ -8,7 +8,7 @@ ghost use Rattle.hunk_files.specs.Items.{ItemsStand};
 ghost use Rattle.hunk_files.specs.ItemViews.{kept_text};
 
 use crate::items::Items;
-use hunk_words::{Printer, Sink};
+use hunk_words::{PagePrinter, Sink};
 
 /// Takes bytes range by range, and refuses none: what goes wrong with one is kept for the end.
 ///
@@ -27,7 +27,7 @@ pub trait TakesBytes {
 }
 
 /// A page prints them one after the other.
-impl<W: Sink> TakesBytes for Printer<'_, W> {
+impl<W: Sink, const ROOM: usize> TakesBytes for PagePrinter<'_, W, ROOM> {
     ghost takes = { λ a xs b. Prints a b xs };
 
     ghost none = { λ s. (refl, sym (append-nil s.text)) };

@@ -10,7 +10,7 @@ use crate::block::print_block;
 use crate::line::Line;
 use crate::put::{put, put_decimal, put_hexadecimal};
 use hunk_files::{LoadHunkView, LoadView};
-use hunk_words::{Memory, PageLine, Printer, Sink, SizeWord};
+use hunk_words::{Memory, PageLine, PagePrinter, Printer, Sink, SizeWord};
 
 /// Lists the hunks and blocks of a load file that `rest` bytes follow.
 pub fn print_load_file<W: Sink>(page: &mut Printer<'_, W>, file: &LoadView<'_>, rest: u64)
@@ -36,7 +36,11 @@ pub(crate) fn print_load_head<W: Sink>(page: &mut Printer<'_, W>, file: &LoadVie
 
 /// Prints the line of a file of so many hunks, which declare so many bytes.
 #[tactic(auto, unfolding(crate::specs::FileLines::load_line))]
-pub(crate) fn print_load_line<W: Sink>(page: &mut Printer<'_, W>, hunks: u32, bytes: u64)
+pub(crate) fn print_load_line<W: Sink, const ROOM: usize>(
+    page: &mut PagePrinter<'_, W, ROOM>,
+    hunks: u32,
+    bytes: u64,
+)
     ensures { Prints page.old page.new (load_line hunks bytes) }
 {
     let mut line = Line::new();
@@ -105,7 +109,7 @@ fn put_memory(room: &mut [u8], at: usize, memory: Memory) -> usize
 
 /// Prints the line that says how many bytes follow the file.
 #[tactic(auto, unfolding(crate::specs::FileLines::rest_line))]
-pub(crate) fn print_rest<W: Sink>(page: &mut Printer<'_, W>, rest: u64)
+pub(crate) fn print_rest<W: Sink, const ROOM: usize>(page: &mut PagePrinter<'_, W, ROOM>, rest: u64)
     ensures { Prints page.old page.new (rest_line rest) }
 {
     let mut line = Line::new();

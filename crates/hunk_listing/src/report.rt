@@ -12,7 +12,7 @@ ghost use Rattle.hunk_listing.specs.Reporting.{Reports, reports_none, reports_mo
 use crate::line::Line;
 use crate::load::{print_load_line, print_rest};
 use hunk_files::{Finding, FindingKind, LoadView, ObjectView, Takes};
-use hunk_words::{Printer, Sink};
+use hunk_words::{PagePrinter, Printer, Sink};
 use std::marker::Model;
 
 /// Reports a load file that `rest` bytes follow: nothing is found in one that was accepted.
@@ -23,7 +23,12 @@ pub fn print_load_summary<W: Sink>(page: &mut Printer<'_, W>, file: &LoadView<'_
 }
 
 /// Reports a load file of so many hunks, which declare so many bytes, and that `rest` bytes follow.
-pub fn print_load_totals<W: Sink>(page: &mut Printer<'_, W>, hunks: u32, bytes: u64, rest: u64)
+pub fn print_load_totals<W: Sink, const ROOM: usize>(
+    page: &mut PagePrinter<'_, W, ROOM>,
+    hunks: u32,
+    bytes: u64,
+    rest: u64,
+)
     ensures { Prints page.old page.new (load_line hunks bytes ++ where_rest rest) }
 {
     print_load_line(page, hunks, bytes);
