@@ -15,10 +15,13 @@ use hunk_files::sniff;
 use hunk_grammar::Sniff;
 use hunk_listing::print_load_totals;
 use hunk_scatter::LoadCheck;
-use hunk_words::{LongWriter, Printer, Sink, Source};
+use hunk_words::{LongWriter, PagePrinter, Sink, Source};
 use std::alloc::{AllocError, Global};
 use std::marker::Model;
 use std::mem;
+
+/// Room for the two lines at most that report a load file.
+const LINES: usize = 128;
 
 /// What is kept of an input, by what its first longword announces.
 #[derive(Drop)]
@@ -64,7 +67,7 @@ fn keep_first(alloc: Global, front: &[u8], piece: &[u8]) -> Result<Kept, AllocEr
     if let Sniff::Object = sniff(first.as_slice()) {
         let mut bytes = Vec::new(alloc);
         bytes.extend_from_slice(front)?;
-        bytes.extend_from_slice(piece)?;
+        bytes.take(piece)?;
         return Ok(Kept::Object(bytes));
     }
     let check = LoadCheck::new(alloc).feed(front)?;
@@ -158,7 +161,7 @@ fn report_load<W: Sink>(check: LoadCheck, w: &mut LongWriter<W>) -> Result<u64, 
         Ok(summary) => summary,
         Err(refusal) => return Err(RunFault::RefusedIn(refusal)),
     };
-    let mut page = Printer::new(w);
+    let mut page = PagePrinter::<W, LINES>::new(w);
     print_load_totals(&mut page, summary.hunks, summary.bytes, summary.rest);
     let printed = page.flush();
     let _out = page.into_inner();

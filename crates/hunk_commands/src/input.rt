@@ -9,6 +9,9 @@ use std::alloc::AllocError;
 /// How many bytes are asked for at a time: 32 KiB.
 const PIECE: usize = 32_768;
 
+/// The room of a list to which more than a piece comes, at first: 256 KiB.
+const ROOM: usize = 262_144;
+
 /// What takes the bytes of a source piece by piece.
 pub(crate) trait Taker {
     ghost took: { Self → List ℕ };
@@ -23,6 +26,9 @@ impl Taker for Vec<u8> {
     ghost took = { λ s. s.items };
 
     fn take(&mut self, piece: &[u8]) -> Result<(), AllocError> {
+        if self.is_empty() && piece.len() == PIECE {
+            self.reserve(ROOM)?;
+        }
         self.extend_from_slice(piece)
     }
 }

@@ -10,8 +10,11 @@ ghost use Rattle.hunk_commands.specs.Rewritten.{IsRewritten, stripped_where};
 use crate::fault::RunFault;
 use crate::input::read_all;
 use hunk_files::FileView;
-use hunk_words::{LongWriter, Printer, Sink, Source, WriteFault};
+use hunk_words::{LongWriter, PagePrinter, Sink, Source, WriteFault};
 use std::alloc::Global;
+
+/// How many bytes the page has room for on which short ranges are gathered: 32 KiB.
+const PAGE: usize = 32_768;
 
 /// What `rewrite` did.
 #[derive(Clone, Copy, Debug, PartialEq, Eq)]
@@ -104,7 +107,7 @@ fn put_file<W: Sink>(
     if !strip {
         return w.put_bytes(&input[..input.len() - file.rest() as usize]);
     }
-    let mut page = Printer::new(w);
+    let mut page = PagePrinter::<W, PAGE>::new(w);
     file.strip_with(&mut page);
     let result = page.flush();
     let _out = page.into_inner();
