@@ -17,7 +17,7 @@ use hunk_command_line::FileName;
 use hunk_commands::{RunFault, read_hex, relocate, show, validate};
 use hunk_scatter::Limits;
 use hunk_words::{Fault, FromRead, FromSlice, LongWriter, Sink, Source};
-use std::alloc::Global;
+use std::alloc::{AllocError, Global};
 use std::io;
 use std::io::Read;
 
@@ -36,9 +36,7 @@ pub(crate) enum Listing {
 }
 
 /// Prints it of the file, or of standard input, and gives the exit status, 1 where something was
-/// found, and what the system says of an input that can't be read. A file is read through a buffer,
-/// since little may be asked for at a time; standard input is not, so that what follows stays for
-/// the next reader.
+/// found, and what the system says of an input that can't be read.
 pub(crate) fn list_file<S: Store, W: Sink>(
     store: &S,
     alloc: Global,
@@ -66,9 +64,26 @@ pub(crate) fn list_file<S: Store, W: Sink>(
         Ok(file) => file,
         Err(error) => return (Err(RunFault::Read { place: 0 }), Some(error)),
     };
-    match FromRead::buffered(alloc, file) {
+    match source_of(alloc, listing, file, hex) {
         Ok(source) => list_reader(alloc, listing, source, hex, out),
         Err(_) => (Err(RunFault::Memory), None),
+    }
+}
+
+/// The bytes of a file. A load asks for little at a time, so its file is read through a buffer;
+/// standard input is not, so that what follows stays for the next reader.
+fn source_of<R: Read + Drop>(
+    alloc: Global,
+    listing: Listing,
+    file: R,
+    hex: bool,
+) -> Result<FromRead<R>, AllocError>
+    ensures holds { IfOk result (λ source. left_of R.remaining source.reader ≡ R.remaining file) }
+    ensures fresh { IfOk result (λ source. source.error ≡ None) }
+{
+    match listing {
+        Listing::Relocate { .. } if !hex => FromRead::buffered(alloc, file),
+        _ => Ok(FromRead::new(file)),
     }
 }
 
