@@ -19,7 +19,7 @@ use Rattle.hunk_c.specs.Blocks as blocks
 use Rattle.hunk_c.specs.Entries as entries
 use Rattle.hunk_c.specs.Relocations as relocations
 use Rattle.hunk_c.specs.Symbols as symbols
-use Rattle.hunk_c.specs.{Blocks.blocks_in, Checks.{finding_row, finding_rows}, Entries.{entries_in, entry_row}, Listing.item_rows, Relocations.{relocated, relocations_in}, Rows.rows_in}
+use Rattle.hunk_c.specs.{Blocks.blocks_in, Checks.{finding_row, finding_rows}, Entries.{entries_in, entry_row}, Relocations.{relocated, relocations_in}, Rows.rows_in}
 use Rattle.hunk_c.specs.{Symbols.{symbol_row, symbols_in}, Units.{items_units, units_in}}
 use Rattle.hunk_c.specs.References.{body_entries, body_references, blocks_references, entries_references, entry_references, long_text, reference_row, references_in}
 use Rattle.hunk_c.specs.declared.check.FindingRow.{FindingRow}

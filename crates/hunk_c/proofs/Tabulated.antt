@@ -1,15 +1,11 @@
 -- What is listed in the caller's rows.
-use Rattle.std.proofs.Common.{◌≡◌, ◌++◌, ◌≤◌, ◌<◌, ◌^◌, ℕ, List, [], ◌∷◌, length, drop, refl, sym, ap, ap₂, subst, ◌∙◌, arith, take-append-drop}
-use Rattle.std.proofs.lemmas.List.{length-map}
+use Rattle.std.proofs.Common.{◌≡◌, ◌++◌, ◌≤◌, ◌<◌, ◌^◌, ℕ, List, [], ◌∷◌, length, drop, refl, sym, ap, ap₂, ◌∙◌, arith, take-append-drop}
 use Rattle.hunk_words.specs.Carriers.{saturated}
-use Rattle.hunk_words.proofs.LongLaws.{length-bytes_of}
-use Rattle.hunk_files.specs.{Findings.FindingValue, HunkFile.{IsFileOf, file_bytes}, ObjectFile.{IsObjectFile, ObjectFileValue, object_text}}
-use Rattle.hunk_files.specs.{PlacedFindings.placed_findings, declared.hunk_file.HunkFile.HunkFile}
-use Rattle.hunk_files.specs.declared.hunk_file.HunkFile.TheVariants as files
-use Rattle.hunk_files.proofs.{findings.FindingCounts.findings_few, findings.PlacedFindingLaws.findings_placed}
-use Rattle.hunk_c.specs.{Answers.no_room, Checks.{finding_row, finding_rows}, Copying.Copies, Files.hunks_in}
+use Rattle.hunk_files.specs.{HunkFile.{IsFileOf, file_bytes}}
+use Rattle.hunk_files.specs.{declared.hunk_file.HunkFile.HunkFile}
+use Rattle.hunk_c.specs.{Answers.no_room, Checks.{finding_rows}, Copying.Copies, Files.hunks_in}
 use Rattle.hunk_c.specs.Rows.{Lists, ListsExactly, ListsWhatFits, Tabulates, HasRows, HasNoRoom, HasNoFile}
-use Rattle.hunk_c.specs.declared.{answer.Answer.Answer, check.FindingRow.FindingRow}
+use Rattle.hunk_c.specs.declared.{answer.Answer.Answer}
 use Rattle.hunk_c.proofs.OneFile.{are_file, file_size, one_file}
 use Rattle.hunk_c.proofs.FewRows as few
 

@@ -1,7 +1,5 @@
 //! The units of an object file.
 ghost use Rattle.std.specs.Prelude.{◌≡◌, length};
-ghost use Rattle.hunk_words.specs.Carriers.{saturated};
-ghost use Rattle.hunk_files.specs.FileView.{file_of};
 ghost use Rattle.hunk_c.specs.Rows.{ListsWhatFits, Tabulates};
 ghost use Rattle.hunk_c.specs.Units.{unit_row, units_in};
 
