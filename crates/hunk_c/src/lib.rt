@@ -11,6 +11,7 @@ mod blocks;
 mod check;
 mod entries;
 mod file;
+mod in_place;
 mod laws;
 mod load;
 mod loader;

@@ -1,22 +1,16 @@
 //! A loader in numbers, which its caller keeps.
-ghost use Rattle.std.specs.Prelude.{◌≡◌, ◌≤◌, ◌<◌, ◌+◌, ◌-◌, ◌^◌, ◌++◌, ◌∷◌, [], ◌*◌, ◌↔◌, false, true, length, ℕ, List, IfErr, IfOk, IsTrue, MatchOption};
-ghost use Rattle.hunk_words.specs.Carriers.{saturated};
-ghost use Rattle.hunk_words.specs.Longs.{IsBytes};
-ghost use Rattle.hunk_words.specs.PendingBytes.{pending_of};
+ghost use Rattle.std.specs.Prelude.{◌≡◌, ◌≤◌, ◌<◌, ◌+◌, ◌-◌, ◌*◌, ◌↔◌, false, true, ℕ, List, IfErr, IfOk, IsTrue, MatchOption};
 ghost use Rattle.hunk_words.specs.declared.fault.Fault.{Fault};
 ghost use Rattle.hunk_grammar.specs.Positions.{is_done};
 ghost use Rattle.hunk_grammar.specs.declared.position.Position.TheVariants as positions;
 ghost use Rattle.hunk_files.specs.declared.row.Row.{Row};
-ghost use Rattle.hunk_scatter.specs.StoreContent.{put_slice};
 ghost use Rattle.hunk_scatter.specs.Streaming.{IsFed};
 ghost use Rattle.hunk_c.specs.Loaders.{CountsBytes, IsReady, LiesIn, MayBeInBody, MayHavePosition, MayHaveStood};
 ghost use Rattle.hunk_c.specs.Loaders.{OwesByPhase, StandsAt, TellsAgain, TellsFault, TellsNone};
 ghost use Rattle.hunk_c.specs.Loaders.{least_file, loader_at, loader_position, open_hunk, refusing, standing_in, whole};
-ghost use Rattle.hunk_c.specs.Loaders.{pending_in, refusal_in, with_numbers};
-ghost use Rattle.hunk_c.specs.Streams.{PassesOver, TakesPiece};
 
 use crate::answer::{Answer, refused, strange};
-use crate::phases::{CONTENT, OFFSET, PAYLOAD, SYMBOL, WHOLE, numbers_of, phase_in};
+use crate::phases::{CONTENT, OFFSET, WHOLE, numbers_of, phase_in};
 use hunk_files::Row;
 use hunk_grammar::{OpenHunk, Position};
 use hunk_scatter::stream::{BodyState, Pending, Standing};
@@ -66,7 +60,7 @@ pub struct Loader {
 }
 
 /// The room to grow, as it is written.
-const UNUSED: [u64; 4] = [0; 4];
+pub(crate) const UNUSED: [u64; 4] = [0; 4];
 
 /// Numbers of no loader, which every call answers by `STRANGE`.
 pub(crate) const NO_LOADER: Loader = Loader {
@@ -153,56 +147,6 @@ impl Loader {
         }
     }
 
-    /// Passes over the piece, where that is longwords of a payload, and more of it is to come: no
-    /// test looks at them. Whether it did; it does not where no loader stands so.
-    #[inline(always)]
-    pub(crate) fn pass_payload(&mut self, rows: &[Row], total: usize, piece: &[u8]) -> bool
-        ensures passes { result ≡ true → PassesOver rows.now total self.old piece.now self.new }
-        ensures stays { result ≡ false → self.new ≡ self.old }
-    {
-        if self.phase != PAYLOAD || self.pending > 0 || piece.len() % 4 > 0 {
-            return false;
-        }
-        let longs = piece.len() / 4;
-        if longs == 0 || longs > self.owed as usize {
-            return false;
-        }
-        if !self.is_clean() || !self.counts_bytes() {
-            return false;
-        }
-        if !self.may_be_open() || !self.lies_in(rows, total) {
-            return false;
-        }
-        self.fed = self.fed.saturating_add(piece.len() as u64);
-        self.owed -= longs as u32;
-        self.reserved = UNUSED;
-        true
-    }
-
-    /// Takes a byte that completes no longword. Whether it did; it does not where the piece is
-    /// anything else, or no loader with these rows and this memory stands so. Nor does it where
-    /// more bytes came than are counted.
-    ///
-    /// Each number is tested by itself, for no more than the answer takes: a position is not made
-    /// of them.
-    #[inline(always)]
-    pub(crate) fn pass_byte(&mut self, rows: &[Row], total: usize, piece: &[u8]) -> bool
-        ensures passes { result ≡ true → PassesOver rows.now total self.old piece.now self.new }
-        ensures stays { result ≡ false → self.new ≡ self.old }
-    {
-        if piece.len() != 1 || self.pending > 2 || !self.is_clean() {
-            return false;
-        }
-        if self.start % 4 > 0 || self.fed % 4 != u64::from(self.pending) {
-            return false;
-        }
-        if !self.may_be_open() || !self.lies_in(rows, total) {
-            return false;
-        }
-        self.push(piece[0]);
-        true
-    }
-
     /// Whether a hunk is open, and a loader with these rows and this memory may stand so.
     #[inline(always)]
     pub(crate) fn is_ready(&self, rows: &[Row], total: usize) -> bool
@@ -211,93 +155,9 @@ impl Loader {
         self.is_clean() && self.counts_bytes() && self.may_be_open() && self.lies_in(rows, total)
     }
 
-    /// Takes the byte that completes a longword of a content, a payload or a symbol, where more of
-    /// that is to come. Whether it did; it does not where the longword is anything else.
-    ///
-    /// Nothing changes but what is owed, and in a content the longword of the memory: so a position
-    /// is not made of the numbers here, either.
-    #[inline(always)]
-    pub(crate) fn take_last(&mut self, rows: &[Row], memory: &mut [u8], piece: &[u8]) -> bool
-        requires { IsReady rows.now (length memory.old) self.old }
-        ensures takes { result ≡ true → TakesPiece rows.now self.old self.new memory.old
-            memory.new piece.now 1 }
-        ensures stays { result ≡ false → self.new ≡ self.old }
-        ensures keeps { result ≡ false → memory.new ≡ memory.old }
-    {
-        // The rows are for the contract alone.
-        let _ = rows;
-        if piece.len() != 1 || self.pending != 3 || self.owed == 0 {
-            return false;
-        }
-        let long = long_of(self.first, self.second, self.third, piece[0]);
-        if self.phase == CONTENT {
-            let at = self.content_at();
-            put_long(memory, at as usize, long);
-            self.pass_last();
-            return true;
-        }
-        if self.phase == PAYLOAD {
-            self.pass_last();
-            return true;
-        }
-        if self.phase == SYMBOL {
-            self.pass_last();
-            return true;
-        }
-        false
-    }
-
-    /// The byte of the memory where the next longword of a content goes.
-    #[inline(always)]
-    fn content_at(&self) -> u64
-        requires inside { self.now.owed < self.now.part }
-        requires small { self.now.start + 4 * self.now.part < 2 ^ 64 }
-        ensures { result ≡ self.now.start + 4 * (self.now.part - self.now.owed - 1) }
-    {
-        self.start + 4 * u64::from(self.part - self.owed - 1)
-    }
-
-    /// Counts a byte that completes a longword of a run, after which others are owed.
-    #[inline(always)]
-    fn pass_last(&mut self)
-        requires { 0 < self.old.owed }
-        ensures { self.new ≡ with_numbers self.old (saturated (self.old.fed + 1))
-            (self.old.owed - 1) (record { count = 0; first = 0; second = 0; third = 0 })
-            (refusal_in self.old) }
-    {
-        self.fed = self.fed.saturating_add(1);
-        self.owed -= 1;
-        self.pending = 0;
-        self.first = 0;
-        self.second = 0;
-        self.third = 0;
-        self.reserved = UNUSED;
-    }
-
-    /// Keeps a byte that does not complete the next longword.
-    #[inline(always)]
-    fn push(&mut self, byte: u8)
-        requires few { self.old.pending < 3 }
-        requires counted { self.old.fed < 2 ^ 64 - 1 }
-        ensures gathers { pending_of (pending_in self.new)
-            ≡ pending_of (pending_in self.old) ++ byte ∷ [] }
-        ensures numbers { self.new ≡ with_numbers self.old (self.old.fed + 1) self.old.owed
-            (pending_in self.new) (refusal_in self.old) }
-        ensures few { self.new.pending < 4 }
-    {
-        match self.pending {
-            0 => self.first = byte,
-            1 => self.second = byte,
-            _ => self.third = byte,
-        }
-        self.pending += 1;
-        self.fed += 1;
-        self.reserved = UNUSED;
-    }
-
     /// Whether the rows are the hunks, and the open one lies in a memory of `total` bytes.
     #[inline(always)]
-    fn lies_in(&self, rows: &[Row], total: usize) -> bool
+    pub(crate) fn lies_in(&self, rows: &[Row], total: usize) -> bool
         requires { MayBeInBody self.now }
         ensures { IsTrue result ↔ LiesIn rows.now total self.now }
     {
@@ -316,7 +176,7 @@ impl Loader {
 
     /// Whether the numbers tell no refusal.
     #[inline(always)]
-    fn is_clean(&self) -> bool
+    pub(crate) fn is_clean(&self) -> bool
         ensures { IsTrue result ↔ TellsNone self.now }
     {
         self.place == 0 && self.refused == 0 && self.refused_hunk == 0
@@ -375,7 +235,7 @@ impl Loader {
 
     /// Whether bytes are pending as they were fed, after whole longwords.
     #[inline(always)]
-    fn counts_bytes(&self) -> bool
+    pub(crate) fn counts_bytes(&self) -> bool
         ensures { IsTrue result ↔ CountsBytes self.now.start self.now.fed self.now.pending }
     {
         if self.start % 4 > 0 {
@@ -427,7 +287,7 @@ impl Loader {
 
     /// Whether a loader may have these numbers where a hunk is open.
     #[inline(always)]
-    fn may_be_open(&self) -> bool
+    pub(crate) fn may_be_open(&self) -> bool
         ensures { IsTrue result ↔ MayBeInBody self.now }
     {
         if self.has_content > 1 || self.hunks > MOST_HUNKS {
@@ -474,24 +334,6 @@ impl Loader {
     {
         self.part == 0 && self.owed == 0
     }
-}
-
-/// A longword of these bytes.
-#[inline(always)]
-fn long_of(first: u8, second: u8, third: u8, fourth: u8) -> [u8; 4]
-    ensures value { result ≡ first ∷ second ∷ third ∷ fourth ∷ [] }
-    ensures bytes { IsBytes result }
-{
-    [first, second, third, fourth]
-}
-
-/// Puts a longword at the offset.
-#[inline(always)]
-fn put_long(memory: &mut [u8], at: usize, long: [u8; 4])
-    requires { at + 4 ≤ length memory.old }
-    ensures { memory.new ≡ put_slice memory.old at long }
-{
-    memory[at..at + 4].copy_from_slice(long.as_slice());
 }
 
 /// The bytes of the least file of so many hunks: five longwords, and four for each.
