@@ -344,12 +344,8 @@ struct hunk_answer hunk_check(const uint8_t *bytes, size_t bytes_len, struct hun
  * Else the first fault of the bytes, as at hunk_check.
  *
  * Items are listed where there are rows enough. Rows after them, and at any answer but HUNK_OK all
- * rows, are as they were.
- *
- * In all rows `place` is the byte of the file at which the item begins. Units are counted from 0,
- * and hunks from 0 in their unit; a load file is one unit. A name is the bytes of the file from
- * `name` on, as many as `name_bytes` says: those before the first zero byte, of any values.
- * `reserved` is room for what later versions may tell.
+ * rows, are as they were. It is quickest with a row for each four bytes of the file, since no file
+ * has more items: then they are not counted before.
  */
 
 /* A unit of an object file: 40 bytes. */
