@@ -1,5 +1,5 @@
 //! Parts of a load file that are passed over at once.
-ghost use Rattle.std.specs.Prelude.{◌≡◌, ◌≤◌, ◌<◌, ◌+◌, ◌*◌, IfSome, length, slice_index};
+ghost use Rattle.std.specs.Prelude.{◌≡◌, ◌≤◌, ◌<◌, ◌+◌, ◌*◌, IfNone, IfSome, length, slice_index};
 ghost use Rattle.hunk_words.specs.Longs.{longs};
 ghost use Rattle.hunk_files.specs.Passing.{AreBlocks, AreGroups, AreRows, AreSymbols, IsList};
 ghost use Rattle.hunk_files.specs.Passing.{IsBlock, IsContent, IsCounted, IsGroup, IsOpened, IsPassed, past, position_at};
@@ -22,21 +22,15 @@ pub(super) struct BlockPlace {
 }
 
 impl BlockPlace {
-    /// The place after a block of the hunk that ends before this longword, by then with its content
-    /// block or not.
+    /// Goes on to the place after a block of the hunk that ends before this longword, by then with
+    /// its content block or not.
     #[inline(always)]
-    fn past(self, after: usize, has_content: bool) -> BlockPlace
-        ensures { result ≡ past self after has_content }
+    fn pass(&mut self, after: usize, has_content: bool)
+        ensures { self.new ≡ past self.old after has_content }
     {
-        BlockPlace {
-            at: after,
-            hunk: OpenHunk {
-                has_content,
-                ..self.hunk
-            },
-            begun: true,
-            entry: self.entry,
-        }
+        self.at = after;
+        self.hunk.has_content = has_content;
+        self.begun = true;
     }
 
     /// The position here.
@@ -110,86 +104,81 @@ fn after_blocks(bytes: &[u8], from: BlockPlace) -> BlockPlace
     ensures { AreBlocks (longs bytes.now) from result }
 {
     let mut place = from;
-    'passing: while let Some(next) = after_block(bytes, place) {
-        place = next;
-    }
+    'passing: while let Some(_) = pass_block(bytes, &mut place) {}
     place
 }
 
-/// The place after one such block, where one stands here.
+/// Goes over one such block, where one stands here. `None` leaves the place as it was.
+///
+/// The fields are written one by one: a place that is copied whole is copied with the room between
+/// them, which takes longer than all else here.
 #[inline(always)]
-fn after_block(bytes: &[u8], place: BlockPlace) -> Option<BlockPlace>
-    ensures { IfSome result (IsBlock (longs bytes.now) place) }
+fn pass_block(bytes: &[u8], place: &mut BlockPlace) -> Option<()>
+    ensures passes { IfSome result (λ _. IsBlock (longs bytes.now) place.old place.new) }
+    ensures stays { IfNone result (place.new ≡ place.old) }
 {
     if place.at >= bytes.len() / 4 {
         return None;
     }
     let word = word_at(bytes, place.at);
-    by_kind!(BlockWord::of(word).kind(), after_word(bytes, place, word))
+    by_kind!(BlockWord::of(word).kind(), pass_word(bytes, place, word))
 }
 
 /// The same, by the block's word.
 #[inline(always)]
-fn after_word(bytes: &[u8], place: BlockPlace, word: u32) -> Option<BlockPlace>
-    requires inside { 4 * place.at + 4 ≤ length bytes.now }
-    requires word { word ≡ slice_index (longs bytes.now) place.at }
-    ensures { IfSome result (IsBlock (longs bytes.now) place) }
+fn pass_word(bytes: &[u8], place: &mut BlockPlace, word: u32) -> Option<()>
+    requires inside { 4 * place.old.at + 4 ≤ length bytes.now }
+    requires word { word ≡ slice_index (longs bytes.now) place.old.at }
+    ensures passes { IfSome result (λ _. IsBlock (longs bytes.now) place.old place.new) }
+    ensures stays { IfNone result (place.new ≡ place.old) }
 {
-    let BlockPlace { at, hunk, .. } = place;
+    let (at, hunk, declared) = (place.at, place.hunk, place.entry.longs);
     // The test of a block word looks at nothing else of its hunk.
     if let Some(_) = Position::Body(hunk, Phase::BlockWord).refuse(0, word) {
         return None;
     }
-    let declared = place.entry.longs;
     let Some(phase) = Phase::begin(BlockWord::of(word).kind()) else {
-        return after_end(bytes, place);
+        return pass_end(bytes, place);
     };
     match phase {
         Phase::ContentSize => {
             let after = after_content(bytes, at + 1, declared)?;
-            Some(place.past(after, true))
+            place.pass(after, true);
         }
         Phase::LongCount => {
             let after = after_counted(bytes, at + 1)?;
-            Some(place.past(after, hunk.has_content))
+            place.pass(after, hunk.has_content);
         }
         Phase::GroupCount => {
             let after = after_groups(bytes, at + 1, hunk.hunks, declared)?;
-            Some(place.past(after, hunk.has_content))
+            place.pass(after, hunk.has_content);
         }
         Phase::EntryWord => {
             let after = after_symbols(bytes, at + 1)?;
-            Some(place.past(after, hunk.has_content))
+            place.pass(after, hunk.has_content);
         }
-        _ => None,
+        _ => return None,
     }
+    Some(())
 }
 
-/// The place after the END that stands at this one, where another hunk opens.
+/// Goes over the END that stands at this place, where another hunk opens after it.
 #[inline(always)]
-fn after_end(bytes: &[u8], place: BlockPlace) -> Option<BlockPlace>
-    requires { 4 * place.at + 4 ≤ length bytes.now }
-    ensures { IfSome result (IsOpened (longs bytes.now) place) }
+fn pass_end(bytes: &[u8], place: &mut BlockPlace) -> Option<()>
+    requires { 4 * place.old.at + 4 ≤ length bytes.now }
+    ensures passes { IfSome result (λ _. IsOpened (longs bytes.now) place.old place.new) }
+    ensures stays { IfNone result (place.new ≡ place.old) }
 {
-    let BlockPlace {
-        at,
-        hunk,
-        entry,
-        ..
-    } = place;
-    if hunk.ahead == 0 || entry.next >= bytes.len() / 4 {
+    let next = place.entry.next;
+    if place.hunk.ahead == 0 || next >= bytes.len() / 4 {
         return None;
     }
-    Some(BlockPlace {
-        at: at + 1,
-        hunk: OpenHunk {
-            ahead: hunk.ahead - 1,
-            has_content: false,
-            ..hunk
-        },
-        begun: false,
-        entry: DeclaredHunk::at(bytes, entry.next),
-    })
+    place.at += 1;
+    place.hunk.ahead -= 1;
+    place.hunk.has_content = false;
+    place.begun = false;
+    place.entry = DeclaredHunk::at(bytes, next);
+    Some(())
 }
 
 /// The longword after the content whose size word stands at `at`, where it ends in the bytes and

@@ -5,6 +5,4 @@ pub passing-init : goal.passing-init
 passing-init c = no_block
 
 pub passing-preserved : goal.passing-preserved
-passing-preserved c =
-    let p = c.passing in
-    one_block p.place c.in-Some.next p.invariant c.in-Some.ensures
+passing-preserved c = one_block c.passing.place c.pass_block.new.place c.passing.invariant c.in-Some.ensures.passes
