@@ -1,0 +1,10 @@
+pub mod Along
+pub mod Cutting
+pub mod Few
+pub mod Placing
+pub mod Runs
+pub mod Short
+pub mod Spelled
+pub mod Steps
+pub mod Supplies
+pub mod Units

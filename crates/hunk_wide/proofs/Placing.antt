@@ -1,0 +1,134 @@
+-- From which byte of a wide spelling a byte of the plain one comes.
+use Rattle.std.proofs.Common.{◌≡◌, ℕ, suc, ◌+◌, ◌-◌, ◌<◌, ◌≤◌, Bool, true, false, cond, ltb, List, [], ◌∷◌, ◌++◌, length, take, drop, min, get_or, length-append, refl, sym, ap, subst, ◌∙◌, append_assoc, arith}
+use Rattle.std.specs.Int.{from_be_bytes, w32}
+use Rattle.std.proofs.lemmas.{Bool.{eq-eqb, lt-ltb, ltb-false, ne_eqb}, List.length-take}
+use Rattle.hunk_grammar.specs.declared.phase.Phase.TheVariants as phases
+use Rattle.hunk_grammar.specs.declared.position.OpenHunk.{OpenHunk}
+use Rattle.hunk_grammar.specs.declared.position.Position.{Position}
+use Rattle.hunk_grammar.specs.declared.position.Position.TheVariants as positions
+use Rattle.hunk_wide.specs.declared.spot.ShortPart.{ShortPart}
+use Rattle.hunk_wide.specs.declared.spot.Spot.{Spot}
+use Rattle.hunk_wide.specs.declared.spot.Spot.TheVariants.{Passing, Long, Half, Filler}
+use Rattle.hunk_wide.specs.declared.spot.Given.{Given}
+use Rattle.hunk_wide.specs.declared.spot.Given.TheVariants.{Same, BehindEnd, AsLong}
+use Rattle.hunk_wide.specs.Places.{ComesFrom, GoesBy, count_long, here_or, place_from}
+use Rattle.hunk_wide.specs.Plain.{behind_filler, behind_half, behind_long, given, half_of, out_filler, out_long, plain_from}
+
+-- ---- units in front
+
+abbrev pub front_word : List ℕ → ℕ
+front_word bytes = from_be_bytes w32 (get_or bytes 0 0 ∷ get_or bytes 1 0 ∷ get_or bytes 2 0 ∷ get_or bytes 3 0 ∷ [])
+
+abbrev pub front_half : List ℕ → ℕ
+front_half bytes = half_of (get_or bytes 0 0) (get_or bytes 1 0)
+
+pub long_in_front : (p : Position) (bytes : List ℕ) → 4 ≤ length bytes → GoesBy (Long p) bytes 4 (count_long (given p (front_word bytes))) (behind_long p (front_word bytes))
+unfolding place_from
+long_in_front p (a ∷ b ∷ c ∷ d ∷ rest) whole = record { some = omega arith; whole = whole; goes = λ n. refl }
+long_in_front p _ whole = absurd (omega arith)
+
+pub half_in_front : (o : OpenHunk) (part : ShortPart) (odd : Bool) (bytes : List ℕ) → 2 ≤ length bytes → GoesBy (Half o part odd) bytes 2 4 (behind_half o part odd (front_half bytes))
+unfolding place_from
+half_in_front o part odd (a ∷ b ∷ rest) whole = record { some = omega arith; whole = whole; goes = λ n. refl }
+half_in_front o part odd _ whole = absurd (omega arith)
+
+filler_in_front : (o : OpenHunk) (bytes : List ℕ) → 2 ≤ length bytes → GoesBy (Filler o) bytes 2 (length (out_filler (get_or bytes 0 0) (get_or bytes 1 0))) (behind_filler o (get_or bytes 0 0) (get_or bytes 1 0))
+unfolding place_from
+filler_in_front o (a ∷ b ∷ rest) whole = record { some = omega arith; whole = whole; goes = λ n. refl }
+filler_in_front o _ whole = absurd (omega arith)
+
+pub zero_in_front : (o : OpenHunk) (bytes : List ℕ) → 2 ≤ length bytes → front_half bytes ≡ 0 → GoesBy (Filler o) bytes 2 0 (Long (positions.Body o phases.BlockWord))
+zero_in_front o bytes whole e =
+    subst (λ (b : Bool). GoesBy (Filler o) bytes 2 (length (cond b [] (0 ∷ 0 ∷ 3 ∷ 252 ∷ get_or bytes 0 0 ∷ get_or bytes 1 0 ∷ []))) (cond b (Long (positions.Body o phases.BlockWord)) Passing))
+    (eq-eqb (front_half bytes) 0 e) (filler_in_front o bytes whole)
+
+pub other_in_front : (o : OpenHunk) (bytes : List ℕ) → 2 ≤ length bytes → (front_half bytes ≡ 0 → ⊥) → GoesBy (Filler o) bytes 2 6 Passing
+other_in_front o bytes whole e =
+    subst (λ (b : Bool). GoesBy (Filler o) bytes 2 (length (cond b [] (0 ∷ 0 ∷ 3 ∷ 252 ∷ get_or bytes 0 0 ∷ get_or bytes 1 0 ∷ []))) (cond b (Long (positions.Body o phases.BlockWord)) Passing))
+    (ne_eqb (front_half bytes) 0 e) (filler_in_front o bytes whole)
+
+-- ---- no whole unit
+
+pub long_few : (p : Position) (bytes : List ℕ) (n : ℕ) → length bytes < 4 → place_from (Long p) bytes n ≡ 0
+unfolding place_from
+long_few p [] n few = refl
+long_few p (a ∷ []) n few = refl
+long_few p (a ∷ b ∷ []) n few = refl
+long_few p (a ∷ b ∷ c ∷ []) n few = refl
+long_few p (a ∷ b ∷ c ∷ d ∷ rest) n few = absurd (omega arith)
+
+pub half_few : (o : OpenHunk) (part : ShortPart) (odd : Bool) (bytes : List ℕ) (n : ℕ) → length bytes < 2 → place_from (Half o part odd) bytes n ≡ 0
+unfolding place_from
+half_few o part odd [] n few = refl
+half_few o part odd (a ∷ []) n few = refl
+half_few o part odd (a ∷ b ∷ rest) n few = absurd (omega arith)
+
+pub filler_few : (o : OpenHunk) (bytes : List ℕ) (n : ℕ) → length bytes < 2 → place_from (Filler o) bytes n ≡ 0
+unfolding place_from
+filler_few o [] n few = refl
+filler_few o (a ∷ []) n few = refl
+filler_few o (a ∷ b ∷ rest) n few = absurd (omega arith)
+
+pub passing_place : (bytes : List ℕ) (n : ℕ) → place_from Passing bytes n ≡ min n (length bytes)
+unfolding place_from
+passing_place bytes n = refl
+
+-- ---- what comes before it
+
+nothing : (s : Spot) (bytes : List ℕ) (n : ℕ) → ComesFrom s bytes n 0
+nothing s bytes n = record { given = []; spot = s; front = λ more. refl; most = omega arith }
+
+unit_comes : (s next : Spot) (bytes rest cells out : List ℕ) (size count n later : ℕ) → ((k : ℕ) → take (size + k) bytes ≡ cells ++ take k rest)
+    → ((more : List ℕ) → plain_from s (cells ++ more) ≡ out ++ plain_from next more) → length out ≡ count → ComesFrom next rest (n - count) later → ComesFrom s bytes n (here_or size count n later)
+unit_comes s next bytes rest cells out size count n later cut through len r = go (ltb n count) refl
+  where
+    go : (b : Bool) → ltb n count ≡ b → ComesFrom s bytes n (cond b 0 (size + later))
+    go true e = nothing s bytes n
+    go false e = record {
+      given = out ++ r.given;
+      spot = r.spot;
+      front = λ more.
+          ap (λ (x : List ℕ). plain_from s (x ++ more)) (cut later) ∙ ap (plain_from s) (append_assoc cells (take later rest) more)
+          ∙ through (take later rest ++ more) ∙ ap (λ (x : List ℕ). out ++ x) (r.front more) ∙ sym (append_assoc out r.given (plain_from r.spot more));
+      most = omega (arith, length-append out r.given, len, r.most, ltb-false n count e);
+    }
+
+four : (a b c d : ℕ) (rest : List ℕ) (k : ℕ) → take (4 + k) (a ∷ b ∷ c ∷ d ∷ rest) ≡ (a ∷ b ∷ c ∷ d ∷ []) ++ take k rest
+four a b c d rest k = let e : 4 + k ≡ suc (suc (suc (suc k))) = omega arith in ap (λ (m : ℕ). take m (a ∷ b ∷ c ∷ d ∷ rest)) e
+
+two : (a b : ℕ) (rest : List ℕ) (k : ℕ) → take (2 + k) (a ∷ b ∷ rest) ≡ (a ∷ b ∷ []) ++ take k rest
+two a b rest k = let e : 2 + k ≡ suc (suc k) = omega arith in ap (λ (m : ℕ). take m (a ∷ b ∷ rest)) e
+
+out_length : (g : Given) (a b c d w : ℕ) → length (out_long g (a ∷ b ∷ c ∷ d ∷ []) w) ≡ count_long g
+out_length Same a b c d w = refl
+out_length BehindEnd a b c d w = refl
+out_length AsLong a b c d w = refl
+
+-- Whatever follows the bytes before it, the same are given out for them, and no more than the number.
+pub comes_from : (s : Spot) (bytes : List ℕ) (n : ℕ) → ComesFrom s bytes n (place_from s bytes n)
+unfolding place_from plain_from
+comes_from Passing bytes n =
+    record { given = take (min n (length bytes)) bytes; spot = Passing; front = λ more. refl; most = omega (arith, length-take (min n (length bytes)) bytes) }
+comes_from (Long p) (a ∷ b ∷ c ∷ d ∷ rest) n =
+    let w : ℕ = from_be_bytes w32 (a ∷ b ∷ c ∷ d ∷ []) in
+    unit_comes (Long p) (behind_long p w) (a ∷ b ∷ c ∷ d ∷ rest) rest (a ∷ b ∷ c ∷ d ∷ []) (out_long (given p w) (a ∷ b ∷ c ∷ d ∷ []) w) 4 (count_long (given p w)) n _
+    (four a b c d rest) (λ more. refl) (out_length (given p w) a b c d w) (comes_from (behind_long p w) rest (n - count_long (given p w)))
+comes_from (Half o part odd) (a ∷ b ∷ rest) n =
+    unit_comes (Half o part odd) (behind_half o part odd (half_of a b)) (a ∷ b ∷ rest) rest (a ∷ b ∷ []) (0 ∷ 0 ∷ a ∷ b ∷ []) 2 4 n _
+    (two a b rest) (λ more. refl) refl (comes_from (behind_half o part odd (half_of a b)) rest (n - 4))
+comes_from (Filler o) (a ∷ b ∷ rest) n =
+    unit_comes (Filler o) (behind_filler o a b) (a ∷ b ∷ rest) rest (a ∷ b ∷ []) (out_filler a b) 2 (length (out_filler a b)) n _
+    (two a b rest) (λ more. refl) refl (comes_from (behind_filler o a b) rest (n - length (out_filler a b)))
+comes_from (Long p) [] n = nothing (Long p) [] n
+comes_from (Long p) (a ∷ []) n = nothing (Long p) (a ∷ []) n
+comes_from (Long p) (a ∷ b ∷ []) n = nothing (Long p) (a ∷ b ∷ []) n
+comes_from (Long p) (a ∷ b ∷ c ∷ []) n = nothing (Long p) (a ∷ b ∷ c ∷ []) n
+comes_from (Half o part odd) [] n = nothing (Half o part odd) [] n
+comes_from (Half o part odd) (a ∷ []) n = nothing (Half o part odd) (a ∷ []) n
+comes_from (Filler o) [] n = nothing (Filler o) [] n
+comes_from (Filler o) (a ∷ []) n = nothing (Filler o) (a ∷ []) n
+
+pub stops_here : (first at owed size count : ℕ) (s next : Spot) (rest : List ℕ) → first ≡ at + place_from s rest owed → GoesBy s rest size count next → owed < count → first ≡ at
+stops_here first at owed size count s next rest e g less =
+    let here : place_from s rest owed ≡ 0 = g.goes owed ∙ ap (λ (b : Bool). cond b 0 (size + place_from next (drop size rest) (owed - count))) (lt-ltb owed count less) in
+    omega (arith, e, here)

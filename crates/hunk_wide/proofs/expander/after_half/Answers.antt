@@ -1,0 +1,9 @@
+use Rattle.std.proofs.Common.{◌++◌, ◌∙◌}
+use Rattle.hunk_wide.specs.Plain.{plain_from}
+use Rattle.hunk_wide.proofs.Few.{half_whole}
+use Rattle.hunk_wide.proofs.expander.after_half.Goals as goal
+
+pub returns-clause-left : goal.returns-clause-left
+returns-clause-left c =
+    λ more. (λ i. c.four.ensures i ++ plain_from (c.behind_half.ensures i) more)
+    ∙ half_whole c.args.hunk c.args.part c.args.is_odd c.args.begun c.args.byte more c.requires c.if-begun-eq0.false

@@ -1,0 +1,9 @@
+use Rattle.std.proofs.Common.{◌≡◌, subst, sym}
+use Rattle.hunk_wide.specs.declared.spot.Spot.{Spot}
+use Rattle.hunk_wide.specs.Places.{last_place, place_from}
+use Rattle.hunk_wide.proofs.Placing.{passing_place}
+use Rattle.hunk_wide.proofs.place.unit_at.Goals as goal
+
+pub returns-in-Passing-clause-none : goal.returns-in-Passing-clause-none
+returns-in-Passing-clause-none c =
+    λ n. subst (λ (s : Spot). place_from s c.args.rest.now n ≡ last_place s c.args.rest.now n) (sym c.in-Passing.is) (passing_place c.args.rest.now n)

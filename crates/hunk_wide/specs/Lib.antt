@@ -1,0 +1,4 @@
+pub mod Held
+pub mod Places
+pub mod Plain
+pub mod Wide

@@ -1,0 +1,358 @@
+//! What is held between the bytes of a wide spelling and those of the plain one.
+ghost use Rattle.std.specs.Prelude.{◌≡◌, ℕ, ◌+◌, ◌-◌, ◌*◌, ◌^◌, ◌==◌, ◌≤◌, ◌<◌, List, [], ◌∷◌, ◌++◌, length, take, min};
+ghost use Rattle.hunk_words.specs.Longs.{bytes_of};
+ghost use Rattle.hunk_words.specs.PendingBytes.{pending_of};
+ghost use Rattle.hunk_wide.specs.Held.{left_of, owed, pass_out, reach, run_of, run_out, unit, wanted};
+ghost use Rattle.hunk_wide.specs.Plain.{ends, is_last, out_long, plain, plain_from};
+ghost use Rattle.std.specs.Int.{to_be_bytes, w32};
+ghost use Rattle.hunk_wide.specs.declared.spot.Spot.TheVariants.{Filler, Half, Long, Passing};
+
+use crate::ready::Ready;
+use crate::spot::{Given, ShortPart, Spot, long_word};
+use hunk_grammar::{OpenHunk, Phase, Position};
+use hunk_words::Pending;
+use std::marker::Model;
+
+/// Makes the bytes of the plain spelling from those of a wide one.
+///
+/// Contracts see what it holds: the bytes that are ready to be given out, what the next bytes are
+/// for, and which of these have come.
+#[derive(Debug, Drop)]
+pub struct Expander {
+    ready: Ready,
+    spot: Spot,
+    begun: Pending,
+}
+
+impl Model for Expander {
+    ghost use Rattle.std.specs.Prelude.{◌≤◌, ◌-◌};
+    ghost use Rattle.hunk_words.specs.PendingBytes.{pending_of};
+    ghost use Rattle.hunk_wide.specs.Held.{Held, unit};
+
+    ghost Value = { Held };
+
+    ghost view = { λ s. record { ready = s.ready; spot = s.spot; begun = pending_of s.begun } };
+
+    ghost invariant = { λ s. s.begun.count ≤ unit s.spot - 1 };
+}
+
+impl Expander {
+    /// Of a file that begins here.
+    pub fn new() -> Expander
+        ensures { (more : List ℕ) → left_of result more ≡ plain more }
+    {
+        Expander {
+            ready: Ready::none(),
+            spot: Spot::Long(Position::FirstLong),
+            begun: Pending::NONE,
+        }
+    }
+
+    /// How many bytes are wanted before any can be given out: none where there are some, or where
+    /// all bytes pass.
+    pub fn want(&self) -> usize
+        ensures value { result ≡ wanted self.now }
+        ensures bound { result ≤ 4 }
+        ensures passes { result ≡ 0 → self.now.ready ≡ []
+            → (self.now.spot ≡ Passing) × (self.now.begun ≡ []) }
+    {
+        if !self.ready.is_empty() {
+            return 0;
+        }
+        let unit = match self.spot {
+            Spot::Passing => 0,
+            Spot::Long(_) => 4,
+            Spot::Half { .. } | Spot::Filler(_) => 2,
+        };
+        unit - usize::from(self.begun.count)
+    }
+
+    /// Takes bytes that are wanted.
+    pub fn take(&mut self, piece: &[u8])
+        requires { length piece.now ≤ wanted self.old }
+        ensures left { (more : List ℕ) → left_of self.new more
+            ≡ left_of self.old (piece.now ++ more) }
+        ensures fewer { 0 < length piece.now → owed self.new < owed self.old }
+    {
+        for byte in piece {
+            self.push(*byte);
+        }
+    }
+
+    /// Takes one byte.
+    fn push(&mut self, byte: u8)
+        requires { 0 < wanted self.old }
+        ensures left { (more : List ℕ) → left_of self.new more ≡ left_of self.old (byte ∷ more) }
+        ensures wanted { wanted self.old ≤ wanted self.new + 1 }
+        ensures fewer { owed self.new < owed self.old }
+    {
+        *self = after(self.spot, self.begun, byte);
+    }
+
+    /// No byte comes any more.
+    pub fn end(&mut self)
+        requires { self.old.ready ≡ [] }
+        ensures given { self.new.ready ≡ left_of self.old [] }
+        ensures nothing { self.new.begun ≡ [] }
+        ensures passes { self.new.spot ≡ Passing }
+    {
+        self.ready = ready_end(self.spot, self.begun);
+        self.spot = Spot::Passing;
+        self.begun = Pending::NONE;
+    }
+
+    /// How many longwords come at least that are given out as they are.
+    pub fn run(&self) -> u64
+        ensures value { result ≤ run_of self.now }
+        ensures bound { result ≤ 2 ^ 32 }
+    {
+        if !self.ready.is_empty() || self.begun.count > 0 {
+            return 0;
+        }
+        match self.spot {
+            Spot::Long(position) => run_out(position),
+            _ => 0,
+        }
+    }
+
+    /// So many longwords of a run were given out as they are.
+    pub fn pass(&mut self, count: u64)
+        requires some { 0 < run_of self.old }
+        requires fits { count ≤ run_of self.old }
+        ensures left { (bytes more : List ℕ) → length bytes ≡ 4 * count
+            → left_of self.old (bytes ++ more) ≡ bytes ++ left_of self.new more }
+        ensures wanted { wanted self.new ≡ 4 }
+    {
+        match self.spot {
+            Spot::Long(position) => *self = behind_run(position, count),
+            _ => unreachable!(),
+        }
+    }
+
+    /// Whether no byte is ready.
+    pub fn is_empty(&self) -> bool
+        ensures { result ≡ (length self.now.ready == 0) }
+    {
+        self.ready.is_empty()
+    }
+
+    /// Gives out as many bytes as are ready and fit, and their number.
+    pub fn give(&mut self, buf: &mut [u8]) -> usize
+        ensures number { result ≡ min (length self.old.ready) (length buf.old) }
+        ensures gives { (more : List ℕ) →
+            left_of self.old more ≡ take result buf.new ++ left_of self.new more }
+    {
+        self.ready.give(buf)
+    }
+}
+
+/// How many longwords come at least that are given out as they are, whatever they have.
+fn run_out(position: Position) -> u64
+    ensures value { result ≡ run_out position }
+    ensures bound { result ≤ 2 ^ 32 }
+{
+    match position {
+        Position::Body(_, phase) => match phase {
+            Phase::Offset { target: _, owed } => u64::from(owed) + 1,
+            _ => position.run(),
+        },
+        _ => position.run(),
+    }
+}
+
+/// Behind so many of them.
+fn pass_out(position: Position, count: u64) -> Position
+    requires { count ≤ run_out position }
+    ensures { result ≡ pass_out position count }
+{
+    if count == 0 {
+        return position;
+    }
+    match position {
+        Position::Body(hunk, phase) => match phase {
+            Phase::Offset { target, owed } => {
+                let more = (count - 1) as u32;
+                if more < owed {
+                    let owed = owed - more - 1;
+                    return Position::Body(hunk, Phase::Offset { target, owed });
+                }
+                Position::Body(hunk, Phase::GroupCount)
+            }
+            _ => position.pass(count),
+        },
+        _ => position.pass(count),
+    }
+}
+
+/// Behind so many longwords of a run.
+fn behind_run(position: Position, count: u64) -> Expander
+    requires { count ≤ run_out position }
+    ensures { result ≡ record { ready = []; spot = Long (pass_out position count); begun = [] } }
+{
+    Expander {
+        ready: Ready::none(),
+        spot: Spot::Long(pass_out(position, count)),
+        begun: Pending::NONE,
+    }
+}
+
+/// Behind a byte, where so much of its unit has come.
+fn after(spot: Spot, begun: Pending, byte: u8) -> Expander
+    requires { begun.count < unit spot }
+    ensures left { (more : List ℕ) → left_of result more
+        ≡ plain_from spot (pending_of begun ++ byte ∷ more) }
+    ensures wanted { unit spot ≤ wanted result + begun.count + 1 }
+    ensures fewer { owed result + begun.count < reach spot }
+{
+    match spot {
+        Spot::Passing => unreachable!(),
+        Spot::Long(position) => after_long(position, begun, byte),
+        Spot::Half { hunk, part, is_odd } => after_half(hunk, part, is_odd, begun, byte),
+        Spot::Filler(hunk) => after_filler(hunk, begun, byte),
+    }
+}
+
+/// Behind a byte of a longword, where so much of that has come.
+fn after_long(position: Position, begun: Pending, byte: u8) -> Expander
+    requires { begun.count < 4 }
+    ensures left { (more : List ℕ) → left_of result more
+        ≡ plain_from (Long position) (pending_of begun ++ byte ∷ more) }
+    ensures wanted { 4 ≤ wanted result + begun.count + 1 }
+    ensures fewer { owed result + begun.count < 4 }
+{
+    match begun.take(byte) {
+        (begun, None) => Expander {
+            ready: Ready::none(),
+            spot: Spot::Long(position),
+            begun,
+        },
+        (_, Some(word)) => long_done(position, word),
+    }
+}
+
+/// Behind a longword.
+fn long_done(position: Position, word: u32) -> Expander
+    ensures left { (more : List ℕ) → left_of result more
+        ≡ plain_from (Long position) (bytes_of (word ∷ []) ++ more) }
+    ensures wanted { wanted result ≡ 0 }
+    ensures owed { owed result ≡ 0 }
+{
+    Expander {
+        ready: ready_long(Given::of(position, word), word),
+        spot: Spot::behind_long(position, word),
+        begun: Pending::NONE,
+    }
+}
+
+/// The same in a word of 16 bits of a short block.
+fn after_half(hunk: OpenHunk, part: ShortPart, is_odd: bool, begun: Pending, byte: u8) -> Expander
+    requires { begun.count < 2 }
+    ensures left { (more : List ℕ) → left_of result more
+        ≡ plain_from (Half hunk part is_odd) (pending_of begun ++ byte ∷ more) }
+    ensures wanted { 2 ≤ wanted result + begun.count + 1 }
+    ensures fewer { owed result + begun.count < 2 }
+{
+    if begun.count == 0 {
+        return begun_by(Spot::Half { hunk, part, is_odd }, byte);
+    }
+    let half = begun.first as u16 * 256 + byte as u16;
+    Expander {
+        ready: Ready::four([0, 0, begun.first, byte]),
+        spot: Spot::behind_half(hunk, part, is_odd, half),
+        begun: Pending::NONE,
+    }
+}
+
+/// The same in the word with which a short block is filled up.
+fn after_filler(hunk: OpenHunk, begun: Pending, byte: u8) -> Expander
+    requires { begun.count < 2 }
+    ensures left { (more : List ℕ) → left_of result more
+        ≡ plain_from (Filler hunk) (pending_of begun ++ byte ∷ more) }
+    ensures wanted { 2 ≤ wanted result + begun.count + 1 }
+    ensures fewer { owed result + begun.count < 6 }
+{
+    if begun.count == 0 {
+        return begun_by(Spot::Filler(hunk), byte);
+    }
+    let half = begun.first as u16 * 256 + byte as u16;
+    if half == 0 {
+        return Expander {
+            ready: Ready::none(),
+            spot: Spot::Long(Position::Body(hunk, Phase::BlockWord)),
+            begun: Pending::NONE,
+        };
+    }
+    Expander {
+        ready: Ready::six(begun.first, byte),
+        spot: Spot::Passing,
+        begun: Pending::NONE,
+    }
+}
+
+/// Where one byte has come.
+fn begun_by(spot: Spot, byte: u8) -> Expander
+    requires { 1 < unit spot }
+    ensures { result ≡ record { ready = []; spot = spot; begun = byte ∷ [] } }
+{
+    Expander {
+        ready: Ready::none(),
+        spot,
+        begun: Pending {
+            count: 1,
+            first: byte,
+            second: 0,
+            third: 0,
+        },
+    }
+}
+
+/// What is given out at the end of the input.
+fn ready_end(spot: Spot, begun: Pending) -> Ready
+    requires { begun.count ≤ unit spot - 1 }
+    ensures { result ≡ plain_from spot (pending_of begun) }
+{
+    if begun.count > 0 {
+        return Ready::some(
+            [begun.first, begun.second, begun.third, 0],
+            begun.count as usize,
+        );
+    }
+    if is_last(spot) {
+        Ready::four([0, 0, 3, 0xF2])
+    } else {
+        Ready::none()
+    }
+}
+
+/// Whether only the END of the last hunk is to come, no byte of which has come.
+fn is_last(spot: Spot) -> bool
+    ensures { result ≡ is_last spot }
+{
+    match spot {
+        Spot::Long(position) => ends(position),
+        _ => false,
+    }
+}
+
+/// Whether only the END of the last hunk is to come.
+fn ends(position: Position) -> bool
+    ensures { result ≡ ends position }
+{
+    match position {
+        Position::Body(hunk, Phase::FirstBlock | Phase::BlockWord) => {
+            hunk.has_content && hunk.ahead == 0
+        }
+        _ => false,
+    }
+}
+
+/// What is given out for a longword.
+fn ready_long(given: Given, word: u32) -> Ready
+    ensures { result ≡ out_long given (to_be_bytes w32 word) word }
+{
+    match given {
+        Given::Same => Ready::four(word.to_be_bytes()),
+        Given::BehindEnd => Ready::eight([0, 0, 3, 0xF2], word.to_be_bytes()),
+        Given::AsLong => Ready::four(long_word(word).to_be_bytes()),
+    }
+}

@@ -1,0 +1,18 @@
+//! Load files in their wide spelling, as real producers write them, read as the plain one.
+//!
+//! In a wide spelling blocks of relocations may have 16-bit words, and the END of a hunk may be
+//! left out. Nothing here takes memory.
+#![tactic(auto)]
+
+mod expander;
+mod laws;
+mod place;
+mod plain;
+mod ready;
+mod spot;
+
+pub use crate::expander::Expander;
+pub use crate::laws::{one_spelling, plain_spelling};
+pub use crate::place::place_in;
+pub use crate::plain::Plain;
+pub use crate::spot::{Given, ShortPart, Spot};

@@ -1,0 +1,137 @@
+//! Places of the plain spelling, and where they are in a wide one.
+ghost use Rattle.std.specs.Prelude.{◌≡◌, ℕ, ◌+◌, ◌-◌, ◌<◌, ◌≤◌, drop, length, IfNone, IfSome};
+ghost use Rattle.hunk_grammar.specs.declared.position.Position.TheVariants.{FirstLong};
+ghost use Rattle.hunk_wide.specs.Places.{ComesFrom, count_long, last_place, GoesBy, place_from};
+ghost use Rattle.hunk_wide.specs.declared.spot.Spot.TheVariants.{Filler, Half, Long};
+
+use crate::spot::{Given, ShortPart, Spot};
+use hunk_grammar::{OpenHunk, Phase, Position};
+
+/// A unit of a wide spelling.
+#[derive(Clone, Copy)]
+struct Unit {
+    /// The number of its bytes.
+    size: usize,
+    /// How many bytes are given out for it.
+    given: u64,
+    /// What the bytes behind it are for.
+    next: Spot,
+}
+
+/// Where in a wide spelling the byte `place` of the plain one comes from, both counted from 0.
+///
+/// It is the first byte of the longword, or of the word of 16 bits, for which that byte is given
+/// out: for an END that is left out, of what comes in its place. Behind the last one it is the end
+/// of the input, or where its last longword begins that is not whole.
+pub fn place_in(bytes: &[u8], place: u64) -> u64
+    ensures value { result ≡ place_from (Long FirstLong) bytes.now place }
+    ensures inside { result ≤ length bytes.now }
+    ensures front { ComesFrom (Long FirstLong) bytes.now place result }
+{
+    let mut spot = Spot::Long(Position::FirstLong);
+    let mut rest = bytes;
+    let mut owed = place;
+    let mut at: u64 = 0;
+    'units: while let Some(unit) = unit_at(spot, rest) {
+        if owed < unit.given {
+            return at;
+        }
+        owed -= unit.given;
+        at += unit.size as u64;
+        rest = &rest[unit.size..];
+        spot = unit.next;
+    }
+    at + last(spot, rest, owed)
+}
+
+/// How far it is where no whole unit is left.
+fn last(spot: Spot, rest: &[u8], owed: u64) -> u64
+    ensures value { result ≡ last_place spot rest.now owed }
+    ensures inside { result ≤ length rest.now }
+{
+    match spot {
+        Spot::Passing => owed.min(rest.len() as u64),
+        _ => 0,
+    }
+}
+
+/// The unit that the bytes begin with.
+fn unit_at(spot: Spot, rest: &[u8]) -> Option<Unit>
+    ensures none { IfNone result
+        ((n : ℕ) → place_from spot rest.now n ≡ last_place spot rest.now n) }
+    ensures some { IfSome result
+        (λ unit. GoesBy spot rest.now unit.size unit.given unit.next) }
+{
+    match spot {
+        Spot::Passing => None,
+        Spot::Long(position) => long_unit(position, rest),
+        Spot::Half { hunk, part, is_odd } => half_unit(hunk, part, is_odd, rest),
+        Spot::Filler(hunk) => filler_unit(hunk, rest),
+    }
+}
+
+fn long_unit(position: Position, rest: &[u8]) -> Option<Unit>
+    ensures none { IfNone result ((n : ℕ) → place_from (Long position) rest.now n ≡ 0) }
+    ensures some { IfSome result
+        (λ unit. GoesBy (Long position) rest.now unit.size unit.given unit.next) }
+{
+    if rest.len() < 4 {
+        return None;
+    }
+    let word = u32::from_be_bytes([rest[0], rest[1], rest[2], rest[3]]);
+    Some(Unit {
+        size: 4,
+        given: given_len(Given::of(position, word)),
+        next: Spot::behind_long(position, word),
+    })
+}
+
+fn half_unit(hunk: OpenHunk, part: ShortPart, is_odd: bool, rest: &[u8]) -> Option<Unit>
+    ensures none { IfNone result
+        ((n : ℕ) → place_from (Half hunk part is_odd) rest.now n ≡ 0) }
+    ensures some { IfSome result
+        (λ unit. GoesBy (Half hunk part is_odd) rest.now unit.size unit.given unit.next) }
+{
+    if rest.len() < 2 {
+        return None;
+    }
+    let half = rest[0] as u16 * 256 + rest[1] as u16;
+    Some(Unit {
+        size: 2,
+        given: 4,
+        next: Spot::behind_half(hunk, part, is_odd, half),
+    })
+}
+
+fn filler_unit(hunk: OpenHunk, rest: &[u8]) -> Option<Unit>
+    ensures none { IfNone result ((n : ℕ) → place_from (Filler hunk) rest.now n ≡ 0) }
+    ensures some { IfSome result
+        (λ unit. GoesBy (Filler hunk) rest.now unit.size unit.given unit.next) }
+{
+    if rest.len() < 2 {
+        return None;
+    }
+    let half = rest[0] as u16 * 256 + rest[1] as u16;
+    if half == 0 {
+        return Some(Unit {
+            size: 2,
+            given: 0,
+            next: Spot::Long(Position::Body(hunk, Phase::BlockWord)),
+        });
+    }
+    Some(Unit {
+        size: 2,
+        given: 6,
+        next: Spot::Passing,
+    })
+}
+
+/// How many bytes are given out for a longword.
+fn given_len(given: Given) -> u64
+    ensures { result ≡ count_long given }
+{
+    match given {
+        Given::Same | Given::AsLong => 4,
+        Given::BehindEnd => 8,
+    }
+}

@@ -1,0 +1,153 @@
+//! What the next bytes of a wide spelling are for.
+ghost use Rattle.std.specs.Prelude.{◌≡◌, ◌<◌, ◌^◌};
+ghost use Rattle.hunk_wide.specs.Plain.{behind_half, behind_long, behind_same};
+ghost use Rattle.hunk_wide.specs.Plain.{given, given_block, go_on, long_word};
+
+use hunk_grammar::{OpenHunk, Phase, Position, open_next};
+use hunk_words::{BlockWord, HEADER_WORD, Kind};
+
+/// What a word of 16 bits of a short block is for.
+///
+/// `owed` is how many more offsets follow the next, or follow the first behind a target.
+#[derive(Clone, Copy, Debug, PartialEq, Eq)]
+pub enum ShortPart {
+    /// The number of offsets of a group, or the 0 that ends the block.
+    Count,
+    /// The number of the hunk that a group relocates to.
+    Target { owed: u16 },
+    /// An offset of a group.
+    Offset { owed: u16 },
+}
+
+/// What the next bytes are for.
+#[derive(Clone, Copy, Debug, PartialEq, Eq)]
+pub enum Spot {
+    /// From here on all bytes pass as they are.
+    Passing,
+    /// A longword, which the plain spelling has at this position.
+    Long(Position),
+    /// A word of 16 bits of a short block, behind an odd number of them or an even one.
+    Half {
+        hunk: OpenHunk,
+        part: ShortPart,
+        is_odd: bool,
+    },
+    /// The word of 16 bits, 0, with which a short block fills up its last longword.
+    Filler(OpenHunk),
+}
+
+/// What the plain spelling has for a longword.
+#[derive(Clone, Copy, Debug, PartialEq, Eq)]
+pub enum Given {
+    /// The same longword.
+    Same,
+    /// END, which was left out, and then the longword.
+    BehindEnd,
+    /// The block word of RELOC32, with the flags of the longword.
+    AsLong,
+}
+
+impl Spot {
+    /// Behind a longword that stands at this position.
+    pub fn behind_long(position: Position, word: u32) -> Spot
+        ensures { result ≡ behind_long position word }
+    {
+        match position {
+            Position::Body(hunk, phase) => match phase {
+                Phase::FirstBlock | Phase::BlockWord => match Given::of_block(hunk, word) {
+                    Given::Same => Spot::at(position.step(word)),
+                    Given::BehindEnd => Spot::at(open_next(hunk.hunks, hunk.ahead).step(word)),
+                    Given::AsLong => Spot::Half {
+                        hunk,
+                        part: ShortPart::Count,
+                        is_odd: false,
+                    },
+                },
+                _ => Spot::at(position.step(word)),
+            },
+            _ => Spot::behind_same(position, word),
+        }
+    }
+
+    /// Behind a longword that is no block word of a body.
+    fn behind_same(position: Position, word: u32) -> Spot
+        ensures { result ≡ behind_same position word }
+    {
+        match position {
+            Position::FirstLong if word != HEADER_WORD => Spot::Passing,
+            _ => Spot::at(position.step(word)),
+        }
+    }
+
+    /// At this position. Behind the file all bytes pass.
+    fn at(position: Position) -> Spot
+        ensures { result ≡ go_on position }
+    {
+        match position {
+            Position::Done => Spot::Passing,
+            _ => Spot::Long(position),
+        }
+    }
+
+    /// Behind a word of 16 bits of a short block.
+    pub fn behind_half(hunk: OpenHunk, part: ShortPart, is_odd: bool, half: u16) -> Spot
+        ensures { result ≡ behind_half hunk part is_odd half }
+    {
+        let part = match part {
+            ShortPart::Count if half == 0 => {
+                return if is_odd {
+                    Spot::Long(Position::Body(hunk, Phase::BlockWord))
+                } else {
+                    Spot::Filler(hunk)
+                };
+            }
+            ShortPart::Count => ShortPart::Target { owed: half - 1 },
+            ShortPart::Target { owed } => ShortPart::Offset { owed },
+            ShortPart::Offset { owed: 0 } => ShortPart::Count,
+            ShortPart::Offset { owed } => ShortPart::Offset { owed: owed - 1 },
+        };
+        Spot::Half {
+            hunk,
+            part,
+            is_odd: !is_odd,
+        }
+    }
+}
+
+impl Given {
+    /// Of a longword at this position.
+    pub fn of(position: Position, word: u32) -> Given
+        ensures { result ≡ given position word }
+    {
+        match position {
+            Position::Body(hunk, Phase::FirstBlock | Phase::BlockWord) => {
+                Given::of_block(hunk, word)
+            }
+            _ => Given::Same,
+        }
+    }
+
+    /// Of a block word in this hunk.
+    fn of_block(hunk: OpenHunk, word: u32) -> Given
+        ensures { result ≡ given_block hunk word }
+    {
+        let block = BlockWord::of(word);
+        if block.has_both_memory_bits() {
+            return Given::Same;
+        }
+        match block.kind() {
+            Kind::Reloc32Short | Kind::Drel32 => Given::AsLong,
+            Kind::Code | Kind::Data | Kind::Bss if hunk.has_content && hunk.ahead > 0 => {
+                Given::BehindEnd
+            }
+            _ => Given::Same,
+        }
+    }
+}
+
+/// The block word of RELOC32 with the flags of this one.
+pub fn long_word(word: u32) -> u32
+    ensures { result ≡ long_word word }
+{
+    (word >> 29) * 0x2000_0000 + 0x3EC
+}
