@@ -1,5 +1,5 @@
 -- Longwords of a load file are given out as they are.
-use Rattle.std.proofs.Common.{rules, ◌≡◌, ℕ, ◌^◌, ◌<◌, Bool, true, false, ◌&&◌, cond, ltb, eqb, List, [], ◌∷◌, ◌++◌, refl, ap, ap₂, ◌∙◌, Some, None}
+use Rattle.std.proofs.Common.{rules, ◌≡◌, ℕ, ◌^◌, ◌<◌, Bool, true, false, ◌&&◌, cond, ltb, eqb, List, [], ◌∷◌, ◌++◌, refl, ap, ap₂, ◌∙◌, Some, None, arith}
 use Rattle.std.specs.Int.{to_be_bytes, w32}
 use Rattle.hunk_words.specs.declared.block_word.Kind.{Kind}
 use Rattle.hunk_words.specs.declared.block_word.Kind.TheVariants as kinds
@@ -20,8 +20,9 @@ use Rattle.hunk_wide.specs.declared.spot.Spot.{Spot}
 use Rattle.hunk_wide.specs.declared.spot.Spot.TheVariants.{Long}
 use Rattle.hunk_wide.specs.declared.spot.Given.{Given}
 use Rattle.hunk_wide.specs.declared.spot.Given.TheVariants.{Same, BehindEnd}
-use Rattle.hunk_wide.specs.Plain.{behind_block, behind_long, given, given_block, given_kind, go_on, out_long, plain, plain_from}
-use Rattle.hunk_wide.proofs.Units.{long_cells}
+use Rattle.hunk_wide.specs.Longwords.{behind_block, behind_long, given, given_block, given_kind, go_on, out_long}
+use Rattle.hunk_wide.specs.Plain.{plain, plain_from}
+use Rattle.hunk_wide.proofs.{Straight.straight_goes, Cells.long_cells}
 
 content_same : (has : Bool) (ahead : ℕ) → cond has (Some reasons.SecondContent) None ≡ None → cond (has && ltb 0 ahead) BehindEnd Same ≡ Same
 content_same true ahead h = absurd cc
@@ -69,6 +70,13 @@ pub one_long : (longs : ℕ) (p : Position) (w : ℕ) (more : List ℕ) → w < 
     plain_from (go_on p) (to_be_bytes w32 w ++ more) ≡ to_be_bytes w32 w ++ plain_from (go_on (step p w)) more
 unfolding plain_from
 one_long longs positions.Done w more fits h = refl
+one_long longs (positions.Body o (phases.Content l owed)) w more fits h = straight_goes o (phases.Content l owed) w more (omega arith)
+one_long longs (positions.Body o (phases.Payload owed)) w more fits h = straight_goes o (phases.Payload owed) w more (omega arith)
+one_long longs (positions.Body o (phases.Symbol owed)) w more fits h = straight_goes o (phases.Symbol owed) w more (omega arith)
+one_long longs (positions.Body o (phases.ExtFront owed)) w more fits h = straight_goes o (phases.ExtFront owed) w more (omega arith)
+one_long longs (positions.Body o (phases.ExtRest owed)) w more fits h = straight_goes o (phases.ExtRest owed) w more (omega arith)
+one_long longs (positions.Body o (phases.Offset t owed)) w more fits h = straight_goes o (phases.Offset t owed) w more (omega arith)
+one_long longs (positions.Body o phase) w more fits h = long_same longs (positions.Body o phase) w more fits h
 one_long longs p w more fits h = long_same longs p w more fits h
 
 -- The longwords of a text are given out as they are.

@@ -10,12 +10,12 @@ use Rattle.hunk_grammar.specs.declared.position.Position.TheVariants as position
 use Rattle.hunk_grammar.specs.Positions.{step}
 use Rattle.hunk_grammar.specs.declared.position.OpenHunk.{OpenHunk}
 use Rattle.hunk_wide.specs.declared.spot.ShortPart.{ShortPart}
-use Rattle.hunk_wide.proofs.Units.{long_cells}
+use Rattle.hunk_wide.proofs.Cells.{long_cells}
 use Rattle.hunk_words.specs.{declared.pending.Pending.Pending, PendingBytes.pending_of}
 use Rattle.hunk_grammar.specs.declared.position.Position.{Position}
 use Rattle.hunk_wide.specs.declared.spot.Spot.{Spot}
-use Rattle.hunk_wide.specs.declared.spot.Spot.TheVariants.{Passing, Long, Half, Filler}
-use Rattle.hunk_wide.specs.{Held.{Held, unit, wanted, wanted_by}, Plain.{behind_half, behind_long, given, go_on, half_of, is_last, out_long, plain_from}}
+use Rattle.hunk_wide.specs.declared.spot.Spot.TheVariants.{Passing, Straight, Long, Half, Filler}
+use Rattle.hunk_wide.specs.{Held.{Held, unit, wanted, wanted_by}, FileEnds.{is_last}, Halves.{behind_half, half_of}, Longwords.{behind_long, given, go_on, out_long}, Plain.{plain_from}}
 
 abbrev held : ℕ → ℕ → ℕ → ℕ → Pending
 held n a b c = record { count = n; first = a; second = b; third = c }
@@ -24,6 +24,9 @@ few : (s : Spot) (n a b c : ℕ) → n ≤ unit s - 1 → ((p : Position) → s 
 unfolding plain_from
 few Passing zero a b c h some = refl
 few Passing (suc n) a b c h some = absurd (omega arith)
+few (Straight zero next) zero a b c h some = refl
+few (Straight (suc owed) next) zero a b c h some = refl
+few (Straight owed next) (suc n) a b c h some = absurd (omega arith)
 few (Long p) zero a b c h some = absurd (some p refl refl)
 few (Long p) (suc zero) a b c h some = refl
 few (Long p) (suc (suc zero)) a b c h some = refl
@@ -92,6 +95,7 @@ wants_unit h some = by h.ready some
 
 pub unit_most : (s : Spot) → unit s ≤ 4
 unit_most Passing = omega arith
+unit_most (Straight owed next) = omega arith
 unit_most (Long p) = omega arith
 unit_most (Half o part odd) = omega arith
 unit_most (Filler o) = omega arith
@@ -106,6 +110,8 @@ push_wanted h ready s p n e some fits most =
 pub nothing_there : (s : Spot) (b : Pending) → b.count ≡ 0 → plain_from s (pending_of b) ≡ cond (is_last s) (to_be_bytes w32 end_word) []
 unfolding plain_from
 nothing_there Passing b none = pending_none b none
+nothing_there (Straight zero next) b none = ap (plain_from (Straight zero next)) (pending_none b none)
+nothing_there (Straight (suc owed) next) b none = ap (plain_from (Straight (suc owed) next)) (pending_none b none)
 nothing_there (Long p) b none = ap (plain_from (Long p)) (pending_none b none)
 nothing_there (Half o part odd) b none = ap (plain_from (Half o part odd)) (pending_none b none)
 nothing_there (Filler o) b none = ap (plain_from (Filler o)) (pending_none b none)

@@ -2,9 +2,10 @@ pub mod Along
 pub mod Cutting
 pub mod Few
 pub mod Placing
-pub mod Runs
+pub mod Straight
+pub mod Stretches
 pub mod Short
 pub mod Spelled
 pub mod Steps
 pub mod Supplies
-pub mod Units
+pub mod Cells

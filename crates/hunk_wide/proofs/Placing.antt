@@ -1,18 +1,20 @@
 -- From which byte of a wide spelling a byte of the plain one comes.
-use Rattle.std.proofs.Common.{◌≡◌, ℕ, suc, ◌+◌, ◌-◌, ◌<◌, ◌≤◌, Bool, true, false, cond, ltb, List, [], ◌∷◌, ◌++◌, length, take, drop, min, get_or, length-append, refl, sym, ap, subst, ◌∙◌, append_assoc, arith}
+use Rattle.std.proofs.Common.{◌≡◌, ℕ, zero, suc, ◌+◌, ◌-◌, ◌<◌, ◌≤◌, Bool, true, false, cond, ltb, List, [], ◌∷◌, ◌++◌, ◌⊎◌, inl, inr, length, take, drop, min, get_or, length-append, refl, sym, ap, subst, ◌∙◌, append_assoc, arith}
 use Rattle.std.specs.Int.{from_be_bytes, w32}
-use Rattle.std.proofs.lemmas.{Bool.{eq-eqb, lt-ltb, ltb-false, ne_eqb}, List.length-take}
+use Rattle.std.proofs.lemmas.{Bool.{eq-eqb, le-ltb, lt-ltb, ltb-false, ne_eqb}, List.length-take}
 use Rattle.hunk_grammar.specs.declared.phase.Phase.TheVariants as phases
 use Rattle.hunk_grammar.specs.declared.position.OpenHunk.{OpenHunk}
 use Rattle.hunk_grammar.specs.declared.position.Position.{Position}
 use Rattle.hunk_grammar.specs.declared.position.Position.TheVariants as positions
 use Rattle.hunk_wide.specs.declared.spot.ShortPart.{ShortPart}
 use Rattle.hunk_wide.specs.declared.spot.Spot.{Spot}
-use Rattle.hunk_wide.specs.declared.spot.Spot.TheVariants.{Passing, Long, Half, Filler}
+use Rattle.hunk_wide.specs.declared.spot.Spot.TheVariants.{Passing, Straight, Long, Half, Filler}
 use Rattle.hunk_wide.specs.declared.spot.Given.{Given}
 use Rattle.hunk_wide.specs.declared.spot.Given.TheVariants.{Same, BehindEnd, AsLong}
 use Rattle.hunk_wide.specs.Places.{ComesFrom, GoesBy, count_long, here_or, place_from}
-use Rattle.hunk_wide.specs.Plain.{behind_filler, behind_half, behind_long, given, half_of, out_filler, out_long, plain_from}
+use Rattle.hunk_wide.specs.Halves.{behind_filler, behind_half, half_of, out_filler}
+use Rattle.hunk_wide.specs.Longwords.{behind_long, given, out_long}
+use Rattle.hunk_wide.specs.Plain.{plain_from}
 
 -- ---- units in front
 
@@ -22,30 +24,54 @@ front_word bytes = from_be_bytes w32 (get_or bytes 0 0 ∷ get_or bytes 1 0 ∷ 
 abbrev pub front_half : List ℕ → ℕ
 front_half bytes = half_of (get_or bytes 0 0) (get_or bytes 1 0)
 
-pub long_in_front : (p : Position) (bytes : List ℕ) → 4 ≤ length bytes → GoesBy (Long p) bytes 4 (count_long (given p (front_word bytes))) (behind_long p (front_word bytes))
+pub long_in_front : (p : Position) (bytes : List ℕ) (n : ℕ) → 4 ≤ length bytes → GoesBy (Long p) bytes n 4 (count_long (given p (front_word bytes))) (behind_long p (front_word bytes))
 unfolding place_from
-long_in_front p (a ∷ b ∷ c ∷ d ∷ rest) whole = record { some = omega arith; whole = whole; goes = λ n. refl }
-long_in_front p _ whole = absurd (omega arith)
+long_in_front p (a ∷ b ∷ c ∷ d ∷ rest) n whole = record { some = omega arith; whole = whole; goes = refl }
+long_in_front p _ n whole = absurd (omega arith)
 
-pub half_in_front : (o : OpenHunk) (part : ShortPart) (odd : Bool) (bytes : List ℕ) → 2 ≤ length bytes → GoesBy (Half o part odd) bytes 2 4 (behind_half o part odd (front_half bytes))
+pub half_in_front : (o : OpenHunk) (part : ShortPart) (odd : Bool) (bytes : List ℕ) (n : ℕ) → 2 ≤ length bytes → GoesBy (Half o part odd) bytes n 2 4 (behind_half o part odd (front_half bytes))
 unfolding place_from
-half_in_front o part odd (a ∷ b ∷ rest) whole = record { some = omega arith; whole = whole; goes = λ n. refl }
-half_in_front o part odd _ whole = absurd (omega arith)
+half_in_front o part odd (a ∷ b ∷ rest) n whole = record { some = omega arith; whole = whole; goes = refl }
+half_in_front o part odd _ n whole = absurd (omega arith)
 
-filler_in_front : (o : OpenHunk) (bytes : List ℕ) → 2 ≤ length bytes → GoesBy (Filler o) bytes 2 (length (out_filler (get_or bytes 0 0) (get_or bytes 1 0))) (behind_filler o (get_or bytes 0 0) (get_or bytes 1 0))
+filler_in_front : (o : OpenHunk) (bytes : List ℕ) (n : ℕ) → 2 ≤ length bytes → GoesBy (Filler o) bytes n 2 (length (out_filler (get_or bytes 0 0) (get_or bytes 1 0))) (behind_filler o (get_or bytes 0 0) (get_or bytes 1 0))
 unfolding place_from
-filler_in_front o (a ∷ b ∷ rest) whole = record { some = omega arith; whole = whole; goes = λ n. refl }
-filler_in_front o _ whole = absurd (omega arith)
+filler_in_front o (a ∷ b ∷ rest) n whole = record { some = omega arith; whole = whole; goes = refl }
+filler_in_front o _ n whole = absurd (omega arith)
 
-pub zero_in_front : (o : OpenHunk) (bytes : List ℕ) → 2 ≤ length bytes → front_half bytes ≡ 0 → GoesBy (Filler o) bytes 2 0 (Long (positions.Body o phases.BlockWord))
-zero_in_front o bytes whole e =
-    subst (λ (b : Bool). GoesBy (Filler o) bytes 2 (length (cond b [] (0 ∷ 0 ∷ 3 ∷ 252 ∷ get_or bytes 0 0 ∷ get_or bytes 1 0 ∷ []))) (cond b (Long (positions.Body o phases.BlockWord)) Passing))
-    (eq-eqb (front_half bytes) 0 e) (filler_in_front o bytes whole)
+pub zero_in_front : (o : OpenHunk) (bytes : List ℕ) (n : ℕ) → 2 ≤ length bytes → front_half bytes ≡ 0 → GoesBy (Filler o) bytes n 2 0 (Long (positions.Body o phases.BlockWord))
+zero_in_front o bytes n whole e =
+    subst (λ (b : Bool). GoesBy (Filler o) bytes n 2 (length (cond b [] (0 ∷ 0 ∷ 3 ∷ 252 ∷ get_or bytes 0 0 ∷ get_or bytes 1 0 ∷ []))) (cond b (Long (positions.Body o phases.BlockWord)) Passing))
+    (eq-eqb (front_half bytes) 0 e) (filler_in_front o bytes n whole)
 
-pub other_in_front : (o : OpenHunk) (bytes : List ℕ) → 2 ≤ length bytes → (front_half bytes ≡ 0 → ⊥) → GoesBy (Filler o) bytes 2 6 Passing
-other_in_front o bytes whole e =
-    subst (λ (b : Bool). GoesBy (Filler o) bytes 2 (length (cond b [] (0 ∷ 0 ∷ 3 ∷ 252 ∷ get_or bytes 0 0 ∷ get_or bytes 1 0 ∷ []))) (cond b (Long (positions.Body o phases.BlockWord)) Passing))
-    (ne_eqb (front_half bytes) 0 e) (filler_in_front o bytes whole)
+pub other_in_front : (o : OpenHunk) (bytes : List ℕ) (n : ℕ) → 2 ≤ length bytes → (front_half bytes ≡ 0 → ⊥) → GoesBy (Filler o) bytes n 2 6 Passing
+other_in_front o bytes n whole e =
+    subst (λ (b : Bool). GoesBy (Filler o) bytes n 2 (length (cond b [] (0 ∷ 0 ∷ 3 ∷ 252 ∷ get_or bytes 0 0 ∷ get_or bytes 1 0 ∷ []))) (cond b (Long (positions.Body o phases.BlockWord)) Passing))
+    (ne_eqb (front_half bytes) 0 e) (filler_in_front o bytes n whole)
+
+here_past : (n later : ℕ) → 0 < n → here_or 1 1 n later ≡ 1 + later
+here_past n later some = ap (λ (b : Bool). cond b 0 (1 + later)) (le-ltb n 1 (omega arith))
+
+-- all of the bytes that are given out as they are
+straight_place : (owed : ℕ) (next : Position) (bytes : List ℕ) (n : ℕ) → owed < n → owed < length bytes → place_from (Straight owed next) bytes n ≡ suc owed + place_from (Long next) (drop (suc owed) bytes) (n - suc owed)
+unfolding place_from
+straight_place owed next [] n past whole = absurd (omega arith)
+straight_place zero next (b ∷ rest) n past whole = here_past n _ past
+straight_place (suc owed) next (b ∷ rest) n past whole =
+    let less : n - 1 - suc owed ≡ n - suc (suc owed) = omega arith in
+    let one : place_from (Straight (suc owed) next) (b ∷ rest) n ≡ 1 + place_from (Straight owed next) rest (n - 1) = here_past n _ (omega arith) in
+    let more = straight_place owed next rest (n - 1) (omega arith) (omega arith) in
+    let same = ap (place_from (Long next) (drop (suc owed) rest)) less in
+    omega (arith, one, more, same)
+
+pub straight_in_front : (owed : ℕ) (next : Position) (bytes : List ℕ) (n : ℕ) → owed < n → owed < length bytes → GoesBy (Straight owed next) bytes n (suc owed) (suc owed) (Long next)
+straight_in_front owed next bytes n past whole = record {
+  some = omega arith;
+  whole = omega arith;
+  goes =
+      straight_place owed next bytes n past whole
+      ∙ sym (ap (λ (b : Bool). cond b 0 (suc owed + place_from (Long next) (drop (suc owed) bytes) (n - suc owed))) (le-ltb n (suc owed) (omega arith)));
+}
 
 -- ---- no whole unit
 
@@ -68,6 +94,23 @@ unfolding place_from
 filler_few o [] n few = refl
 filler_few o (a ∷ []) n few = refl
 filler_few o (a ∷ b ∷ rest) n few = absurd (omega arith)
+
+-- a byte in them, or where they are not whole
+pub straight_few : (owed : ℕ) (next : Position) (bytes : List ℕ) (n : ℕ) → (n ≤ owed) ⊎ (length bytes ≤ owed) → place_from (Straight owed next) bytes n ≡ min n (length bytes)
+unfolding place_from
+straight_few zero next [] n few = omega arith
+straight_few (suc owed) next [] n few = omega arith
+straight_few zero next (b ∷ rest) zero few = omega arith
+straight_few (suc owed) next (b ∷ rest) zero few = omega arith
+straight_few zero next (b ∷ rest) (suc n) (inl few) = absurd (omega arith)
+straight_few zero next (b ∷ rest) (suc n) (inr few) = absurd (omega arith)
+straight_few (suc owed) next (b ∷ rest) (suc n) few =
+    let one : place_from (Straight (suc owed) next) (b ∷ rest) (suc n) ≡ 1 + place_from (Straight owed next) rest (suc n - 1) = here_past (suc n) _ (omega arith) in
+    omega (arith, one, straight_few owed next rest (suc n - 1) (less few))
+  where
+    less : (suc n ≤ suc owed) ⊎ (length (b ∷ rest) ≤ suc owed) → (suc n - 1 ≤ owed) ⊎ (length rest ≤ owed)
+    less (inl h) = inl (omega arith)
+    less (inr h) = inr (omega arith)
 
 pub passing_place : (bytes : List ℕ) (n : ℕ) → place_from Passing bytes n ≡ min n (length bytes)
 unfolding place_from
@@ -96,6 +139,9 @@ unit_comes s next bytes rest cells out size count n later cut through len r = go
 four : (a b c d : ℕ) (rest : List ℕ) (k : ℕ) → take (4 + k) (a ∷ b ∷ c ∷ d ∷ rest) ≡ (a ∷ b ∷ c ∷ d ∷ []) ++ take k rest
 four a b c d rest k = let e : 4 + k ≡ suc (suc (suc (suc k))) = omega arith in ap (λ (m : ℕ). take m (a ∷ b ∷ c ∷ d ∷ rest)) e
 
+one : (b : ℕ) (rest : List ℕ) (k : ℕ) → take (1 + k) (b ∷ rest) ≡ (b ∷ []) ++ take k rest
+one b rest k = let e : 1 + k ≡ suc k = omega arith in ap (λ (m : ℕ). take m (b ∷ rest)) e
+
 two : (a b : ℕ) (rest : List ℕ) (k : ℕ) → take (2 + k) (a ∷ b ∷ rest) ≡ (a ∷ b ∷ []) ++ take k rest
 two a b rest k = let e : 2 + k ≡ suc (suc k) = omega arith in ap (λ (m : ℕ). take m (a ∷ b ∷ rest)) e
 
@@ -109,6 +155,12 @@ pub comes_from : (s : Spot) (bytes : List ℕ) (n : ℕ) → ComesFrom s bytes n
 unfolding place_from plain_from
 comes_from Passing bytes n =
     record { given = take (min n (length bytes)) bytes; spot = Passing; front = λ more. refl; most = omega (arith, length-take (min n (length bytes)) bytes) }
+comes_from (Straight zero next) (b ∷ rest) n =
+    unit_comes (Straight zero next) (Long next) (b ∷ rest) rest (b ∷ []) (b ∷ []) 1 1 n _ (one b rest) (λ more. refl) refl (comes_from (Long next) rest (n - 1))
+comes_from (Straight (suc owed) next) (b ∷ rest) n =
+    unit_comes (Straight (suc owed) next) (Straight owed next) (b ∷ rest) rest (b ∷ []) (b ∷ []) 1 1 n _ (one b rest) (λ more. refl) refl (comes_from (Straight owed next) rest (n - 1))
+comes_from (Straight zero next) [] n = nothing (Straight zero next) [] n
+comes_from (Straight (suc owed) next) [] n = nothing (Straight (suc owed) next) [] n
 comes_from (Long p) (a ∷ b ∷ c ∷ d ∷ rest) n =
     let w : ℕ = from_be_bytes w32 (a ∷ b ∷ c ∷ d ∷ []) in
     unit_comes (Long p) (behind_long p w) (a ∷ b ∷ c ∷ d ∷ rest) rest (a ∷ b ∷ c ∷ d ∷ []) (out_long (given p w) (a ∷ b ∷ c ∷ d ∷ []) w) 4 (count_long (given p w)) n _
@@ -128,7 +180,7 @@ comes_from (Half o part odd) (a ∷ []) n = nothing (Half o part odd) (a ∷ [])
 comes_from (Filler o) [] n = nothing (Filler o) [] n
 comes_from (Filler o) (a ∷ []) n = nothing (Filler o) (a ∷ []) n
 
-pub stops_here : (first at owed size count : ℕ) (s next : Spot) (rest : List ℕ) → first ≡ at + place_from s rest owed → GoesBy s rest size count next → owed < count → first ≡ at
+pub stops_here : (first at owed size count : ℕ) (s next : Spot) (rest : List ℕ) → first ≡ at + place_from s rest owed → GoesBy s rest owed size count next → owed < count → first ≡ at
 stops_here first at owed size count s next rest e g less =
-    let here : place_from s rest owed ≡ 0 = g.goes owed ∙ ap (λ (b : Bool). cond b 0 (size + place_from next (drop size rest) (owed - count))) (lt-ltb owed count less) in
+    let here : place_from s rest owed ≡ 0 = g.goes ∙ ap (λ (b : Bool). cond b 0 (size + place_from next (drop size rest) (owed - count))) (lt-ltb owed count less) in
     omega (arith, e, here)

@@ -19,10 +19,11 @@ use Rattle.hunk_wide.specs.declared.spot.Spot.{Spot}
 use Rattle.hunk_wide.specs.declared.spot.Spot.TheVariants.{Long, Half}
 use Rattle.hunk_wide.specs.declared.spot.Given.{Given}
 use Rattle.hunk_wide.specs.declared.spot.Given.TheVariants.{AsLong}
-use Rattle.hunk_wide.specs.Plain.{behind_block, behind_long, given, given_block, go_on, given_kind, long_word, out_long, plain_from}
+use Rattle.hunk_wide.specs.Longwords.{behind_block, behind_long, given, given_block, go_on, given_kind, long_word, out_long}
+use Rattle.hunk_wide.specs.Plain.{plain_from}
 use Rattle.hunk_wide.specs.Wide.{filled, halves_of, is_short, IsHalf, IsShort, parity}
 use Rattle.hunk_wide.proofs.Steps.{AtBlock, run, run_list, word_begins}
-use Rattle.hunk_wide.proofs.Units.{half_cells, long_cells}
+use Rattle.hunk_wide.proofs.Cells.{half_cells, long_cells}
 
 -- ---- numbers
 

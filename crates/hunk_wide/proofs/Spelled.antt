@@ -26,9 +26,10 @@ use Rattle.hunk_wide.specs.declared.spot.Spot.{Spot}
 use Rattle.hunk_wide.specs.declared.spot.Spot.TheVariants.{Long}
 use Rattle.hunk_wide.specs.declared.spot.Given.{Given}
 use Rattle.hunk_wide.specs.declared.spot.Given.TheVariants.{Same, BehindEnd}
-use Rattle.hunk_wide.specs.Plain.{behind_block, behind_long, given, given_block, given_kind, go_on, out_long, plain, plain_from}
+use Rattle.hunk_wide.specs.Longwords.{behind_block, behind_long, given, given_block, given_kind, go_on, out_long}
+use Rattle.hunk_wide.specs.Plain.{plain, plain_from}
 use Rattle.hunk_wide.specs.Wide.{BeginsWithContent, IsWide, MayLeaveOut, SpellsBlock, SpellsBlocks, SpellsHunks, end_block}
-use Rattle.hunk_wide.proofs.{Along.along_plain, Short.short_goes, Steps.{Along, AtBlock, along_run, along_split, at_block, run}, Units.long_cells}
+use Rattle.hunk_wide.proofs.{Along.along_plain, Short.short_goes, Steps.{Along, AtBlock, along_run, along_split, at_block, run}, Cells.long_cells}
 
 -- ---- stretches of the text
 

@@ -1,12 +1,11 @@
 -- What the plain source has left, as its source gives bytes and as bytes are given out.
-use Rattle.std.proofs.Common.{◌≡◌, ℕ, ◌+◌, ◌-◌, ◌*◌, ◌≤◌, List, [], ◌∷◌, ◌++◌, length, length-append, append_assoc, take, drop, refl, sym, ap, subst, ◌∙◌, append-nil, Option, Some, None, Result, Ok, Err, suc, eqb, true, false, arith}
-use Rattle.std.proofs.lemmas.{Bool.ne_eqb, List.{length-take, take-append-le}}
+use Rattle.std.proofs.Common.{◌≡◌, ℕ, List, [], ◌∷◌, ◌++◌, length, take, refl, sym, ap, subst, ◌∙◌, append-nil, Option, Some, None, Result, Ok, Err, suc, eqb, true, false, arith}
+use Rattle.std.proofs.lemmas.{Bool.ne_eqb}
 use Rattle.std.specs.Option.{option_map}
 use Rattle.std.specs.Io.KnownBytes.{Consumes, IsAtEnd, Keeps, ReadConsumes}
 use Rattle.hunk_wide.specs.declared.spot.Spot.{Spot}
 use Rattle.hunk_wide.specs.declared.spot.Spot.TheVariants.{Passing}
 use Rattle.hunk_wide.specs.{Held.{Held, left_of}, Plain.plain_from}
-use Rattle.hunk_wide.proofs.Cutting.{take_add}
 
 pub keeps_refl : (a : Option (List ℕ)) → Keeps a a
 keeps_refl None = tt
@@ -78,23 +77,13 @@ no_length (x ∷ xs) e = absurd (let some : eqb (suc (length xs)) 0 ≡ false = 
 pub map_all : (f g : List ℕ → List ℕ) (a : Option (List ℕ)) (input : List ℕ) → ((more : List ℕ) → f more ≡ g more) → a ≡ Some input → option_map f a ≡ Some (g input)
 map_all f g a input same e = ap (option_map f) e ∙ ap (λ (x : List ℕ). Some x) (same input)
 
--- ---- runs
+-- ---- bytes that were taken at once
 
--- where longwords are given out as they are, and what comes over is taken
-pub run_consumes : (h k l : Held) (a b : Option (List ℕ)) (buf rest over : List ℕ) (count whole : ℕ) → Consumes a b (take count buf) → count ≤ length buf → 4 * whole ≤ count
-    → ((bytes more : List ℕ) → length bytes ≡ 4 * whole → left_of h (bytes ++ more) ≡ bytes ++ left_of k more) → ((more : List ℕ) → left_of l more ≡ left_of k (over ++ more))
-    → over ≡ take (count - 4 * whole) (drop (4 * whole) (buf ++ rest)) → Consumes (option_map (left_of h) a) (option_map (left_of l) b) (take (4 * whole) (buf ++ rest))
-run_consumes h k l None b buf rest over count whole c room fits passes taken is = tt
-run_consumes h k l (Some xs) None buf rest over count whole c room fits passes taken is = absurd c
-run_consumes h k l (Some xs) (Some ys) buf rest over count whole c room fits passes taken is =
-    let front : List ℕ = take (4 * whole) (buf ++ rest) in
-    let size : count ≡ 4 * whole + (count - 4 * whole) = omega arith in
-    let cut : take count buf ≡ front ++ over =
-    sym (take-append-le count buf rest room) ∙ ap (λ (n : ℕ). take n (buf ++ rest)) size
-    ∙ take_add (4 * whole) (count - 4 * whole) (buf ++ rest) ∙ ap (λ (x : List ℕ). front ++ x) (sym is) in
-    let long : length front ≡ 4 * whole = omega (arith, length-take (4 * whole) (buf ++ rest), length-append buf rest) in
-    ap (left_of h) (c ∙ ap (λ (x : List ℕ). x ++ ys) cut ∙ append_assoc front over ys)
-    ∙ passes front (over ++ ys) long ∙ ap (λ (x : List ℕ). front ++ x) (sym (taken ys))
+-- For these of the source those are given out.
+pub consumes_for : (h k : Held) (a b : Option (List ℕ)) (taken bytes : List ℕ) → Consumes a b taken → ((more : List ℕ) → left_of h (taken ++ more) ≡ bytes ++ left_of k more) → Consumes (option_map (left_of h) a) (option_map (left_of k) b) bytes
+consumes_for h k None b taken bytes c gives = tt
+consumes_for h k (Some xs) None taken bytes c gives = absurd c
+consumes_for h k (Some xs) (Some ys) taken bytes c gives = ap (left_of h) c ∙ gives ys
 
 pub consumes_nothing : (a : Option (List ℕ)) → Consumes a a []
 consumes_nothing None = tt

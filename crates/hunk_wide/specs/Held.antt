@@ -1,17 +1,12 @@
 -- What is held between the bytes that come and those that are given out.
-use Rattle.std.specs.Prelude.{ℕ, zero, suc, ◌-◌, List, [], ◌∷◌, ◌++◌, length}
+use Rattle.std.specs.Prelude.{ℕ, suc, ◌-◌, List, [], ◌∷◌, ◌++◌, length, take}
 use Rattle.std.specs.Option.{option_map}
 use Rattle.hunk_words.specs.Carriers.{Supply}
-use Rattle.hunk_grammar.specs.declared.phase.Phase.TheVariants as phases
-use Rattle.hunk_grammar.specs.PhaseSteps as inside
-use Rattle.hunk_grammar.specs.declared.position.Position.{Position}
-use Rattle.hunk_grammar.specs.declared.position.Position.TheVariants as positions
-use Rattle.hunk_grammar.specs.Positions.{at, onward, pass, run}
 use Rattle.hunk_wide.specs.declared.spot.Spot.{Spot}
-use Rattle.hunk_wide.specs.declared.spot.Spot.TheVariants.{Passing, Long, Half, Filler}
+use Rattle.hunk_wide.specs.declared.spot.Spot.TheVariants.{Passing, Straight, Long, Half, Filler}
 use Rattle.hunk_wide.specs.Plain.{plain_from}
 
--- the bytes to be given out, and behind them what the next ones are for, of which some have come
+-- the bytes to be given out, and after them what the next ones are for, of which some have come
 pub record Held : Type 0 where
   pub ready : List ℕ
   pub spot : Spot
@@ -24,6 +19,7 @@ left_of h more = h.ready ++ plain_from h.spot (h.begun ++ more)
 -- the number of bytes that the next ones are taken together in
 abbrev pub unit : Spot → ℕ
 unit Passing = 0
+unit (Straight owed next) = 1
 unit (Long p) = 4
 unit (Half o part odd) = 2
 unit (Filler o) = 2
@@ -39,6 +35,7 @@ wanted h = wanted_by h.ready h.spot h.begun
 -- at most so many bytes come before some can be given out
 abbrev pub reach : Spot → ℕ
 reach Passing = 0
+reach (Straight owed next) = 1
 reach (Long p) = 4
 reach (Half o part odd) = 2
 reach (Filler o) = 6
@@ -50,24 +47,16 @@ owed_by (x ∷ xs) spot begun = 0
 abbrev pub owed : Held → ℕ
 owed h = owed_by h.ready h.spot h.begun
 
--- how many longwords come at least that are given out as they are, whatever they have: a run of the machine, or offsets
-abbrev pub run_out : Position → ℕ
-run_out (positions.Body o (phases.Offset target owed)) = suc owed
-run_out p = run p
+-- ---- bytes that are given out as they are
 
--- behind so many of them
-abbrev pub pass_out : Position → ℕ → Position
-pass_out p zero = p
-pass_out (positions.Body o (phases.Offset target owed)) (suc n) = onward o (at o phases.BlockWord) (inside.owe_offsets target (owed - n))
-pass_out p k = pass p k
+abbrev pub straight_by : List ℕ → Spot → List ℕ → List ℕ → List ℕ
+straight_by [] Passing [] bytes = bytes
+straight_by [] (Straight owed next) [] bytes = take (suc owed) bytes
+straight_by ready spot begun bytes = []
 
--- how many longwords come at least that are given out as they are, where no byte is ready and none has begun
-abbrev pub run_by : List ℕ → Spot → List ℕ → ℕ
-run_by [] (Long p) [] = run_out p
-run_by _ _ _ = 0
-
-abbrev pub run_of : Held → ℕ
-run_of h = run_by h.ready h.spot h.begun
+-- Of these bytes, if they come next, the first ones that are given out as they are.
+abbrev pub straight_of : Held → List ℕ → List ℕ
+straight_of h bytes = straight_by h.ready h.spot h.begun bytes
 
 -- ---- a source of the plain spelling
 

@@ -1,11 +1,13 @@
 -- From which byte of a wide spelling a byte of the plain one comes.
-use Rattle.std.specs.Prelude.{◌≡◌, ℕ, ◌+◌, ◌-◌, ◌<◌, ◌≤◌, nat_lt, List, [], ◌∷◌, ◌++◌, length, take, drop, min, if◌then◌else◌}
+use Rattle.std.specs.Prelude.{◌≡◌, ℕ, zero, suc, ◌+◌, ◌-◌, ◌<◌, ◌≤◌, nat_lt, List, [], ◌∷◌, length, take, drop, min, if◌then◌else◌}
 use Rattle.std.specs.Int.{from_be_bytes, w32}
 use Rattle.hunk_wide.specs.declared.spot.Spot.{Spot}
-use Rattle.hunk_wide.specs.declared.spot.Spot.TheVariants.{Passing, Long, Half, Filler}
+use Rattle.hunk_wide.specs.declared.spot.Spot.TheVariants.{Passing, Straight, Long, Half, Filler}
 use Rattle.hunk_wide.specs.declared.spot.Given.{Given}
 use Rattle.hunk_wide.specs.declared.spot.Given.TheVariants.{Same, BehindEnd, AsLong}
-use Rattle.hunk_wide.specs.Plain.{behind_filler, behind_half, behind_long, given, half_of, out_filler, plain_from}
+use Rattle.hunk_wide.specs.Halves.{behind_filler, behind_half, half_of, out_filler}
+use Rattle.hunk_wide.specs.Longwords.{behind_long, given}
+use Rattle.hunk_wide.specs.Plain.{GivesFor}
 
 -- how many bytes are given out for a longword
 abbrev pub count_long : Given → ℕ
@@ -17,10 +19,12 @@ count_long AsLong = 4
 abbrev pub here_or : ℕ → ℕ → ℕ → ℕ → ℕ
 here_or unit given n later = if nat_lt n given then 0 else unit + later
 
--- How many bytes come before the unit for which byte n, counted from 0, is given out. Where all bytes pass each is a unit;
--- of a unit that is not whole, and of what is given out at the end, it is the first byte.
+-- How many bytes come before the unit for which byte n, counted from 0, is given out. Where bytes are given out
+-- as they are each is a unit; of a unit that is not whole, and of what is given out at the end, it is the first byte.
 unfoldable pub place_from : Spot → List ℕ → ℕ → ℕ
 place_from Passing bytes n = min n (length bytes)
+place_from (Straight zero next) (b ∷ rest) n = here_or 1 1 n (place_from (Long next) rest (n - 1))
+place_from (Straight (suc owed) next) (b ∷ rest) n = here_or 1 1 n (place_from (Straight owed next) rest (n - 1))
 place_from (Long p) (a ∷ b ∷ c ∷ d ∷ rest) n =
     here_or 4 (count_long (given p (from_be_bytes w32 (a ∷ b ∷ c ∷ d ∷ [])))) n
     (place_from (behind_long p (from_be_bytes w32 (a ∷ b ∷ c ∷ d ∷ []))) rest (n - count_long (given p (from_be_bytes w32 (a ∷ b ∷ c ∷ d ∷ [])))))
@@ -28,20 +32,22 @@ place_from (Half o part odd) (a ∷ b ∷ rest) n = here_or 2 4 n (place_from (b
 place_from (Filler o) (a ∷ b ∷ rest) n = here_or 2 (length (out_filler a b)) n (place_from (behind_filler o a b) rest (n - length (out_filler a b)))
 place_from spot bytes n = 0
 
--- where no whole unit is left
+-- where no whole unit is left before it
 abbrev pub last_place : Spot → List ℕ → ℕ → ℕ
 last_place Passing bytes n = min n (length bytes)
+last_place (Straight owed next) bytes n = min n (length bytes)
 last_place _ bytes n = 0
 
--- A unit of this size is in front, for which so many bytes are given out, and behind it the next ones are for this.
-pub record GoesBy (s : Spot) (bytes : List ℕ) (size given : ℕ) (next : Spot) : Type 0 where
+-- Units of this size are in front, for which so many bytes are given out, byte n by the first of them or none, and behind
+-- them the next bytes are for this.
+pub record GoesBy (s : Spot) (bytes : List ℕ) (n size given : ℕ) (next : Spot) : Type 0 where
   pub some : 0 < size
   pub whole : size ≤ length bytes
-  pub goes : (n : ℕ) → place_from s bytes n ≡ here_or size given n (place_from next (drop size bytes) (n - given))
+  pub goes : place_from s bytes n ≡ here_or size given n (place_from next (drop size bytes) (n - given))
 
 -- Whatever follows the first bytes, this number of them, the same are given out for them, and no more than n.
 pub record ComesFrom (s : Spot) (bytes : List ℕ) (n at : ℕ) : Type 0 where
   pub given : List ℕ
   pub spot : Spot
-  pub front : (more : List ℕ) → plain_from s (take at bytes ++ more) ≡ given ++ plain_from spot more
+  pub front : GivesFor s (take at bytes) given spot
   pub most : length given ≤ n

@@ -12,7 +12,7 @@ use Rattle.hunk_blocks.specs.Values.{BlockValue, End, Reloc, RelocGroup}
 use Rattle.hunk_files.specs.LoadFile.{HunkValue, LoadFileValue, standing}
 use Rattle.hunk_files.specs.LoadText.{header_labelled, table}
 use Rattle.hunk_grammar.specs.Standings.{Content}
-use Rattle.hunk_wide.specs.Plain.{long_word}
+use Rattle.hunk_wide.specs.Longwords.{long_word}
 
 -- ---- a block of short relocations
 

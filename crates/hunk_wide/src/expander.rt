@@ -1,14 +1,18 @@
 //! What is held between the bytes of a wide spelling and those of the plain one.
-ghost use Rattle.std.specs.Prelude.{◌≡◌, ℕ, ◌+◌, ◌-◌, ◌*◌, ◌^◌, ◌==◌, ◌≤◌, ◌<◌, List, [], ◌∷◌, ◌++◌, length, take, min};
+ghost use Rattle.std.specs.Prelude.{◌≡◌, ℕ, ◌+◌, ◌-◌, ◌*◌, ◌^◌, ◌==◌, ◌≤◌, ◌<◌, List, [], ◌∷◌, ◌++◌, length, take, drop, min};
+ghost use Rattle.std.specs.Prelude.{IsTrue, ◌↔◌};
 ghost use Rattle.hunk_words.specs.Longs.{bytes_of};
 ghost use Rattle.hunk_words.specs.PendingBytes.{pending_of};
-ghost use Rattle.hunk_wide.specs.Held.{left_of, owed, pass_out, reach, run_of, run_out, unit, wanted};
-ghost use Rattle.hunk_wide.specs.Plain.{ends, is_last, out_long, plain, plain_from};
+ghost use Rattle.hunk_wide.specs.Held.{left_of, owed, reach, straight_of, unit, wanted};
+ghost use Rattle.hunk_wide.specs.FileEnds.{ends, is_last};
+ghost use Rattle.hunk_wide.specs.Longwords.{out_long};
+ghost use Rattle.hunk_wide.specs.Plain.{plain, plain_from};
 ghost use Rattle.std.specs.Int.{to_be_bytes, w32};
-ghost use Rattle.hunk_wide.specs.declared.spot.Spot.TheVariants.{Filler, Half, Long, Passing};
+ghost use Rattle.hunk_wide.specs.declared.spot.Spot.TheVariants.{Filler, Half, Long, Passing, Straight};
 
 use crate::ready::Ready;
 use crate::spot::{Given, ShortPart, Spot, long_word};
+use crate::units::expand;
 use hunk_grammar::{OpenHunk, Phase, Position};
 use hunk_words::Pending;
 use std::marker::Model;
@@ -61,6 +65,7 @@ impl Expander {
         }
         let unit = match self.spot {
             Spot::Passing => 0,
+            Spot::Straight { owed: _, next: _ } => 1,
             Spot::Long(_) => 4,
             Spot::Half { .. } | Spot::Filler(_) => 2,
         };
@@ -101,32 +106,60 @@ impl Expander {
         self.begun = Pending::NONE;
     }
 
-    /// How many longwords come at least that are given out as they are.
-    pub fn run(&self) -> u64
-        ensures value { result ≤ run_of self.now }
-        ensures bound { result ≤ 2 ^ 32 }
+    /// Of the bytes of the piece, if they come next, the first ones that are given out as they are.
+    pub fn straight<'a>(&self, piece: &'a [u8]) -> &'a [u8]
+        ensures { result.now ≡ straight_of self.now piece.now }
     {
-        if !self.ready.is_empty() || self.begun.count > 0 {
-            return 0;
+        if !self.is_bare() {
+            return &piece[..0];
         }
         match self.spot {
-            Spot::Long(position) => run_out(position),
-            _ => 0,
+            Spot::Passing => piece,
+            Spot::Straight { owed, next: _ } => {
+                let most = (piece.len() as u64).min(owed.saturating_add(1)) as usize;
+                &piece[..most]
+            }
+            _ => &piece[..0],
         }
     }
 
-    /// So many longwords of a run were given out as they are.
+    /// So many bytes were given out as they are.
     pub fn pass(&mut self, count: u64)
-        requires some { 0 < run_of self.old }
-        requires fits { count ≤ run_of self.old }
-        ensures left { (bytes more : List ℕ) → length bytes ≡ 4 * count
+        requires { (bytes : List ℕ) → length bytes ≡ count → straight_of self.old bytes ≡ bytes }
+        ensures left { (bytes more : List ℕ) → length bytes ≡ count
             → left_of self.old (bytes ++ more) ≡ bytes ++ left_of self.new more }
-        ensures wanted { wanted self.new ≡ 4 }
+        ensures straight { (bytes : List ℕ) → count ≤ length (straight_of self.old bytes)
+            → straight_of self.new (drop count bytes) ≡ drop count (straight_of self.old bytes) }
     {
-        match self.spot {
-            Spot::Long(position) => *self = behind_run(position, count),
-            _ => unreachable!(),
+        if count == 0 {
+            return;
         }
+        if let Spot::Straight { owed, next } = self.spot {
+            self.spot = Spot::behind_straight(owed, next, count);
+        }
+    }
+
+    /// Whether no byte is ready, and none of the next unit has come.
+    fn is_bare(&self) -> bool
+        ensures { IsTrue result ↔ ((self.now.ready ≡ []) × (self.now.begun ≡ [])) }
+    {
+        self.ready.is_empty() && self.begun.count == 0
+    }
+
+    /// Gives out into the buffer what the first bytes of the piece are for, as far as both go, and
+    /// how many bytes it took and gave out. It takes whole longwords, or words of 16 bits.
+    pub fn expand(&mut self, piece: &[u8], buf: &mut [u8]) -> (usize, usize)
+        ensures taken { result.0 ≤ length piece.now }
+        ensures given { result.1 ≤ length buf.new }
+        ensures left { (more : List ℕ) → left_of self.old (take result.0 piece.now ++ more)
+            ≡ take result.1 buf.new ++ left_of self.new more }
+    {
+        if !self.is_bare() {
+            return (0, 0);
+        }
+        let on = expand(self.spot, piece, buf);
+        self.spot = on.next;
+        (on.taken, on.given)
     }
 
     /// Whether no byte is ready.
@@ -146,56 +179,6 @@ impl Expander {
     }
 }
 
-/// How many longwords come at least that are given out as they are, whatever they have.
-fn run_out(position: Position) -> u64
-    ensures value { result ≡ run_out position }
-    ensures bound { result ≤ 2 ^ 32 }
-{
-    match position {
-        Position::Body(_, phase) => match phase {
-            Phase::Offset { target: _, owed } => u64::from(owed) + 1,
-            _ => position.run(),
-        },
-        _ => position.run(),
-    }
-}
-
-/// Behind so many of them.
-fn pass_out(position: Position, count: u64) -> Position
-    requires { count ≤ run_out position }
-    ensures { result ≡ pass_out position count }
-{
-    if count == 0 {
-        return position;
-    }
-    match position {
-        Position::Body(hunk, phase) => match phase {
-            Phase::Offset { target, owed } => {
-                let more = (count - 1) as u32;
-                if more < owed {
-                    let owed = owed - more - 1;
-                    return Position::Body(hunk, Phase::Offset { target, owed });
-                }
-                Position::Body(hunk, Phase::GroupCount)
-            }
-            _ => position.pass(count),
-        },
-        _ => position.pass(count),
-    }
-}
-
-/// Behind so many longwords of a run.
-fn behind_run(position: Position, count: u64) -> Expander
-    requires { count ≤ run_out position }
-    ensures { result ≡ record { ready = []; spot = Long (pass_out position count); begun = [] } }
-{
-    Expander {
-        ready: Ready::none(),
-        spot: Spot::Long(pass_out(position, count)),
-        begun: Pending::NONE,
-    }
-}
-
 /// Behind a byte, where so much of its unit has come.
 fn after(spot: Spot, begun: Pending, byte: u8) -> Expander
     requires { begun.count < unit spot }
@@ -206,9 +189,24 @@ fn after(spot: Spot, begun: Pending, byte: u8) -> Expander
 {
     match spot {
         Spot::Passing => unreachable!(),
+        Spot::Straight { owed, next } => after_straight(owed, next, byte),
         Spot::Long(position) => after_long(position, begun, byte),
         Spot::Half { hunk, part, is_odd } => after_half(hunk, part, is_odd, begun, byte),
         Spot::Filler(hunk) => after_filler(hunk, begun, byte),
+    }
+}
+
+/// Behind a byte that is given out as it is.
+fn after_straight(count: u64, next: Position, byte: u8) -> Expander
+    ensures left { (more : List ℕ) → left_of result more
+        ≡ plain_from (Straight count next) (byte ∷ more) }
+    ensures wanted { wanted result ≡ 0 }
+    ensures owed { owed result ≡ 0 }
+{
+    Expander {
+        ready: Ready::one(byte),
+        spot: Spot::behind_straight(count, next, 1),
+        begun: Pending::NONE,
     }
 }
 

@@ -10,6 +10,7 @@ mod place;
 mod plain;
 mod ready;
 mod spot;
+mod units;
 
 pub use crate::expander::Expander;
 pub use crate::laws::{one_spelling, plain_spelling};

@@ -1,8 +1,8 @@
 //! Places of the plain spelling, and where they are in a wide one.
-ghost use Rattle.std.specs.Prelude.{◌≡◌, ℕ, ◌+◌, ◌-◌, ◌<◌, ◌≤◌, drop, length, IfNone, IfSome};
+ghost use Rattle.std.specs.Prelude.{◌≡◌, ℕ, ◌+◌, ◌-◌, ◌<◌, ◌≤◌, drop, length, min, IfNone, IfSome};
 ghost use Rattle.hunk_grammar.specs.declared.position.Position.TheVariants.{FirstLong};
 ghost use Rattle.hunk_wide.specs.Places.{ComesFrom, count_long, last_place, GoesBy, place_from};
-ghost use Rattle.hunk_wide.specs.declared.spot.Spot.TheVariants.{Filler, Half, Long};
+ghost use Rattle.hunk_wide.specs.declared.spot.Spot.TheVariants.{Filler, Half, Long, Straight};
 
 use crate::spot::{Given, ShortPart, Spot};
 use hunk_grammar::{OpenHunk, Phase, Position};
@@ -32,7 +32,7 @@ pub fn place_in(bytes: &[u8], place: u64) -> u64
     let mut rest = bytes;
     let mut owed = place;
     let mut at: u64 = 0;
-    'units: while let Some(unit) = unit_at(spot, rest) {
+    'units: while let Some(unit) = unit_at(spot, rest, owed) {
         if owed < unit.given {
             return at;
         }
@@ -50,30 +50,46 @@ fn last(spot: Spot, rest: &[u8], owed: u64) -> u64
     ensures inside { result ≤ length rest.now }
 {
     match spot {
-        Spot::Passing => owed.min(rest.len() as u64),
+        Spot::Passing | Spot::Straight { owed: _, next: _ } => owed.min(rest.len() as u64),
         _ => 0,
     }
 }
 
-/// The unit that the bytes begin with.
-fn unit_at(spot: Spot, rest: &[u8]) -> Option<Unit>
-    ensures none { IfNone result
-        ((n : ℕ) → place_from spot rest.now n ≡ last_place spot rest.now n) }
+/// The unit that the bytes begin with, or bytes that are given out as they are, all before byte `n`.
+fn unit_at(spot: Spot, rest: &[u8], n: u64) -> Option<Unit>
+    ensures none { IfNone result (place_from spot rest.now n ≡ last_place spot rest.now n) }
     ensures some { IfSome result
-        (λ unit. GoesBy spot rest.now unit.size unit.given unit.next) }
+        (λ unit. GoesBy spot rest.now n unit.size unit.given unit.next) }
 {
     match spot {
         Spot::Passing => None,
-        Spot::Long(position) => long_unit(position, rest),
-        Spot::Half { hunk, part, is_odd } => half_unit(hunk, part, is_odd, rest),
-        Spot::Filler(hunk) => filler_unit(hunk, rest),
+        Spot::Straight { owed, next } => straight_unit(owed, next, rest, n),
+        Spot::Long(position) => long_unit(position, rest, n),
+        Spot::Half { hunk, part, is_odd } => half_unit(hunk, part, is_odd, rest, n),
+        Spot::Filler(hunk) => filler_unit(hunk, rest, n),
     }
 }
 
-fn long_unit(position: Position, rest: &[u8]) -> Option<Unit>
-    ensures none { IfNone result ((n : ℕ) → place_from (Long position) rest.now n ≡ 0) }
+fn straight_unit(owed: u64, next: Position, rest: &[u8], n: u64) -> Option<Unit>
+    ensures none { IfNone result
+        (place_from (Straight owed next) rest.now n ≡ min n (length rest.now)) }
     ensures some { IfSome result
-        (λ unit. GoesBy (Long position) rest.now unit.size unit.given unit.next) }
+        (λ unit. GoesBy (Straight owed next) rest.now n unit.size unit.given unit.next) }
+{
+    if n <= owed || rest.len() as u64 <= owed {
+        return None;
+    }
+    Some(Unit {
+        size: owed as usize + 1,
+        given: owed + 1,
+        next: Spot::Long(next),
+    })
+}
+
+fn long_unit(position: Position, rest: &[u8], n: u64) -> Option<Unit>
+    ensures none { IfNone result (place_from (Long position) rest.now n ≡ 0) }
+    ensures some { IfSome result
+        (λ unit. GoesBy (Long position) rest.now n unit.size unit.given unit.next) }
 {
     if rest.len() < 4 {
         return None;
@@ -86,11 +102,11 @@ fn long_unit(position: Position, rest: &[u8]) -> Option<Unit>
     })
 }
 
-fn half_unit(hunk: OpenHunk, part: ShortPart, is_odd: bool, rest: &[u8]) -> Option<Unit>
+fn half_unit(hunk: OpenHunk, part: ShortPart, is_odd: bool, rest: &[u8], n: u64) -> Option<Unit>
     ensures none { IfNone result
-        ((n : ℕ) → place_from (Half hunk part is_odd) rest.now n ≡ 0) }
+        (place_from (Half hunk part is_odd) rest.now n ≡ 0) }
     ensures some { IfSome result
-        (λ unit. GoesBy (Half hunk part is_odd) rest.now unit.size unit.given unit.next) }
+        (λ unit. GoesBy (Half hunk part is_odd) rest.now n unit.size unit.given unit.next) }
 {
     if rest.len() < 2 {
         return None;
@@ -103,10 +119,10 @@ fn half_unit(hunk: OpenHunk, part: ShortPart, is_odd: bool, rest: &[u8]) -> Opti
     })
 }
 
-fn filler_unit(hunk: OpenHunk, rest: &[u8]) -> Option<Unit>
-    ensures none { IfNone result ((n : ℕ) → place_from (Filler hunk) rest.now n ≡ 0) }
+fn filler_unit(hunk: OpenHunk, rest: &[u8], n: u64) -> Option<Unit>
+    ensures none { IfNone result (place_from (Filler hunk) rest.now n ≡ 0) }
     ensures some { IfSome result
-        (λ unit. GoesBy (Filler hunk) rest.now unit.size unit.given unit.next) }
+        (λ unit. GoesBy (Filler hunk) rest.now n unit.size unit.given unit.next) }
 {
     if rest.len() < 2 {
         return None;

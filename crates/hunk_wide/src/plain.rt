@@ -3,7 +3,7 @@ ghost use Rattle.std.specs.Prelude.{◌≡◌, ℕ, ◌<◌, ◌≤◌, ◌||◌
 ghost use Rattle.std.specs.Prelude.{MatchResult, is_err, OnOk, length, take};
 ghost use Rattle.std.specs.Io.KnownBytes.{Consumes, Keeps, ReadConsumes};
 ghost use Rattle.std.specs.Io.{ReadsAtMost};
-ghost use Rattle.hunk_wide.specs.Held.{owed, supply_of, wanted};
+ghost use Rattle.hunk_wide.specs.Held.{owed, straight_of, supply_of, wanted};
 ghost use Rattle.hunk_wide.specs.Plain.{plain};
 
 use crate::expander::Expander;
@@ -53,9 +53,22 @@ impl<R: Source> Plain<R> {
         source
     }
 
-    /// Pulls bytes that are given out as they are, as many as fit, and gives the number of those that
-    /// are in the buffer: a multiple of 4, 0 where no such bytes come, or fewer than 4.
-    fn pull_run(&mut self, buf: &mut [u8]) -> Result<usize, Failed>
+    /// Gives out what the bytes that the source shows are for, as far as they fit, and gives the
+    /// number of the bytes that are in the buffer.
+    fn give_shown(&mut self, buf: &mut [u8]) -> usize
+        ensures inside { result ≤ length buf.new }
+        ensures bytes { Consumes (supply_of self.old.held (R.supply self.old.source)).left
+            (supply_of self.new.held (R.supply self.new.source)).left (take result buf.new) }
+        ensures works { (R.supply self.new.source).failed ≡ (R.supply self.old.source).failed }
+    {
+        let (taken, given) = self.held.expand(self.source.held(), buf);
+        self.source.consume(taken);
+        given
+    }
+
+    /// Pulls bytes that are given out as they are, as many as fit, and gives their number: 0 where
+    /// no such bytes come.
+    fn pull_straight(&mut self, buf: &mut [u8]) -> Result<usize, Failed>
         ensures inside { IfOk result (λ n. n ≤ length buf.new) }
         ensures bytes { MatchResult result
             (λ n. Consumes (supply_of self.old.held (R.supply self.old.source)).left
@@ -65,16 +78,13 @@ impl<R: Source> Plain<R> {
         ensures fails { (R.supply self.new.source).failed
             ≡ ((R.supply self.old.source).failed || is_err result) }
     {
-        let run = self.held.run();
-        if run == 0 || buf.len() < 4 {
+        let most = self.held.straight(buf).len();
+        if most == 0 {
             return Ok(0);
         }
-        let most = (buf.len() / 4).min(run as usize) * 4;
         let count = self.source.pull(&mut buf[..most])?;
-        let whole = count / 4;
-        self.held.pass(whole as u64);
-        self.held.take(&buf[4 * whole..count]);
-        Ok(4 * whole)
+        self.held.pass(count as u64);
+        Ok(count)
     }
 
     /// Pulls bytes that are wanted, at most this many, and gives their number.
@@ -124,22 +134,30 @@ impl<R: Source> Plain<R> {
 impl<R: Source> Source for Plain<R> {
     ghost supply = { λ s. supply_of s.held (R.supply s.source) };
 
-    ghost shown = { λ _. [] };
+    ghost shown = { λ s. straight_of s.held (R.shown s.source) };
 
     fn pull(&mut self, buf: &mut [u8]) -> Result<usize, Failed> {
         if buf.is_empty() {
             return Ok(0);
         }
-        let given = self.pull_run(buf)?;
+        let given = self.give_shown(buf);
+        if given > 0 {
+            return Ok(given);
+        }
+        let given = self.pull_straight(buf)?;
         if given > 0 {
             return Ok(given);
         }
         self.pull_unit(buf)
     }
-    /// None: what is given out is asked for by pulls alone.
+
+    /// Those of the source that are given out as they are.
     fn held(&self) -> &[u8] {
-        &[]
+        self.held.straight(self.source.held())
     }
 
-    fn consume(&mut self, _count: usize) {}
+    fn consume(&mut self, count: usize) {
+        self.source.consume(count);
+        self.held.pass(count as u64);
+    }
 }

@@ -34,6 +34,17 @@ impl Ready {
         }
     }
 
+    /// This one.
+    pub(crate) fn one(byte: u8) -> Ready
+        ensures { result ≡ byte ∷ [] }
+    {
+        Ready {
+            bytes: [byte, 0, 0, 0, 0, 0, 0, 0],
+            from: 0,
+            to: 1,
+        }
+    }
+
     /// These four.
     pub(crate) fn four(four: [u8; 4]) -> Ready
         ensures { result ≡ four }

@@ -1,7 +1,9 @@
 //! What the next bytes of a wide spelling are for.
-ghost use Rattle.std.specs.Prelude.{◌≡◌, ◌<◌, ◌^◌};
-ghost use Rattle.hunk_wide.specs.Plain.{behind_half, behind_long, behind_same};
-ghost use Rattle.hunk_wide.specs.Plain.{given, given_block, go_on, long_word};
+ghost use Rattle.std.specs.Prelude.{◌≡◌, ◌≤◌, ◌+◌, ◌<◌, ◌^◌};
+ghost use Rattle.hunk_wide.specs.Halves.{behind_half};
+ghost use Rattle.hunk_wide.specs.Longwords.{after_straight, behind_block, behind_long, behind_same};
+ghost use Rattle.hunk_wide.specs.Longwords.{behind_straight};
+ghost use Rattle.hunk_wide.specs.Longwords.{given, given_block, go_on, long_word, straight_longs};
 
 use hunk_grammar::{OpenHunk, Phase, Position, open_next};
 use hunk_words::{BlockWord, HEADER_WORD, Kind};
@@ -24,6 +26,12 @@ pub enum ShortPart {
 pub enum Spot {
     /// From here on all bytes pass as they are.
     Passing,
+    /// A byte that is given out as it is, and `owed` more, and then a longword at this position:
+    /// content, a name, debug data, or offsets of 32 bits.
+    Straight {
+        owed: u64,
+        next: Position,
+    },
     /// A longword, which the plain spelling has at this position.
     Long(Position),
     /// A word of 16 bits of a short block, behind an odd number of them or an even one.
@@ -54,18 +62,27 @@ impl Spot {
     {
         match position {
             Position::Body(hunk, phase) => match phase {
-                Phase::FirstBlock | Phase::BlockWord => match Given::of_block(hunk, word) {
-                    Given::Same => Spot::at(position.step(word)),
-                    Given::BehindEnd => Spot::at(open_next(hunk.hunks, hunk.ahead).step(word)),
-                    Given::AsLong => Spot::Half {
-                        hunk,
-                        part: ShortPart::Count,
-                        is_odd: false,
-                    },
-                },
+                Phase::FirstBlock | Phase::BlockWord => {
+                    Spot::behind_block(Given::of_block(hunk, word), hunk, phase, word)
+                }
                 _ => Spot::at(position.step(word)),
             },
             _ => Spot::behind_same(position, word),
+        }
+    }
+
+    /// Behind a block word of this hunk.
+    fn behind_block(given: Given, hunk: OpenHunk, phase: Phase, word: u32) -> Spot
+        ensures { result ≡ behind_block given hunk phase word }
+    {
+        match given {
+            Given::Same => Spot::at(Position::Body(hunk, phase).step(word)),
+            Given::BehindEnd => Spot::at(open_next(hunk.hunks, hunk.ahead).step(word)),
+            Given::AsLong => Spot::Half {
+                hunk,
+                part: ShortPart::Count,
+                is_odd: false,
+            },
         }
     }
 
@@ -85,7 +102,26 @@ impl Spot {
     {
         match position {
             Position::Done => Spot::Passing,
-            _ => Spot::Long(position),
+            _ => match straight_longs(position) {
+                0 => Spot::Long(position),
+                longs => Spot::Straight {
+                    owed: 4 * (longs - 1) + 3,
+                    next: after_straight(position),
+                },
+            },
+        }
+    }
+
+    /// After `count` bytes that are given out as they are.
+    pub(crate) fn behind_straight(owed: u64, next: Position, count: u64) -> Spot
+        requires { count ≤ owed + 1 }
+        ensures { result ≡ behind_straight owed next count }
+    {
+        if count <= owed {
+            let owed = owed - count;
+            Spot::Straight { owed, next }
+        } else {
+            Spot::Long(next)
         }
     }
 
@@ -150,4 +186,38 @@ pub fn long_word(word: u32) -> u32
     ensures { result ≡ long_word word }
 {
     (word >> 29) * 0x2000_0000 + 0x3EC
+}
+
+/// How many longwords come at least that are given out as they are, whatever they have.
+fn straight_longs(position: Position) -> u64
+    ensures value { result ≡ straight_longs position }
+    ensures bound { result ≤ 2 ^ 32 }
+{
+    match position {
+        Position::Body(_, phase) => phase.longest_run(),
+        _ => 0,
+    }
+}
+
+/// After all of them.
+fn after_straight(position: Position) -> Position
+    ensures { result ≡ after_straight position }
+{
+    match position {
+        Position::Body(hunk, phase) => match phase {
+            Phase::Content { longs: _, owed: _ } => {
+                let hunk = OpenHunk {
+                    has_content: true,
+                    ..hunk
+                };
+                Position::Body(hunk, Phase::BlockWord)
+            }
+            Phase::Payload { owed: _ } => Position::Body(hunk, Phase::BlockWord),
+            _ => match phase.pass_longest_run() {
+                Some(next) => Position::Body(hunk, next),
+                None => unreachable!(),
+            },
+        },
+        _ => position,
+    }
 }

@@ -1,7 +1,8 @@
 use Rattle.std.proofs.Common.{◌++◌, ap, ◌∙◌, arith}
 use Rattle.std.specs.Int.{to_be_bytes, w32}
 use Rattle.hunk_wide.specs.declared.spot.Given.{Given}
-use Rattle.hunk_wide.specs.Plain.{behind_long, out_long, plain_from}
+use Rattle.hunk_wide.specs.Longwords.{behind_long, out_long}
+use Rattle.hunk_wide.specs.Plain.{plain_from}
 use Rattle.hunk_wide.proofs.Few.{long_one}
 use Rattle.hunk_wide.proofs.expander.long_done.Goals as goal
 

@@ -14,5 +14,5 @@ returns-then-owed-unit-clause-front c =
 pub returns-clause-front : goal.returns-clause-front
 returns-clause-front c =
     subst (λ (k : ℕ). ComesFrom (Long FirstLong) c.args.bytes.now c.args.place k)
-    (c.units.invariant.same ∙ ap (λ (k : ℕ). c.units.at + k) (c.in_default.ensures.none c.units.owed ∙ sym c.last.ensures.value))
+    (c.units.invariant.same ∙ ap (λ (k : ℕ). c.units.at + k) (c.in_default.ensures.none ∙ sym c.last.ensures.value))
     (comes_from (Long FirstLong) c.args.bytes.now c.args.place)

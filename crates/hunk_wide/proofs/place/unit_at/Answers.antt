@@ -6,4 +6,4 @@ use Rattle.hunk_wide.proofs.place.unit_at.Goals as goal
 
 pub returns-in-Passing-clause-none : goal.returns-in-Passing-clause-none
 returns-in-Passing-clause-none c =
-    λ n. subst (λ (s : Spot). place_from s c.args.rest.now n ≡ last_place s c.args.rest.now n) (sym c.in-Passing.is) (passing_place c.args.rest.now n)
+    subst (λ (s : Spot). place_from s c.args.rest.now c.args.n ≡ last_place s c.args.rest.now c.args.n) (sym c.in-Passing.is) (passing_place c.args.rest.now c.args.n)

@@ -6,7 +6,9 @@ use Rattle.hunk_grammar.specs.declared.position.OpenHunk.{OpenHunk}
 use Rattle.hunk_grammar.specs.declared.position.Position.{Position}
 use Rattle.hunk_wide.specs.declared.spot.ShortPart.{ShortPart}
 use Rattle.hunk_wide.specs.declared.spot.Spot.TheVariants.{Long, Half}
-use Rattle.hunk_wide.specs.Plain.{behind_half, behind_long, given, out_long, plain_from}
+use Rattle.hunk_wide.specs.Halves.{behind_half}
+use Rattle.hunk_wide.specs.Longwords.{behind_long, given, out_long}
+use Rattle.hunk_wide.specs.Plain.{plain_from}
 
 pub long_cells : (p : Position) (w : ℕ) (more : List ℕ) → w < 2 ^ 32 →
     plain_from (Long p) (to_be_bytes w32 w ++ more) ≡ out_long (given p w) (to_be_bytes w32 w) w ++ plain_from (behind_long p w) more

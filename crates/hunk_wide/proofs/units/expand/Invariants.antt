@@ -1,0 +1,13 @@
+use Rattle.std.proofs.Common.{◌-◌, ◌≤◌, length, take}
+use Rattle.hunk_wide.specs.Plain.{GivesFor}
+use Rattle.hunk_wide.proofs.units.expand.Given as goal
+
+abbrev pub invariant-units : goal.invariant-units
+invariant-units l = record {
+  taken : l.all.taken ≤ length l.piece;
+  given : l.all.given ≤ length l.buf;
+  gives : GivesFor l.fn.spot (take l.all.taken l.piece) (take l.all.given l.buf) l.all.next;
+}
+
+abbrev pub decreases-units : goal.decreases-units
+decreases-units l = length l.piece - l.all.taken

@@ -1,0 +1,192 @@
+//! Bytes of a wide spelling that lie in a piece, given out into a buffer.
+ghost use Rattle.std.specs.Prelude.{◌≡◌, ◌≤◌, ℕ, [], ◌∷◌, length, take};
+ghost use Rattle.std.specs.Int.{from_be_bytes, w32};
+ghost use Rattle.hunk_wide.specs.Longwords.{out_long};
+ghost use Rattle.hunk_wide.specs.Plain.{GivesFor};
+ghost use Rattle.hunk_wide.specs.declared.spot.Spot.TheVariants.{Filler, Half, Long, Passing, Straight};
+
+use crate::spot::{Given, ShortPart, Spot, long_word};
+use hunk_grammar::{OpenHunk, Phase, Position};
+
+/// The bytes at the front of a piece that were given out at the front of a buffer.
+#[derive(Clone, Copy)]
+pub(crate) struct Stretch {
+    /// The number of the bytes of the piece.
+    pub(crate) taken: usize,
+    /// How many bytes were given out for them.
+    pub(crate) given: usize,
+    /// What the bytes after them are for.
+    pub(crate) next: Spot,
+}
+
+/// Gives out what the first bytes of the piece are for, as far as whole units lie in it and their
+/// bytes fit.
+pub(crate) fn expand(spot: Spot, piece: &[u8], buf: &mut [u8]) -> Stretch
+    ensures taken { result.taken ≤ length piece.now }
+    ensures given { result.given ≤ length buf.new }
+    ensures gives { GivesFor spot (take result.taken piece.now) (take result.given buf.new)
+        result.next }
+{
+    let mut all = nothing(spot);
+    'units: loop {
+        let unit = expand_unit(all.next, &piece[all.taken..], &mut buf[all.given..]);
+        if unit.taken == 0 {
+            break 'units;
+        }
+        all = Stretch {
+            taken: all.taken + unit.taken,
+            given: all.given + unit.given,
+            next: unit.next,
+        };
+    }
+    all
+}
+
+/// The same for the first unit.
+fn expand_unit(spot: Spot, piece: &[u8], buf: &mut [u8]) -> Stretch
+    ensures taken { result.taken ≤ length piece.now }
+    ensures given { result.given ≤ length buf.new }
+    ensures gives { GivesFor spot (take result.taken piece.now) (take result.given buf.new)
+        result.next }
+{
+    match spot {
+        Spot::Passing => expand_passing(piece, buf),
+        Spot::Straight { owed, next } => expand_straight(owed, next, piece, buf),
+        Spot::Long(position) => expand_long(position, piece, buf),
+        Spot::Half { hunk, part, is_odd } => expand_half(hunk, part, is_odd, piece, buf),
+        Spot::Filler(hunk) => expand_filler(hunk, piece, buf),
+    }
+}
+
+/// No bytes.
+fn nothing(spot: Spot) -> Stretch
+    ensures { result ≡ record { taken = 0; given = 0; next = spot } }
+{
+    Stretch {
+        taken: 0,
+        given: 0,
+        next: spot,
+    }
+}
+
+fn expand_passing(piece: &[u8], buf: &mut [u8]) -> Stretch
+    ensures taken { result.taken ≤ length piece.now }
+    ensures given { result.given ≤ length buf.new }
+    ensures gives { GivesFor Passing (take result.taken piece.now) (take result.given buf.new)
+        result.next }
+{
+    let count = piece.len().min(buf.len());
+    buf[..count].copy_from_slice(&piece[..count]);
+    Stretch {
+        taken: count,
+        given: count,
+        next: Spot::Passing,
+    }
+}
+
+fn expand_straight(owed: u64, next: Position, piece: &[u8], buf: &mut [u8]) -> Stretch
+    ensures taken { result.taken ≤ length piece.now }
+    ensures given { result.given ≤ length buf.new }
+    ensures gives { GivesFor (Straight owed next) (take result.taken piece.now)
+        (take result.given buf.new) result.next }
+{
+    let most = piece.len().min(buf.len()) as u64;
+    let count = most.min(owed.saturating_add(1)) as usize;
+    buf[..count].copy_from_slice(&piece[..count]);
+    Stretch {
+        taken: count,
+        given: count,
+        next: Spot::behind_straight(owed, next, count as u64),
+    }
+}
+
+fn expand_long(position: Position, piece: &[u8], buf: &mut [u8]) -> Stretch
+    ensures taken { result.taken ≤ length piece.now }
+    ensures given { result.given ≤ length buf.new }
+    ensures gives { GivesFor (Long position) (take result.taken piece.now)
+        (take result.given buf.new) result.next }
+{
+    if piece.len() < 4 || buf.len() < 8 {
+        return nothing(Spot::Long(position));
+    }
+    let cells = [piece[0], piece[1], piece[2], piece[3]];
+    let word = u32::from_be_bytes(cells);
+    Stretch {
+        taken: 4,
+        given: put_long(Given::of(position, word), cells, buf),
+        next: Spot::behind_long(position, word),
+    }
+}
+
+/// Writes what is given out for the longword of these bytes, and gives the number of bytes.
+fn put_long(given: Given, cells: [u8; 4], buf: &mut [u8]) -> usize
+    requires { 8 ≤ length buf.old }
+    ensures inside { result ≤ length buf.new }
+    ensures bytes { take result buf.new ≡ out_long given cells (from_be_bytes w32 cells) }
+{
+    match given {
+        Given::Same => {
+            buf[..4].copy_from_slice(cells.as_slice());
+            4
+        }
+        Given::BehindEnd => {
+            let [a, b, c, d] = cells;
+            buf[..8].copy_from_slice([0, 0, 3, 0xF2, a, b, c, d].as_slice());
+            8
+        }
+        Given::AsLong => {
+            let word = long_word(u32::from_be_bytes(cells));
+            buf[..4].copy_from_slice(word.to_be_bytes().as_slice());
+            4
+        }
+    }
+}
+
+fn expand_half(
+    hunk: OpenHunk,
+    part: ShortPart,
+    is_odd: bool,
+    piece: &[u8],
+    buf: &mut [u8],
+) -> Stretch
+    ensures taken { result.taken ≤ length piece.now }
+    ensures given { result.given ≤ length buf.new }
+    ensures gives { GivesFor (Half hunk part is_odd) (take result.taken piece.now)
+        (take result.given buf.new) result.next }
+{
+    if piece.len() < 2 || buf.len() < 4 {
+        return nothing(Spot::Half { hunk, part, is_odd });
+    }
+    let half = piece[0] as u16 * 256 + piece[1] as u16;
+    buf[..4].copy_from_slice([0, 0, piece[0], piece[1]].as_slice());
+    Stretch {
+        taken: 2,
+        given: 4,
+        next: Spot::behind_half(hunk, part, is_odd, half),
+    }
+}
+
+fn expand_filler(hunk: OpenHunk, piece: &[u8], buf: &mut [u8]) -> Stretch
+    ensures taken { result.taken ≤ length piece.now }
+    ensures given { result.given ≤ length buf.new }
+    ensures gives { GivesFor (Filler hunk) (take result.taken piece.now)
+        (take result.given buf.new) result.next }
+{
+    if piece.len() < 2 || buf.len() < 6 {
+        return nothing(Spot::Filler(hunk));
+    }
+    let half = piece[0] as u16 * 256 + piece[1] as u16;
+    if half == 0 {
+        return Stretch {
+            taken: 2,
+            given: 0,
+            next: Spot::Long(Position::Body(hunk, Phase::BlockWord)),
+        };
+    }
+    buf[..6].copy_from_slice([0, 0, 3, 0xFC, piece[0], piece[1]].as_slice());
+    Stretch {
+        taken: 2,
+        given: 6,
+        next: Spot::Passing,
+    }
+}
