@@ -1,6 +1,7 @@
 pub mod Along
 pub mod Cutting
 pub mod Few
+pub mod Offsets
 pub mod Placing
 pub mod Straight
 pub mod Stretches

@@ -102,7 +102,7 @@ straight_goes o _ w more h = absurd (omega arith)
 
 -- ---- what is held
 
-take_over : (n : ℕ) (bytes : List ℕ) → length bytes ≤ n → take n bytes ≡ bytes
+pub take_over : (n : ℕ) (bytes : List ℕ) → length bytes ≤ n → take n bytes ≡ bytes
 take_over zero [] h = refl
 take_over zero (b ∷ bytes) h = absurd (omega arith)
 take_over (suc n) [] h = refl

@@ -36,7 +36,12 @@ abbrev pub widened : List ℕ → List ℕ
 widened (a ∷ b ∷ rest) = 0 ∷ 0 ∷ a ∷ b ∷ widened rest
 widened _ = []
 
--- after so many offsets, where this number follows the next
+-- Whether the number of words is odd after so many more.
+abbrev pub flipped : Bool → ℕ → Bool
+flipped odd zero = odd
+flipped odd (suc count) = flipped (not odd) count
+
+-- after so many offsets, where this number follows the first
 abbrev pub behind_offsets : OpenHunk → ℕ → Bool → ℕ → Spot
 behind_offsets o owed odd zero = Half o (Offset owed) odd
 behind_offsets o zero odd (suc count) = Half o Count (not odd)

@@ -1,6 +1,6 @@
 //! What the next bytes of a wide spelling are for.
 ghost use Rattle.std.specs.Prelude.{◌≡◌, ◌≤◌, ◌+◌, ◌<◌, ◌^◌};
-ghost use Rattle.hunk_wide.specs.Halves.{behind_half};
+ghost use Rattle.hunk_wide.specs.Halves.{behind_half, behind_offsets, flipped};
 ghost use Rattle.hunk_wide.specs.Longwords.{after_straight, behind_block, behind_long, behind_same};
 ghost use Rattle.hunk_wide.specs.Longwords.{behind_straight};
 ghost use Rattle.hunk_wide.specs.Longwords.{given, given_block, go_on, long_word, straight_longs};
@@ -57,6 +57,7 @@ pub enum Given {
 
 impl Spot {
     /// Behind a longword that stands at this position.
+    #[inline(always)]
     pub fn behind_long(position: Position, word: u32) -> Spot
         ensures { result ≡ behind_long position word }
     {
@@ -72,6 +73,7 @@ impl Spot {
     }
 
     /// Behind a block word of this hunk.
+    #[inline(always)]
     fn behind_block(given: Given, hunk: OpenHunk, phase: Phase, word: u32) -> Spot
         ensures { result ≡ behind_block given hunk phase word }
     {
@@ -87,6 +89,7 @@ impl Spot {
     }
 
     /// Behind a longword that is no block word of a body.
+    #[inline(always)]
     fn behind_same(position: Position, word: u32) -> Spot
         ensures { result ≡ behind_same position word }
     {
@@ -97,6 +100,7 @@ impl Spot {
     }
 
     /// At this position. Behind the file all bytes pass.
+    #[inline(always)]
     fn at(position: Position) -> Spot
         ensures { result ≡ go_on position }
     {
@@ -113,6 +117,7 @@ impl Spot {
     }
 
     /// After `count` bytes that are given out as they are.
+    #[inline(always)]
     pub(crate) fn behind_straight(owed: u64, next: Position, count: u64) -> Spot
         requires { count ≤ owed + 1 }
         ensures { result ≡ behind_straight owed next count }
@@ -125,7 +130,25 @@ impl Spot {
         }
     }
 
+    /// After `count` offsets of a short block, where `owed` more follow the first.
+    #[inline(always)]
+    pub(crate) fn behind_offsets(hunk: OpenHunk, owed: u16, is_odd: bool, count: usize) -> Spot
+        requires { count ≤ owed + 1 }
+        ensures { result ≡ behind_offsets hunk owed is_odd count }
+    {
+        let is_odd = flipped(is_odd, count);
+        if count <= owed as usize {
+            let owed = owed - count as u16;
+            let part = ShortPart::Offset { owed };
+            Spot::Half { hunk, part, is_odd }
+        } else {
+            let part = ShortPart::Count;
+            Spot::Half { hunk, part, is_odd }
+        }
+    }
+
     /// Behind a word of 16 bits of a short block.
+    #[inline(always)]
     pub fn behind_half(hunk: OpenHunk, part: ShortPart, is_odd: bool, half: u16) -> Spot
         ensures { result ≡ behind_half hunk part is_odd half }
     {
@@ -152,6 +175,7 @@ impl Spot {
 
 impl Given {
     /// Of a longword at this position.
+    #[inline(always)]
     pub fn of(position: Position, word: u32) -> Given
         ensures { result ≡ given position word }
     {
@@ -164,6 +188,7 @@ impl Given {
     }
 
     /// Of a block word in this hunk.
+    #[inline(always)]
     fn of_block(hunk: OpenHunk, word: u32) -> Given
         ensures { result ≡ given_block hunk word }
     {
@@ -182,6 +207,7 @@ impl Given {
 }
 
 /// The block word of RELOC32 with the flags of this one.
+#[inline(always)]
 pub fn long_word(word: u32) -> u32
     ensures { result ≡ long_word word }
 {
@@ -189,6 +215,7 @@ pub fn long_word(word: u32) -> u32
 }
 
 /// How many longwords come at least that are given out as they are, whatever they have.
+#[inline(always)]
 fn straight_longs(position: Position) -> u64
     ensures value { result ≡ straight_longs position }
     ensures bound { result ≤ 2 ^ 32 }
@@ -200,6 +227,7 @@ fn straight_longs(position: Position) -> u64
 }
 
 /// After all of them.
+#[inline(always)]
 fn after_straight(position: Position) -> Position
     ensures { result ≡ after_straight position }
 {
@@ -220,4 +248,12 @@ fn after_straight(position: Position) -> Position
         },
         _ => position,
     }
+}
+
+/// Whether the number of words is odd after `count` more.
+#[inline(always)]
+fn flipped(is_odd: bool, count: usize) -> bool
+    ensures { result ≡ flipped is_odd count }
+{
+    if count % 2 == 0 { is_odd } else { !is_odd }
 }

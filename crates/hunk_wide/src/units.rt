@@ -1,7 +1,9 @@
 //! Bytes of a wide spelling that lie in a piece, given out into a buffer.
-ghost use Rattle.std.specs.Prelude.{◌≡◌, ◌≤◌, ℕ, [], ◌∷◌, length, take};
+ghost use Rattle.std.specs.Prelude.{◌≡◌, ◌≤◌, ◌*◌, ◌/◌, ℕ, length, take};
 ghost use Rattle.std.specs.Int.{from_be_bytes, w32};
+ghost use Rattle.hunk_wide.specs.Halves.{widened};
 ghost use Rattle.hunk_wide.specs.Longwords.{out_long};
+ghost use Rattle.hunk_wide.specs.declared.spot.ShortPart.TheVariants.{Offset};
 ghost use Rattle.hunk_wide.specs.Plain.{GivesFor};
 ghost use Rattle.hunk_wide.specs.declared.spot.Spot.TheVariants.{Filler, Half, Long, Passing, Straight};
 
@@ -43,6 +45,7 @@ pub(crate) fn expand(spot: Spot, piece: &[u8], buf: &mut [u8]) -> Stretch
 }
 
 /// The same for the first unit.
+#[inline(always)]
 fn expand_unit(spot: Spot, piece: &[u8], buf: &mut [u8]) -> Stretch
     ensures taken { result.taken ≤ length piece.now }
     ensures given { result.given ≤ length buf.new }
@@ -59,6 +62,7 @@ fn expand_unit(spot: Spot, piece: &[u8], buf: &mut [u8]) -> Stretch
 }
 
 /// No bytes.
+#[inline(always)]
 fn nothing(spot: Spot) -> Stretch
     ensures { result ≡ record { taken = 0; given = 0; next = spot } }
 {
@@ -69,6 +73,7 @@ fn nothing(spot: Spot) -> Stretch
     }
 }
 
+#[inline(always)]
 fn expand_passing(piece: &[u8], buf: &mut [u8]) -> Stretch
     ensures taken { result.taken ≤ length piece.now }
     ensures given { result.given ≤ length buf.new }
@@ -84,6 +89,7 @@ fn expand_passing(piece: &[u8], buf: &mut [u8]) -> Stretch
     }
 }
 
+#[inline(always)]
 fn expand_straight(owed: u64, next: Position, piece: &[u8], buf: &mut [u8]) -> Stretch
     ensures taken { result.taken ≤ length piece.now }
     ensures given { result.given ≤ length buf.new }
@@ -100,6 +106,7 @@ fn expand_straight(owed: u64, next: Position, piece: &[u8], buf: &mut [u8]) -> S
     }
 }
 
+#[inline(always)]
 fn expand_long(position: Position, piece: &[u8], buf: &mut [u8]) -> Stretch
     ensures taken { result.taken ≤ length piece.now }
     ensures given { result.given ≤ length buf.new }
@@ -119,6 +126,7 @@ fn expand_long(position: Position, piece: &[u8], buf: &mut [u8]) -> Stretch
 }
 
 /// Writes what is given out for the longword of these bytes, and gives the number of bytes.
+#[inline(always)]
 fn put_long(given: Given, cells: [u8; 4], buf: &mut [u8]) -> usize
     requires { 8 ≤ length buf.old }
     ensures inside { result ≤ length buf.new }
@@ -142,6 +150,7 @@ fn put_long(given: Given, cells: [u8; 4], buf: &mut [u8]) -> usize
     }
 }
 
+#[inline(always)]
 fn expand_half(
     hunk: OpenHunk,
     part: ShortPart,
@@ -157,6 +166,9 @@ fn expand_half(
     if piece.len() < 2 || buf.len() < 4 {
         return nothing(Spot::Half { hunk, part, is_odd });
     }
+    if let ShortPart::Offset { owed } = part {
+        return expand_offsets(hunk, owed, is_odd, piece, buf);
+    }
     let half = piece[0] as u16 * 256 + piece[1] as u16;
     buf[..4].copy_from_slice([0, 0, piece[0], piece[1]].as_slice());
     Stretch {
@@ -166,6 +178,37 @@ fn expand_half(
     }
 }
 
+/// Offsets of a group, as many as lie in the piece and fit.
+#[inline(always)]
+fn expand_offsets(hunk: OpenHunk, owed: u16, is_odd: bool, piece: &[u8], buf: &mut [u8]) -> Stretch
+    ensures taken { result.taken ≤ length piece.now }
+    ensures given { result.given ≤ length buf.new }
+    ensures gives { GivesFor (Half hunk (Offset owed) is_odd) (take result.taken piece.now)
+        (take result.given buf.new) result.next }
+{
+    let most = (piece.len() / 2).min(buf.len() / 4);
+    let count = most.min(owed as usize + 1);
+    widen(&piece[..2 * count], &mut buf[..4 * count]);
+    Stretch {
+        taken: 2 * count,
+        given: 4 * count,
+        next: Spot::behind_offsets(hunk, owed, is_odd, count),
+    }
+}
+
+/// Writes the words of 16 bits as longwords.
+#[inline(always)]
+fn widen(halves: &[u8], longs: &mut [u8])
+    requires { length longs.old ≡ 4 * (length halves.now / 2) }
+    ensures { longs.new ≡ widened halves.now }
+{
+    for i in 0..halves.len() / 2 {
+        let long = [0, 0, halves[2 * i], halves[2 * i + 1]];
+        longs[4 * i..4 * i + 4].copy_from_slice(long.as_slice());
+    }
+}
+
+#[inline(always)]
 fn expand_filler(hunk: OpenHunk, piece: &[u8], buf: &mut [u8]) -> Stretch
     ensures taken { result.taken ≤ length piece.now }
     ensures given { result.given ≤ length buf.new }
