@@ -11,7 +11,7 @@ use Rattle.hunk_grammar.specs.declared.position.Position.TheVariants as position
 use Rattle.hunk_grammar.specs.Positions.{step}
 use Rattle.hunk_wide.specs.declared.spot.Spot.{Spot}
 use Rattle.hunk_wide.specs.declared.spot.Spot.TheVariants.{Passing, Straight, Long, Half, Filler}
-use Rattle.hunk_wide.specs.Longwords.{after_straight, behind_straight, go_on, straight, straight_longs}
+use Rattle.hunk_wide.specs.Longwords.{behind_straight, go_on}
 use Rattle.hunk_wide.specs.{Held.{Held, left_of, straight_by, straight_of}, Plain.{GivesFor, plain_from}}
 
 pub straight_gives : (owed : ℕ) (next : Position) (bytes : List ℕ) → length bytes ≤ suc owed → GivesFor (Straight owed next) bytes bytes (behind_straight owed next (length bytes))
@@ -37,19 +37,6 @@ behind_all zero (suc (suc count)) next h = absurd (omega arith)
 behind_all (suc owed) (suc count) next h = behind_all owed count next (omega arith)
 
 -- ---- longwords
-
-go_on_is : (p : Position) → (p ≡ positions.Done → ⊥) → go_on p ≡ straight (straight_longs p) p (after_straight p)
-go_on_is positions.Done h = absurd (h refl)
-go_on_is _ h = refl
-
-pub goes_on_long : (p : Position) → (p ≡ positions.Done → ⊥) → straight_longs p ≡ 0 → Long p ≡ go_on p
-goes_on_long p h e = sym (go_on_is p h ∙ ap (λ (n : ℕ). straight n p (after_straight p)) e)
-
-pub goes_on_straight : (p next : Position) (longs owed : ℕ) → (p ≡ positions.Done → ⊥) → longs ≡ straight_longs p → (longs ≡ 0 → ⊥) → owed ≡ 4 * (longs - 1) + 3 → next ≡ after_straight p → Straight owed next ≡ go_on p
-goes_on_straight p next zero owed h e some o n = absurd (some refl)
-goes_on_straight p next (suc more) owed h e some o n =
-    let size : owed ≡ 4 * more + 3 = omega (arith, o) in
-    (λ i. Straight (size i) (n i)) ∙ sym (go_on_is p h ∙ ap (λ (k : ℕ). straight k p (after_straight p)) (sym e))
 
 four_more : (k a b c d : ℕ) (next : Position) (more : List ℕ) → plain_from (Straight (4 * suc k + 3) next) (a ∷ b ∷ c ∷ d ∷ more) ≡ a ∷ b ∷ c ∷ d ∷ plain_from (Straight (4 * k + 3) next) more
 unfolding plain_from
@@ -107,26 +94,6 @@ take_over zero [] h = refl
 take_over zero (b ∷ bytes) h = absurd (omega arith)
 take_over (suc n) [] h = refl
 take_over (suc n) (b ∷ bytes) h = ap (λ (x : List ℕ). b ∷ x) (take_over n bytes (omega arith))
-
--- As many bytes as some that are given out so are given out so.
-so_many : (ready : List ℕ) (spot : Spot) (begun some bytes : List ℕ) → length bytes ≤ length (straight_by ready spot begun some) → straight_by ready spot begun bytes ≡ bytes
-so_many [] Passing [] some bytes h = refl
-so_many [] (Straight owed next) [] some bytes h = take_over (suc owed) bytes (omega (arith, length-take (suc owed) some))
-so_many [] Passing (b ∷ bs) some [] h = refl
-so_many [] (Straight owed next) (b ∷ bs) some [] h = refl
-so_many [] (Long p) begun some [] h = refl
-so_many [] (Half o part odd) begun some [] h = refl
-so_many [] (Filler o) begun some [] h = refl
-so_many (x ∷ xs) spot begun some [] h = refl
-so_many [] Passing (b ∷ bs) some (y ∷ ys) h = absurd (omega arith)
-so_many [] (Straight owed next) (b ∷ bs) some (y ∷ ys) h = absurd (omega arith)
-so_many [] (Long p) begun some (y ∷ ys) h = absurd (omega arith)
-so_many [] (Half o part odd) begun some (y ∷ ys) h = absurd (omega arith)
-so_many [] (Filler o) begun some (y ∷ ys) h = absurd (omega arith)
-so_many (x ∷ xs) spot begun some (y ∷ ys) h = absurd (omega arith)
-
-pub as_many : (h : Held) (some bytes : List ℕ) (count : ℕ) → count ≤ length (straight_of h some) → length bytes ≡ count → straight_of h bytes ≡ bytes
-as_many h some bytes count fits l = so_many h.ready h.spot h.begun some bytes (omega arith)
 
 straight_most : (ready : List ℕ) (spot : Spot) (begun bytes : List ℕ) → length (straight_by ready spot begun bytes) ≤ length bytes
 straight_most [] Passing [] bytes = omega arith

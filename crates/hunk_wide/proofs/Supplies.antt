@@ -7,10 +7,6 @@ use Rattle.hunk_wide.specs.declared.spot.Spot.{Spot}
 use Rattle.hunk_wide.specs.declared.spot.Spot.TheVariants.{Passing}
 use Rattle.hunk_wide.specs.{Held.{Held, left_of}, Plain.plain_from}
 
-pub keeps_refl : (a : Option (List ℕ)) → Keeps a a
-keeps_refl None = tt
-keeps_refl (Some xs) = refl
-
 pub keeps_keeps : (a b c : Option (List ℕ)) → Keeps a b → Keeps b c → Keeps a c
 keeps_keeps None b c h k = tt
 keeps_keeps (Some xs) None c h k = absurd h
@@ -22,19 +18,6 @@ keeps_consumes None b c bytes h k = tt
 keeps_consumes (Some xs) None c bytes h k = absurd h
 keeps_consumes (Some xs) (Some ys) None bytes h k = absurd k
 keeps_consumes (Some xs) (Some ys) (Some zs) bytes h k = sym h ∙ k
-
--- where nothing was given
-pub keeps_map : (f : List ℕ → List ℕ) (a b : Option (List ℕ)) → Keeps a b → Keeps (option_map f a) (option_map f b)
-keeps_map f None b h = tt
-keeps_map f (Some xs) None h = absurd h
-keeps_map f (Some xs) (Some ys) h = ap f h
-
--- where bytes were given, and taken
-pub keeps_taken : (h k : Held) (a b : Option (List ℕ)) (bytes : List ℕ) → Consumes a b bytes → ((more : List ℕ) → left_of k more ≡ left_of h (bytes ++ more)) →
-    Keeps (option_map (left_of h) a) (option_map (left_of k) b)
-keeps_taken h k None b bytes c taken = tt
-keeps_taken h k (Some xs) None bytes c taken = absurd c
-keeps_taken h k (Some xs) (Some ys) bytes c taken = taken ys ∙ ap (left_of h) (sym c)
 
 passes_all : (s : Spot) (bytes : List ℕ) → s ≡ Passing → plain_from s bytes ≡ bytes
 unfolding plain_from
@@ -55,11 +38,6 @@ pub passes_map : (h : Held) (a : Option (List ℕ)) → h.ready ≡ [] → h.spo
 passes_map h None ready spot begun = refl
 passes_map h (Some xs) ready spot begun =
     ap (λ (x : List ℕ). Some x) ((λ i. ready i ++ plain_from h.spot (begun i ++ xs)) ∙ passes_all h.spot xs spot)
-
--- where ready bytes are given out
-pub consumes_given : (h k : Held) (a : Option (List ℕ)) (bytes : List ℕ) → ((more : List ℕ) → left_of h more ≡ bytes ++ left_of k more) → Consumes (option_map (left_of h) a) (option_map (left_of k) a) bytes
-consumes_given h k None bytes gives = tt
-consumes_given h k (Some xs) bytes gives = gives xs
 
 pub keeps_read : {E : Type 0} (a b c : Option (List ℕ)) (r : Result ℕ E) (buf : List ℕ) → Keeps a b → ReadConsumes b c r buf → ReadConsumes a c r buf
 keeps_read a b c (Ok n) buf k h = (keeps_consumes a b c (take n buf) k h.0, h.1)
@@ -84,12 +62,3 @@ pub consumes_for : (h k : Held) (a b : Option (List ℕ)) (taken bytes : List �
 consumes_for h k None b taken bytes c gives = tt
 consumes_for h k (Some xs) None taken bytes c gives = absurd c
 consumes_for h k (Some xs) (Some ys) taken bytes c gives = ap (left_of h) c ∙ gives ys
-
-pub consumes_nothing : (a : Option (List ℕ)) → Consumes a a []
-consumes_nothing None = tt
-consumes_nothing (Some xs) = refl
-
-pub keeps_nothing : (a b : Option (List ℕ)) (bytes : List ℕ) → Consumes a b bytes → bytes ≡ [] → Keeps a b
-keeps_nothing None b bytes c e = tt
-keeps_nothing (Some xs) None bytes c e = absurd c
-keeps_nothing (Some xs) (Some ys) bytes c e = sym (c ∙ ap (λ (x : List ℕ). x ++ ys) e)

@@ -1,6 +1,6 @@
 //! What is held between the bytes of a wide spelling and those of the plain one.
-ghost use Rattle.std.specs.Prelude.{◌≡◌, ℕ, ◌+◌, ◌-◌, ◌*◌, ◌^◌, ◌==◌, ◌≤◌, ◌<◌, List, [], ◌∷◌, ◌++◌, length, take, drop, min};
-ghost use Rattle.std.specs.Prelude.{IsTrue, ◌↔◌};
+ghost use Rattle.std.specs.Prelude.{◌≡◌, ℕ, ◌+◌, ◌-◌, ◌*◌, ◌==◌, ◌≤◌, ◌<◌, List, [], ◌∷◌, ◌++◌, length, take, drop, min};
+ghost use Rattle.std.specs.Prelude.{IsTrue, ◌↔◌, ◌⊎◌};
 ghost use Rattle.hunk_words.specs.Longs.{bytes_of};
 ghost use Rattle.hunk_words.specs.PendingBytes.{pending_of};
 ghost use Rattle.hunk_wide.specs.Held.{left_of, owed, reach, straight_of, unit, wanted};
@@ -29,7 +29,7 @@ pub struct Expander {
 }
 
 impl Model for Expander {
-    ghost use Rattle.std.specs.Prelude.{◌≤◌, ◌-◌};
+    ghost use Rattle.std.specs.Prelude.{◌≡◌, ◌≤◌, ◌-◌, ◌⊎◌, []};
     ghost use Rattle.hunk_words.specs.PendingBytes.{pending_of};
     ghost use Rattle.hunk_wide.specs.Held.{Held, unit};
 
@@ -37,7 +37,8 @@ impl Model for Expander {
 
     ghost view = { λ s. record { ready = s.ready; spot = s.spot; begun = pending_of s.begun } };
 
-    ghost invariant = { λ s. s.begun.count ≤ unit s.spot - 1 };
+    ghost invariant = { λ s. (s.begun.count ≤ unit s.spot - 1)
+        × ((s.ready ≡ []) ⊎ (s.begun.count ≡ 0)) };
 }
 
 impl Expander {
@@ -53,10 +54,12 @@ impl Expander {
     }
 
     /// How many bytes are wanted before any can be given out: none where there are some, or where
-    /// all bytes pass.
+    /// all bytes pass. Never more is held than 8 bytes that are ready, and 3 that have come.
     pub fn want(&self) -> usize
         ensures value { result ≡ wanted self.now }
         ensures bound { result ≤ 4 }
+        ensures holds_few { (length self.now.ready ≤ 8) × (length self.now.begun < 4) }
+        ensures one_unit { (self.now.ready ≡ []) ⊎ (self.now.begun ≡ []) }
         ensures passes { result ≡ 0 → self.now.ready ≡ []
             → (self.now.spot ≡ Passing) × (self.now.begun ≡ []) }
     {
@@ -108,7 +111,8 @@ impl Expander {
 
     /// Of the bytes of the piece, if they come next, the first ones that are given out as they are.
     pub fn straight<'a>(&self, piece: &'a [u8]) -> &'a [u8]
-        ensures { result.now ≡ straight_of self.now piece.now }
+        ensures front { result.now ≡ straight_of self.now piece.now }
+        ensures bare { 0 < length result.now → (self.now.ready ≡ []) × (self.now.begun ≡ []) }
     {
         if !self.is_bare() {
             return &piece[..0];
@@ -128,6 +132,7 @@ impl Expander {
         requires { (bytes : List ℕ) → length bytes ≡ count → straight_of self.old bytes ≡ bytes }
         ensures left { (bytes more : List ℕ) → length bytes ≡ count
             → left_of self.old (bytes ++ more) ≡ bytes ++ left_of self.new more }
+        ensures same { (self.new.ready ≡ self.old.ready) × (self.new.begun ≡ self.old.begun) }
         ensures straight { (bytes : List ℕ) → count ≤ length (straight_of self.old bytes)
             → straight_of self.new (drop count bytes) ≡ drop count (straight_of self.old bytes) }
     {
@@ -151,6 +156,7 @@ impl Expander {
     pub fn expand(&mut self, piece: &[u8], buf: &mut [u8]) -> (usize, usize)
         ensures taken { result.0 ≤ length piece.now }
         ensures given { result.1 ≤ length buf.new }
+        ensures bare { 0 < result.1 → (self.new.ready ≡ []) × (self.new.begun ≡ []) }
         ensures left { (more : List ℕ) → left_of self.old (take result.0 piece.now ++ more)
             ≡ take result.1 buf.new ++ left_of self.new more }
     {
@@ -172,6 +178,8 @@ impl Expander {
     /// Gives out as many bytes as are ready and fit, and their number.
     pub fn give(&mut self, buf: &mut [u8]) -> usize
         ensures number { result ≡ min (length self.old.ready) (length buf.old) }
+        ensures rest { result < length buf.new → self.new.ready ≡ [] }
+        ensures begun { self.new.begun ≡ self.old.begun }
         ensures gives { (more : List ℕ) →
             left_of self.old more ≡ take result buf.new ++ left_of self.new more }
     {

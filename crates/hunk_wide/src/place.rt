@@ -1,5 +1,5 @@
 //! Places of the plain spelling, and where they are in a wide one.
-ghost use Rattle.std.specs.Prelude.{◌≡◌, ℕ, ◌+◌, ◌-◌, ◌<◌, ◌≤◌, drop, length, min, IfNone, IfSome};
+ghost use Rattle.std.specs.Prelude.{◌≡◌, ◌+◌, ◌<◌, ◌≤◌, length, min, IfNone, IfSome};
 ghost use Rattle.hunk_grammar.specs.declared.position.Position.TheVariants.{FirstLong};
 ghost use Rattle.hunk_wide.specs.Places.{ComesFrom, count_long, last_place, GoesBy, place_from};
 ghost use Rattle.hunk_wide.specs.declared.spot.Spot.TheVariants.{Filler, Half, Long, Straight};
@@ -20,9 +20,10 @@ struct Unit {
 
 /// Where in a wide spelling the byte `place` of the plain one comes from, both counted from 0.
 ///
-/// It is the first byte of the longword, or of the word of 16 bits, for which that byte is given
-/// out: for an END that is left out, of what comes in its place. Behind the last one it is the end
-/// of the input, or where its last longword begins that is not whole.
+/// Of content, names, debug data and offsets of 32 bits it is just that byte. Else it is the first
+/// byte of the longword, or of the word of 16 bits, for which the byte is given out: for an END
+/// that is left out, of what comes in its place. Behind the last one it is the end of the input, or
+/// where its last longword begins that is not whole.
 pub fn place_in(bytes: &[u8], place: u64) -> u64
     ensures value { result ≡ place_from (Long FirstLong) bytes.now place }
     ensures inside { result ≤ length bytes.now }

@@ -60,6 +60,7 @@ impl<R: Source> Plain<R> {
         ensures bytes { Consumes (supply_of self.old.held (R.supply self.old.source)).left
             (supply_of self.new.held (R.supply self.new.source)).left (take result buf.new) }
         ensures works { (R.supply self.new.source).failed ≡ (R.supply self.old.source).failed }
+        ensures none_ahead { 0 < result → (self.new.held.begun ≡ []) × (self.new.held.ready ≡ []) }
     {
         let (taken, given) = self.held.expand(self.source.held(), buf);
         self.source.consume(taken);
@@ -77,14 +78,16 @@ impl<R: Source> Plain<R> {
             (supply_of self.new.held (R.supply self.new.source)).left) }
         ensures fails { (R.supply self.new.source).failed
             ≡ ((R.supply self.old.source).failed || is_err result) }
+        ensures none_ahead { IfOk result (λ n. 0 < n
+            → (self.new.held.begun ≡ []) × (self.new.held.ready ≡ [])) }
     {
         let most = self.held.straight(buf).len();
         if most == 0 {
             return Ok(0);
         }
-        let count = self.source.pull(&mut buf[..most])?;
-        self.held.pass(count as u64);
-        Ok(count)
+        let pulled = self.source.pull(&mut buf[..most])?;
+        self.held.pass(pulled as u64);
+        Ok(pulled)
     }
 
     /// Pulls bytes that are wanted, at most this many, and gives their number.
@@ -116,6 +119,8 @@ impl<R: Source> Plain<R> {
             (supply_of self.new.held (R.supply self.new.source)).left result buf.new }
         ensures fails { (R.supply self.new.source).failed
             ≡ ((R.supply self.old.source).failed || is_err result) }
+        ensures none_ahead { IfOk result (λ n. (self.new.held.begun ≡ [])
+            × (n < length buf.new → self.new.held.ready ≡ [])) }
     {
         'filling: loop {
             let want = self.held.want();
@@ -136,7 +141,17 @@ impl<R: Source> Source for Plain<R> {
 
     ghost shown = { λ s. straight_of s.held (R.shown s.source) };
 
-    fn pull(&mut self, buf: &mut [u8]) -> Result<usize, Failed> {
+    fn pull(&mut self, buf: &mut [u8]) -> Result<usize, Failed>
+        ensures inside { ReadsAtMost result buf.new }
+        ensures bytes { ReadConsumes (supply_of self.old.held (R.supply self.old.source)).left
+            (supply_of self.new.held (R.supply self.new.source)).left result buf.new }
+        ensures fails { (R.supply self.new.source).failed
+            ≡ ((R.supply self.old.source).failed || is_err result) }
+
+        // No part of a further unit is held, and of the last one nothing that fitted.
+        ensures none_ahead { IfOk result (λ n. 0 < n → (self.new.held.begun ≡ [])
+            × (n < length buf.new → self.new.held.ready ≡ [])) }
+    {
         if buf.is_empty() {
             return Ok(0);
         }

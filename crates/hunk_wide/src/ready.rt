@@ -1,5 +1,5 @@
 //! Bytes that are ready to be given out.
-ghost use Rattle.std.specs.Prelude.{◌≡◌, ◌==◌, ◌≤◌, [], ◌∷◌, ◌++◌, length, take};
+ghost use Rattle.std.specs.Prelude.{◌≡◌, ◌==◌, ◌≤◌, ◌<◌, [], ◌∷◌, ◌++◌, length, take};
 ghost use Rattle.std.specs.Prelude.{min};
 
 use std::marker::Model;
@@ -92,9 +92,10 @@ impl Ready {
         }
     }
 
-    /// Whether there is none.
+    /// Whether there is none. There are never more than 8.
     pub(crate) fn is_empty(&self) -> bool
-        ensures { result ≡ (length self.now == 0) }
+        ensures value { result ≡ (length self.now == 0) }
+        ensures few { length self.now ≤ 8 }
     {
         self.from == self.to
     }
@@ -102,6 +103,7 @@ impl Ready {
     /// Gives out as many as fit, and their number.
     pub(crate) fn give(&mut self, buf: &mut [u8]) -> usize
         ensures number { result ≡ min (length self.old) (length buf.old) }
+        ensures rest { result < length buf.new → self.new ≡ [] }
         ensures gives { self.old ≡ take result buf.new ++ self.new }
     {
         let count = buf.len().min(self.to - self.from);

@@ -1,5 +1,5 @@
 //! What the next bytes of a wide spelling are for.
-ghost use Rattle.std.specs.Prelude.{◌≡◌, ◌≤◌, ◌+◌, ◌<◌, ◌^◌};
+ghost use Rattle.std.specs.Prelude.{◌≡◌, ◌≤◌, ◌+◌, ◌^◌};
 ghost use Rattle.hunk_wide.specs.Halves.{behind_half, behind_offsets, flipped};
 ghost use Rattle.hunk_wide.specs.Longwords.{after_straight, behind_block, behind_long, behind_same};
 ghost use Rattle.hunk_wide.specs.Longwords.{behind_straight};

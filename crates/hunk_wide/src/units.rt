@@ -1,5 +1,5 @@
 //! Bytes of a wide spelling that lie in a piece, given out into a buffer.
-ghost use Rattle.std.specs.Prelude.{◌≡◌, ◌≤◌, ◌*◌, ◌/◌, ℕ, length, take};
+ghost use Rattle.std.specs.Prelude.{◌≡◌, ◌≤◌, ◌*◌, ◌/◌, length, take};
 ghost use Rattle.std.specs.Int.{from_be_bytes, w32};
 ghost use Rattle.hunk_wide.specs.Halves.{widened};
 ghost use Rattle.hunk_wide.specs.Longwords.{out_long};

@@ -1,4 +1,4 @@
-use Rattle.std.proofs.Common.{◌≡◌, ℕ, List, ◌++◌, drop, sym, ap, subst, ◌∙◌, arith}
+use Rattle.std.proofs.Common.{◌≡◌, ℕ, List, ◌++◌, drop, refl, sym, ap, subst, ◌∙◌, arith}
 use Rattle.hunk_words.specs.PendingBytes.{pending_of}
 use Rattle.hunk_wide.specs.declared.spot.Spot.{Spot}
 use Rattle.hunk_wide.specs.declared.spot.Spot.TheVariants.{Straight}
@@ -39,5 +39,6 @@ returns-in_default c =
     let i = is_passing c.args.self.now c.args.count (λ owed next e. c.in_default.not-Straight owed next (ap (λ (h : Held). h.spot) c.self.view_is ∙ e)) c.if-count-eq0.false c.requires in
     record {
       left = λ bytes more l. passing_left c.args.self.now bytes more i;
+      same = (refl, refl);
       straight = λ bytes fits. passing_straight c.args.self.now bytes c.args.count i;
     }
