@@ -1,4 +1,4 @@
-//! Tests of hunk_vectors, by its public calls.
+//! Tests of hunk_vectors and hunk_wide, by their public calls.
 #![tactic(auto)]
 
 #[cfg(test)]

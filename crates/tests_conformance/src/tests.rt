@@ -6,6 +6,7 @@ mod cuts;
 mod objects;
 mod readings;
 mod whole;
+mod wide;
 
 use crate::tests::asserts::assert_equal;
 use std::process::Abort;

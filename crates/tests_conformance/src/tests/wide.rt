@@ -1,0 +1,105 @@
+//! Wide spellings beside the plain ones, which were worked out by hand.
+
+mod loads;
+mod many;
+mod rows;
+
+use crate::tests::asserts::assert_equal_at;
+use hunk_wide::{Expander, Plain};
+use hunk_words::{Failed, FromSlice, Source};
+use std::alloc::{AllocError, Global};
+use std::fmt::Debug;
+use std::process::Abort;
+use std::test::Fail;
+use test_helpers::{Fed, Then};
+
+/// The bytes that the text spells: by a number of 2 digits one, by one of 4 digits two, and by others a longword. `/`
+/// only separates.
+fn digits(alloc: Global, text: &str) -> Result<Vec<u8>, AllocError> {
+    let mut bytes = Vec::new(alloc);
+    for number in text.split(' ') {
+        if let Ok(long) = u32::from_str_radix(number, 16) {
+            let first = match number.len() {
+                2 => 3,
+                4 => 2,
+                _ => 0,
+            };
+            bytes.extend_from_slice(&long.to_be_bytes()[first..])?;
+        }
+    }
+    Ok(bytes)
+}
+
+/// What a pull into the first bytes of the buffer answers. Proofs of its callers are short, since it promises little.
+fn pulled<R: Source>(source: &mut R, buf: &mut [u8], size: usize) -> Result<usize, Failed> {
+    let most = size.min(buf.len());
+    source.pull(&mut buf[..most])
+}
+
+/// What so many pulls of at most `size` bytes give.
+fn read_by<R: Source + Drop>(
+    alloc: Global,
+    mut source: R,
+    pulls: usize,
+    size: usize,
+) -> Result<Vec<u8>, Fail> {
+    let mut bytes = Vec::new(alloc);
+    let mut buf = [0; 64];
+    for _ in 0..pulls {
+        let count = pulled(&mut source, &mut buf, size)?;
+        bytes.extend_from_slice(&buf[..count.min(64)])?;
+    }
+    Ok(bytes)
+}
+
+/// What is given out for a byte, or for none where no more come.
+fn push_given(
+    held: &mut Expander,
+    byte: Option<u8>,
+    plain: &mut Vec<u8>,
+) -> Result<(), AllocError> {
+    let mut buf = [0; 8];
+    match byte {
+        Some(byte) if held.want() > 0 => held.take(&[byte]),
+        Some(byte) => plain.push(byte)?,
+        None if held.is_empty() => held.end(),
+        None => {}
+    }
+    let count = held.give(&mut buf);
+    plain.extend_from_slice(&buf[..count])?;
+    Ok(())
+}
+
+/// The plain spelling by an `Expander`, to which one byte is pushed at a time.
+fn expanded(alloc: Global, wide: &[u8]) -> Result<Vec<u8>, AllocError> {
+    let mut plain = Vec::new(alloc);
+    let mut held = Expander::new();
+    for byte in wide {
+        push_given(&mut held, Some(*byte), &mut plain)?;
+    }
+    push_given(&mut held, None, &mut plain)?;
+    Ok(plain)
+}
+
+/// Sees that these bytes have that plain spelling: held whole, in pieces of 1 and of 7 bytes, and pushed.
+///
+/// One more pull than there are bytes to come sees the end.
+fn expect_plain<C: Copy + Debug + Drop>(
+    rt: &impl Abort,
+    alloc: Global,
+    wide: &[u8],
+    plain: &[u8],
+    case: C,
+) -> Result<(), Fail> {
+    let pulls = plain.len().saturating_add(1);
+    let whole = read_by(alloc, Plain::new(FromSlice::new(wide)), pulls, 64)?;
+    assert_equal_at(rt, whole.as_slice(), plain, (case, "whole"));
+    for (most, size) in [(1, 64), (7, 3)] {
+        let pieces = Plain::new(Fed::new(wide, most, Then::Ends));
+        let got = read_by(alloc, pieces, pulls, size)?;
+        assert_equal_at(rt, got.as_slice(), plain, (case, most));
+    }
+    let pushed = expanded(alloc, wide)?;
+    assert_equal_at(rt, pushed.as_slice(), plain, (case, "pushed"));
+    Ok(())
+}
