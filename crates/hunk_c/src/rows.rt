@@ -161,6 +161,7 @@ fn write_object_rows<R: CountedRow>(bytes: &[u8], file: &FileView<'_>, rows: &mu
 /// Writes the rows of the file that the bytes are, or begin with.
 ///
 /// They are counted before, but where the caller has room for as many as the file may have.
+#[inline(never)]
 fn write_rows<R: CountedRow>(bytes: &[u8], file: &FileView<'_>, rows: &mut [R]) -> Answer
     requires file { IsFileOf bytes.now (file_of file.now) }
     requires small { length rows.old < 2 ^ 63 }

@@ -33,6 +33,7 @@ pub extern "C" fn hunk_strip(bytes: &[u8], text: &mut [u8]) -> Answer
 
 /// How many bytes the file, which has `size` of them, has without those blocks, where there is no
 /// room for as many.
+#[inline(never)]
 fn lacked(file: &FileView<'_>, size: u64, room: u64) -> Option<u64>
     requires size { size ≡ length (file_bytes (file_of file.now)) }
     ensures fits { IfNone result (length (stripped_bytes (file_of file.now)) ≤ room) }
@@ -62,6 +63,7 @@ fn count_stripped(file: &FileView<'_>) -> u64
 
 /// Writes the file without those blocks to the front of the text, and gives the number of its
 /// bytes. The text after them is as it was.
+#[inline(never)]
 #[tactic(auto, using(crate::proofs::Tabulated::copied))]
 fn copy_stripped(file: &FileView<'_>, text: &mut [u8]) -> usize
     requires { length (stripped_bytes (file_of file.now)) ≤ length text.old }

@@ -3,7 +3,7 @@ ghost use Rattle.std.specs.Prelude.{IfSome};
 ghost use Rattle.hunk_words.specs.Longs.{longs};
 ghost use Rattle.hunk_files.specs.Passing.{HasHeaderFront, IsFirstPlace, IsFrontPassed};
 
-use crate::load::passing::{BlockPlace, after_rows, pass_blocks};
+use crate::load::passing::{BlockPlace, after_rows};
 use crate::load::walk::DeclaredHunk;
 use hunk_grammar::{OpenHunk, Position, TABLE_AT, TABLE_SIZE_AT};
 use hunk_words::word_at;
@@ -58,15 +58,14 @@ fn first_place(bytes: &[u8]) -> Option<BlockPlace>
     })
 }
 
-/// The longword after what is passed over at once from the start on, and the position and the entry
-/// of the open hunk there: the header and the blocks after it, where it is whole and nothing of it is
-/// refused.
+/// The longword after the header, and the position and the entry of the open hunk there, where it is
+/// whole and nothing of it is refused; else the start.
 #[inline(always)]
 pub(super) fn pass_front(bytes: &[u8]) -> (usize, Position, DeclaredHunk)
     ensures { IsFrontPassed (longs bytes.now) result.0 result.1 result.2 }
 {
     if let Some(first) = first_place(bytes) {
-        return pass_blocks(bytes, first);
+        return (first.at, first.position(), first.entry);
     }
     let entry = DeclaredHunk {
         longs: 0,

@@ -35,7 +35,7 @@ impl BlockPlace {
 
     /// The position here.
     #[inline(always)]
-    fn position(self) -> Position
+    pub(super) fn position(self) -> Position
         ensures { result ≡ position_at self }
     {
         if self.begun {
@@ -88,7 +88,7 @@ pub(super) fn pass_over(
 
 /// The same, from a place between two blocks on.
 #[inline(always)]
-pub(super) fn pass_blocks(bytes: &[u8], from: BlockPlace) -> (usize, Position, DeclaredHunk)
+fn pass_blocks(bytes: &[u8], from: BlockPlace) -> (usize, Position, DeclaredHunk)
     ensures { IsPassed (longs bytes.now) from.at (position_at from) from.entry
         result.0 result.1 result.2 }
 {
