@@ -11,6 +11,7 @@ use Rattle.hunk_grammar.specs.declared.phase.Phase.TheVariants as phases
 use Rattle.hunk_grammar.specs.declared.position.OpenHunk.{OpenHunk}
 use Rattle.hunk_grammar.specs.declared.position.Position.{Position}
 use Rattle.hunk_grammar.specs.declared.position.Position.TheVariants as positions
+use Rattle.hunk_wide.specs.declared.position.FilePosition.TheVariants as files
 use Rattle.hunk_grammar.specs.Positions.{role_at, step}
 use Rattle.hunk_grammar.specs.Roles.{refuse, refuse_kind, refuse_word, Role as roles}
 use Rattle.hunk_files.specs.{LoadFile.{LoadFileValue, IsLoadFile}, LoadText.{labelled, text}}
@@ -20,7 +21,7 @@ use Rattle.hunk_wide.specs.declared.spot.Spot.{Spot}
 use Rattle.hunk_wide.specs.declared.spot.Spot.TheVariants.{Long}
 use Rattle.hunk_wide.specs.declared.spot.Given.{Given}
 use Rattle.hunk_wide.specs.declared.spot.Given.TheVariants.{Same, BehindEnd}
-use Rattle.hunk_wide.specs.Longwords.{behind_block, behind_long, given, given_block, given_kind, go_on, out_long}
+use Rattle.hunk_wide.specs.Longwords.{behind_block, behind_load, given, given_block, given_kind, go_on, out_long}
 use Rattle.hunk_wide.specs.Plain.{plain, plain_from}
 use Rattle.hunk_wide.proofs.{Straight.straight_goes, Cells.long_cells}
 
@@ -44,7 +45,7 @@ word_same o w = go (has_both_bits w)
     go false h = kind_same o (is_advisory w) (kind w) h
 
 -- What is not refused is given out as it is.
-given_same : (longs : ℕ) (p : Position) (w : ℕ) → refuse (role_at longs p) w ≡ None → given p w ≡ Same
+given_same : (longs : ℕ) (p : Position) (w : ℕ) → refuse (role_at longs p) w ≡ None → given (files.Load p) w ≡ Same
 given_same longs (positions.Body o phases.FirstBlock) w h = word_same o w h
 given_same longs (positions.Body o phases.BlockWord) w h = word_same o w h
 given_same longs (positions.Body o _) w h = refl
@@ -53,7 +54,7 @@ given_same longs _ w h = refl
 header_is : (w : ℕ) → refuse roles.FirstLong w ≡ None → eqb w 0x3F3 ≡ true
 header_is w h = search rules
 
-step_same : (longs : ℕ) (p : Position) (w : ℕ) → refuse (role_at longs p) w ≡ None → behind_long p w ≡ go_on (step p w)
+step_same : (longs : ℕ) (p : Position) (w : ℕ) → refuse (role_at longs p) w ≡ None → behind_load p w ≡ go_on (files.Load (step p w))
 step_same longs positions.FirstLong w h = rw (header_is w h) refl
 step_same longs (positions.Body o phases.FirstBlock) w h = ap (λ (g : Given). behind_block g o phases.FirstBlock w) (word_same o w h)
 step_same longs (positions.Body o phases.BlockWord) w h = ap (λ (g : Given). behind_block g o phases.BlockWord w) (word_same o w h)
@@ -61,13 +62,13 @@ step_same longs (positions.Body o _) w h = refl
 step_same longs _ w h = refl
 
 long_same : (longs : ℕ) (p : Position) (w : ℕ) (more : List ℕ) → w < 2 ^ 32 → refuse (role_at longs p) w ≡ None →
-    plain_from (Long p) (to_be_bytes w32 w ++ more) ≡ to_be_bytes w32 w ++ plain_from (go_on (step p w)) more
+    plain_from (Long (files.Load p)) (to_be_bytes w32 w ++ more) ≡ to_be_bytes w32 w ++ plain_from (go_on (files.Load (step p w))) more
 long_same longs p w more fits h =
-    long_cells p w more fits
+    long_cells (files.Load p) w more fits
     ∙ ap₂ (λ (g : Given) (s : Spot). out_long g (to_be_bytes w32 w) w ++ plain_from s more) (given_same longs p w h) (step_same longs p w h)
 
 pub one_long : (longs : ℕ) (p : Position) (w : ℕ) (more : List ℕ) → w < 2 ^ 32 → refuse (role_at longs p) w ≡ None →
-    plain_from (go_on p) (to_be_bytes w32 w ++ more) ≡ to_be_bytes w32 w ++ plain_from (go_on (step p w)) more
+    plain_from (go_on (files.Load p)) (to_be_bytes w32 w ++ more) ≡ to_be_bytes w32 w ++ plain_from (go_on (files.Load (step p w))) more
 unfolding plain_from
 one_long longs positions.Done w more fits h = refl
 one_long longs (positions.Body o (phases.Content l owed)) w more fits h = straight_goes o (phases.Content l owed) w more (omega arith)
@@ -81,9 +82,9 @@ one_long longs p w more fits h = long_same longs p w more fits h
 
 -- The longwords of a text are given out as they are.
 pub along_plain : (p q : Position) (ls : Labelled) (more : List ℕ) → GoesAlong refuse_in_load refuse step p ls q → AreAccepted ls →
-    plain_from (go_on p) (bytes_of (words ls) ++ more) ≡ bytes_of (words ls) ++ plain_from (go_on q) more
+    plain_from (go_on (files.Load p)) (bytes_of (words ls) ++ more) ≡ bytes_of (words ls) ++ plain_from (go_on (files.Load q)) more
 unfolding bytes_of
-along_plain p q [] more h ok = ap (λ (x : Position). plain_from (go_on x) more) h
+along_plain p q [] more h ok = ap (λ (x : Position). plain_from (go_on (files.Load x)) more) h
 along_plain p q (l ∷ ls) more h ok =
     one_long (longs_of l.0) p l.1 (bytes_of (words ls) ++ more) ok.0.0 (h.0 l.1 ∙ ok.0.1)
     ∙ ap (λ (x : List ℕ). to_be_bytes w32 l.1 ++ x) (along_plain (step p l.1) q ls more h.1 ok.1)

@@ -1,7 +1,7 @@
 -- Offsets of a short block, many at once.
 use Rattle.std.proofs.Common.{◌≡◌, ℕ, zero, suc, ◌+◌, ◌-◌, ◌*◌, ◌/◌, ◌%◌, ◌≤◌, Bool, true, false, not, List, [], ◌∷◌, ◌++◌, length, take, get_or, refl, sym, ap, ap₂, ◌∙◌, arith}
 use Rattle.std.proofs.lemmas.List.{length-take}
-use Rattle.hunk_grammar.specs.declared.position.OpenHunk.{OpenHunk}
+use Rattle.hunk_wide.specs.declared.position.FilePosition.{FilePosition}
 use Rattle.hunk_wide.specs.declared.spot.ShortPart.TheVariants.{Count, Offset}
 use Rattle.hunk_wide.specs.declared.spot.Spot.{Spot}
 use Rattle.hunk_wide.specs.declared.spot.Spot.TheVariants.{Half}
@@ -23,38 +23,38 @@ flipped_odd odd zero h = absurd (h refl)
 flipped_odd odd (suc zero) h = refl
 flipped_odd odd (suc (suc count)) h = flipped_odd (not (not odd)) count (λ e. h (omega arith)) ∙ ap not (not_not odd)
 
-pub behind_some : (o : OpenHunk) (owed count : ℕ) (odd : Bool) → count ≤ owed → behind_offsets o owed odd count ≡ Half o (Offset (owed - count)) (flipped odd count)
-behind_some o owed zero odd h = let e : owed ≡ owed - 0 = omega arith in ap (λ (n : ℕ). Half o (Offset n) odd) e
-behind_some o zero (suc count) odd h = absurd (omega arith)
-behind_some o (suc owed) (suc count) odd h =
+pub behind_some : (after : FilePosition) (owed count : ℕ) (odd : Bool) → count ≤ owed → behind_offsets after owed odd count ≡ Half after (Offset (owed - count)) (flipped odd count)
+behind_some after owed zero odd h = let e : owed ≡ owed - 0 = omega arith in ap (λ (n : ℕ). Half after (Offset n) odd) e
+behind_some after zero (suc count) odd h = absurd (omega arith)
+behind_some after (suc owed) (suc count) odd h =
     let e : owed - count ≡ suc owed - suc count = omega arith in
-    behind_some o owed count (not odd) (omega arith) ∙ ap (λ (n : ℕ). Half o (Offset n) (flipped (not odd) count)) e
+    behind_some after owed count (not odd) (omega arith) ∙ ap (λ (n : ℕ). Half after (Offset n) (flipped (not odd) count)) e
 
-pub behind_all : (o : OpenHunk) (owed count : ℕ) (odd : Bool) → count ≡ owed + 1 → behind_offsets o owed odd count ≡ Half o Count (flipped odd count)
-behind_all o owed zero odd h = absurd (omega arith)
-behind_all o zero (suc zero) odd h = refl
-behind_all o zero (suc (suc count)) odd h = absurd (omega arith)
-behind_all o (suc owed) (suc count) odd h = behind_all o owed count (not odd) (omega arith)
+pub behind_all : (after : FilePosition) (owed count : ℕ) (odd : Bool) → count ≡ owed + 1 → behind_offsets after owed odd count ≡ Half after Count (flipped odd count)
+behind_all after owed zero odd h = absurd (omega arith)
+behind_all after zero (suc zero) odd h = refl
+behind_all after zero (suc (suc count)) odd h = absurd (omega arith)
+behind_all after (suc owed) (suc count) odd h = behind_all after owed count (not odd) (omega arith)
 
 -- ---- what is given out for them
 
-offsets_give : (o : OpenHunk) (owed count : ℕ) (odd : Bool) (halves : List ℕ) → length halves ≡ 2 * count → count ≤ suc owed → GivesFor (Half o (Offset owed) odd) halves (widened halves) (behind_offsets o owed odd count)
+offsets_give : (after : FilePosition) (owed count : ℕ) (odd : Bool) (halves : List ℕ) → length halves ≡ 2 * count → count ≤ suc owed → GivesFor (Half after (Offset owed) odd) halves (widened halves) (behind_offsets after owed odd count)
 unfolding plain_from
-offsets_give o owed zero odd [] l h more = refl
-offsets_give o owed zero odd (a ∷ halves) l h more = absurd (omega arith)
-offsets_give o owed (suc count) odd [] l h more = absurd (omega arith)
-offsets_give o owed (suc count) odd (a ∷ []) l h more = absurd (omega arith)
-offsets_give o zero (suc zero) odd (a ∷ b ∷ []) l h more = refl
-offsets_give o zero (suc zero) odd (a ∷ b ∷ c ∷ halves) l h more = absurd (omega arith)
-offsets_give o zero (suc (suc count)) odd (a ∷ b ∷ halves) l h more = absurd (omega arith)
-offsets_give o (suc owed) (suc count) odd (a ∷ b ∷ halves) l h more =
-    ap (λ (x : List ℕ). 0 ∷ 0 ∷ a ∷ b ∷ x) (offsets_give o owed count (not odd) halves (omega (arith, l)) (omega arith) more)
+offsets_give after owed zero odd [] l h more = refl
+offsets_give after owed zero odd (a ∷ halves) l h more = absurd (omega arith)
+offsets_give after owed (suc count) odd [] l h more = absurd (omega arith)
+offsets_give after owed (suc count) odd (a ∷ []) l h more = absurd (omega arith)
+offsets_give after zero (suc zero) odd (a ∷ b ∷ []) l h more = refl
+offsets_give after zero (suc zero) odd (a ∷ b ∷ c ∷ halves) l h more = absurd (omega arith)
+offsets_give after zero (suc (suc count)) odd (a ∷ b ∷ halves) l h more = absurd (omega arith)
+offsets_give after (suc owed) (suc count) odd (a ∷ b ∷ halves) l h more =
+    ap (λ (x : List ℕ). 0 ∷ 0 ∷ a ∷ b ∷ x) (offsets_give after owed count (not odd) halves (omega (arith, l)) (omega arith) more)
 
 -- Those at the front of a piece, where they are written at the front of a buffer.
-pub offsets_there : (o : OpenHunk) (owed count : ℕ) (odd : Bool) (next : Spot) (piece out : List ℕ) → 2 * count ≤ length piece → count ≤ suc owed → out ≡ widened (take (2 * count) piece) → next ≡ behind_offsets o owed odd count
-    → GivesFor (Half o (Offset owed) odd) (take (2 * count) piece) out next
-offsets_there o owed count odd next piece out whole most e b more =
-    offsets_give o owed count odd (take (2 * count) piece) (omega (arith, length-take (2 * count) piece)) most more
+pub offsets_there : (after : FilePosition) (owed count : ℕ) (odd : Bool) (next : Spot) (piece out : List ℕ) → 2 * count ≤ length piece → count ≤ suc owed → out ≡ widened (take (2 * count) piece) → next ≡ behind_offsets after owed odd count
+    → GivesFor (Half after (Offset owed) odd) (take (2 * count) piece) out next
+offsets_there after owed count odd next piece out whole most e b more =
+    offsets_give after owed count odd (take (2 * count) piece) (omega (arith, length-take (2 * count) piece)) most more
     ∙ ap₂ (λ (x : List ℕ) (s : Spot). x ++ plain_from s more) (sym e) (sym b)
 
 -- ---- one more that is widened

@@ -2,10 +2,7 @@
 use Rattle.std.proofs.Common.{◌≡◌, ℕ, zero, suc, ◌+◌, ◌-◌, ◌<◌, ◌≤◌, Bool, true, false, cond, ltb, List, [], ◌∷◌, ◌++◌, ◌⊎◌, inl, inr, length, take, drop, min, get_or, length-append, refl, sym, ap, subst, ◌∙◌, append_assoc, arith}
 use Rattle.std.specs.Int.{from_be_bytes, w32}
 use Rattle.std.proofs.lemmas.{Bool.{eq-eqb, le-ltb, lt-ltb, ltb-false, ne_eqb}, List.length-take}
-use Rattle.hunk_grammar.specs.declared.phase.Phase.TheVariants as phases
-use Rattle.hunk_grammar.specs.declared.position.OpenHunk.{OpenHunk}
-use Rattle.hunk_grammar.specs.declared.position.Position.{Position}
-use Rattle.hunk_grammar.specs.declared.position.Position.TheVariants as positions
+use Rattle.hunk_wide.specs.declared.position.FilePosition.{FilePosition}
 use Rattle.hunk_wide.specs.declared.spot.ShortPart.{ShortPart}
 use Rattle.hunk_wide.specs.declared.spot.Spot.{Spot}
 use Rattle.hunk_wide.specs.declared.spot.Spot.TheVariants.{Passing, Straight, Long, Half, Filler}
@@ -24,36 +21,36 @@ front_word bytes = from_be_bytes w32 (get_or bytes 0 0 ∷ get_or bytes 1 0 ∷ 
 abbrev pub front_half : List ℕ → ℕ
 front_half bytes = half_of (get_or bytes 0 0) (get_or bytes 1 0)
 
-pub long_in_front : (p : Position) (bytes : List ℕ) (n : ℕ) → 4 ≤ length bytes → GoesBy (Long p) bytes n 4 (count_long (given p (front_word bytes))) (behind_long p (front_word bytes))
+pub long_in_front : (p : FilePosition) (bytes : List ℕ) (n : ℕ) → 4 ≤ length bytes → GoesBy (Long p) bytes n 4 (count_long (given p (front_word bytes))) (behind_long p (front_word bytes))
 unfolding place_from
 long_in_front p (a ∷ b ∷ c ∷ d ∷ rest) n whole = record { some = omega arith; whole = whole; goes = refl }
 long_in_front p _ n whole = absurd (omega arith)
 
-pub half_in_front : (o : OpenHunk) (part : ShortPart) (odd : Bool) (bytes : List ℕ) (n : ℕ) → 2 ≤ length bytes → GoesBy (Half o part odd) bytes n 2 4 (behind_half o part odd (front_half bytes))
+pub half_in_front : (after : FilePosition) (part : ShortPart) (odd : Bool) (bytes : List ℕ) (n : ℕ) → 2 ≤ length bytes → GoesBy (Half after part odd) bytes n 2 4 (behind_half after part odd (front_half bytes))
 unfolding place_from
-half_in_front o part odd (a ∷ b ∷ rest) n whole = record { some = omega arith; whole = whole; goes = refl }
-half_in_front o part odd _ n whole = absurd (omega arith)
+half_in_front after part odd (a ∷ b ∷ rest) n whole = record { some = omega arith; whole = whole; goes = refl }
+half_in_front after part odd _ n whole = absurd (omega arith)
 
-filler_in_front : (o : OpenHunk) (bytes : List ℕ) (n : ℕ) → 2 ≤ length bytes → GoesBy (Filler o) bytes n 2 (length (out_filler (get_or bytes 0 0) (get_or bytes 1 0))) (behind_filler o (get_or bytes 0 0) (get_or bytes 1 0))
+filler_in_front : (after : FilePosition) (bytes : List ℕ) (n : ℕ) → 2 ≤ length bytes → GoesBy (Filler after) bytes n 2 (length (out_filler (get_or bytes 0 0) (get_or bytes 1 0))) (behind_filler after (get_or bytes 0 0) (get_or bytes 1 0))
 unfolding place_from
-filler_in_front o (a ∷ b ∷ rest) n whole = record { some = omega arith; whole = whole; goes = refl }
-filler_in_front o _ n whole = absurd (omega arith)
+filler_in_front after (a ∷ b ∷ rest) n whole = record { some = omega arith; whole = whole; goes = refl }
+filler_in_front after _ n whole = absurd (omega arith)
 
-pub zero_in_front : (o : OpenHunk) (bytes : List ℕ) (n : ℕ) → 2 ≤ length bytes → front_half bytes ≡ 0 → GoesBy (Filler o) bytes n 2 0 (Long (positions.Body o phases.BlockWord))
-zero_in_front o bytes n whole e =
-    subst (λ (b : Bool). GoesBy (Filler o) bytes n 2 (length (cond b [] (0 ∷ 0 ∷ 3 ∷ 252 ∷ get_or bytes 0 0 ∷ get_or bytes 1 0 ∷ []))) (cond b (Long (positions.Body o phases.BlockWord)) Passing))
-    (eq-eqb (front_half bytes) 0 e) (filler_in_front o bytes n whole)
+pub zero_in_front : (after : FilePosition) (bytes : List ℕ) (n : ℕ) → 2 ≤ length bytes → front_half bytes ≡ 0 → GoesBy (Filler after) bytes n 2 0 (Long after)
+zero_in_front after bytes n whole e =
+    subst (λ (b : Bool). GoesBy (Filler after) bytes n 2 (length (cond b [] (0 ∷ 0 ∷ 3 ∷ 252 ∷ get_or bytes 0 0 ∷ get_or bytes 1 0 ∷ []))) (cond b (Long after) Passing))
+    (eq-eqb (front_half bytes) 0 e) (filler_in_front after bytes n whole)
 
-pub other_in_front : (o : OpenHunk) (bytes : List ℕ) (n : ℕ) → 2 ≤ length bytes → (front_half bytes ≡ 0 → ⊥) → GoesBy (Filler o) bytes n 2 6 Passing
-other_in_front o bytes n whole e =
-    subst (λ (b : Bool). GoesBy (Filler o) bytes n 2 (length (cond b [] (0 ∷ 0 ∷ 3 ∷ 252 ∷ get_or bytes 0 0 ∷ get_or bytes 1 0 ∷ []))) (cond b (Long (positions.Body o phases.BlockWord)) Passing))
-    (ne_eqb (front_half bytes) 0 e) (filler_in_front o bytes n whole)
+pub other_in_front : (after : FilePosition) (bytes : List ℕ) (n : ℕ) → 2 ≤ length bytes → (front_half bytes ≡ 0 → ⊥) → GoesBy (Filler after) bytes n 2 6 Passing
+other_in_front after bytes n whole e =
+    subst (λ (b : Bool). GoesBy (Filler after) bytes n 2 (length (cond b [] (0 ∷ 0 ∷ 3 ∷ 252 ∷ get_or bytes 0 0 ∷ get_or bytes 1 0 ∷ []))) (cond b (Long after) Passing))
+    (ne_eqb (front_half bytes) 0 e) (filler_in_front after bytes n whole)
 
 here_past : (n later : ℕ) → 0 < n → here_or 1 1 n later ≡ 1 + later
 here_past n later some = ap (λ (b : Bool). cond b 0 (1 + later)) (le-ltb n 1 (omega arith))
 
 -- all of the bytes that are given out as they are
-straight_place : (owed : ℕ) (next : Position) (bytes : List ℕ) (n : ℕ) → owed < n → owed < length bytes → place_from (Straight owed next) bytes n ≡ suc owed + place_from (Long next) (drop (suc owed) bytes) (n - suc owed)
+straight_place : (owed : ℕ) (next : FilePosition) (bytes : List ℕ) (n : ℕ) → owed < n → owed < length bytes → place_from (Straight owed next) bytes n ≡ suc owed + place_from (Long next) (drop (suc owed) bytes) (n - suc owed)
 unfolding place_from
 straight_place owed next [] n past whole = absurd (omega arith)
 straight_place zero next (b ∷ rest) n past whole = here_past n _ past
@@ -64,7 +61,7 @@ straight_place (suc owed) next (b ∷ rest) n past whole =
     let same = ap (place_from (Long next) (drop (suc owed) rest)) less in
     omega (arith, one, more, same)
 
-pub straight_in_front : (owed : ℕ) (next : Position) (bytes : List ℕ) (n : ℕ) → owed < n → owed < length bytes → GoesBy (Straight owed next) bytes n (suc owed) (suc owed) (Long next)
+pub straight_in_front : (owed : ℕ) (next : FilePosition) (bytes : List ℕ) (n : ℕ) → owed < n → owed < length bytes → GoesBy (Straight owed next) bytes n (suc owed) (suc owed) (Long next)
 straight_in_front owed next bytes n past whole = record {
   some = omega arith;
   whole = omega arith;
@@ -75,7 +72,7 @@ straight_in_front owed next bytes n past whole = record {
 
 -- ---- no whole unit
 
-pub long_few : (p : Position) (bytes : List ℕ) (n : ℕ) → length bytes < 4 → place_from (Long p) bytes n ≡ 0
+pub long_few : (p : FilePosition) (bytes : List ℕ) (n : ℕ) → length bytes < 4 → place_from (Long p) bytes n ≡ 0
 unfolding place_from
 long_few p [] n few = refl
 long_few p (a ∷ []) n few = refl
@@ -83,20 +80,20 @@ long_few p (a ∷ b ∷ []) n few = refl
 long_few p (a ∷ b ∷ c ∷ []) n few = refl
 long_few p (a ∷ b ∷ c ∷ d ∷ rest) n few = absurd (omega arith)
 
-pub half_few : (o : OpenHunk) (part : ShortPart) (odd : Bool) (bytes : List ℕ) (n : ℕ) → length bytes < 2 → place_from (Half o part odd) bytes n ≡ 0
+pub half_few : (after : FilePosition) (part : ShortPart) (odd : Bool) (bytes : List ℕ) (n : ℕ) → length bytes < 2 → place_from (Half after part odd) bytes n ≡ 0
 unfolding place_from
-half_few o part odd [] n few = refl
-half_few o part odd (a ∷ []) n few = refl
-half_few o part odd (a ∷ b ∷ rest) n few = absurd (omega arith)
+half_few after part odd [] n few = refl
+half_few after part odd (a ∷ []) n few = refl
+half_few after part odd (a ∷ b ∷ rest) n few = absurd (omega arith)
 
-pub filler_few : (o : OpenHunk) (bytes : List ℕ) (n : ℕ) → length bytes < 2 → place_from (Filler o) bytes n ≡ 0
+pub filler_few : (after : FilePosition) (bytes : List ℕ) (n : ℕ) → length bytes < 2 → place_from (Filler after) bytes n ≡ 0
 unfolding place_from
-filler_few o [] n few = refl
-filler_few o (a ∷ []) n few = refl
-filler_few o (a ∷ b ∷ rest) n few = absurd (omega arith)
+filler_few after [] n few = refl
+filler_few after (a ∷ []) n few = refl
+filler_few after (a ∷ b ∷ rest) n few = absurd (omega arith)
 
 -- a byte in them, or where they are not whole
-pub straight_few : (owed : ℕ) (next : Position) (bytes : List ℕ) (n : ℕ) → (n ≤ owed) ⊎ (length bytes ≤ owed) → place_from (Straight owed next) bytes n ≡ min n (length bytes)
+pub straight_few : (owed : ℕ) (next : FilePosition) (bytes : List ℕ) (n : ℕ) → (n ≤ owed) ⊎ (length bytes ≤ owed) → place_from (Straight owed next) bytes n ≡ min n (length bytes)
 unfolding place_from
 straight_few zero next [] n few = omega arith
 straight_few (suc owed) next [] n few = omega arith
@@ -165,20 +162,20 @@ comes_from (Long p) (a ∷ b ∷ c ∷ d ∷ rest) n =
     let w : ℕ = from_be_bytes w32 (a ∷ b ∷ c ∷ d ∷ []) in
     unit_comes (Long p) (behind_long p w) (a ∷ b ∷ c ∷ d ∷ rest) rest (a ∷ b ∷ c ∷ d ∷ []) (out_long (given p w) (a ∷ b ∷ c ∷ d ∷ []) w) 4 (count_long (given p w)) n _
     (four a b c d rest) (λ more. refl) (out_length (given p w) a b c d w) (comes_from (behind_long p w) rest (n - count_long (given p w)))
-comes_from (Half o part odd) (a ∷ b ∷ rest) n =
-    unit_comes (Half o part odd) (behind_half o part odd (half_of a b)) (a ∷ b ∷ rest) rest (a ∷ b ∷ []) (0 ∷ 0 ∷ a ∷ b ∷ []) 2 4 n _
-    (two a b rest) (λ more. refl) refl (comes_from (behind_half o part odd (half_of a b)) rest (n - 4))
-comes_from (Filler o) (a ∷ b ∷ rest) n =
-    unit_comes (Filler o) (behind_filler o a b) (a ∷ b ∷ rest) rest (a ∷ b ∷ []) (out_filler a b) 2 (length (out_filler a b)) n _
-    (two a b rest) (λ more. refl) refl (comes_from (behind_filler o a b) rest (n - length (out_filler a b)))
+comes_from (Half after part odd) (a ∷ b ∷ rest) n =
+    unit_comes (Half after part odd) (behind_half after part odd (half_of a b)) (a ∷ b ∷ rest) rest (a ∷ b ∷ []) (0 ∷ 0 ∷ a ∷ b ∷ []) 2 4 n _
+    (two a b rest) (λ more. refl) refl (comes_from (behind_half after part odd (half_of a b)) rest (n - 4))
+comes_from (Filler after) (a ∷ b ∷ rest) n =
+    unit_comes (Filler after) (behind_filler after a b) (a ∷ b ∷ rest) rest (a ∷ b ∷ []) (out_filler a b) 2 (length (out_filler a b)) n _
+    (two a b rest) (λ more. refl) refl (comes_from (behind_filler after a b) rest (n - length (out_filler a b)))
 comes_from (Long p) [] n = nothing (Long p) [] n
 comes_from (Long p) (a ∷ []) n = nothing (Long p) (a ∷ []) n
 comes_from (Long p) (a ∷ b ∷ []) n = nothing (Long p) (a ∷ b ∷ []) n
 comes_from (Long p) (a ∷ b ∷ c ∷ []) n = nothing (Long p) (a ∷ b ∷ c ∷ []) n
-comes_from (Half o part odd) [] n = nothing (Half o part odd) [] n
-comes_from (Half o part odd) (a ∷ []) n = nothing (Half o part odd) (a ∷ []) n
-comes_from (Filler o) [] n = nothing (Filler o) [] n
-comes_from (Filler o) (a ∷ []) n = nothing (Filler o) (a ∷ []) n
+comes_from (Half after part odd) [] n = nothing (Half after part odd) [] n
+comes_from (Half after part odd) (a ∷ []) n = nothing (Half after part odd) (a ∷ []) n
+comes_from (Filler after) [] n = nothing (Filler after) [] n
+comes_from (Filler after) (a ∷ []) n = nothing (Filler after) (a ∷ []) n
 
 pub stops_here : (first at owed size count : ℕ) (s next : Spot) (rest : List ℕ) → first ≡ at + place_from s rest owed → GoesBy s rest owed size count next → owed < count → first ≡ at
 stops_here first at owed size count s next rest e g less =

@@ -14,6 +14,7 @@ use Rattle.hunk_grammar.specs.declared.phase.Phase.TheVariants as phases
 use Rattle.hunk_grammar.specs.declared.position.OpenHunk.{OpenHunk}
 use Rattle.hunk_grammar.specs.declared.position.Position.{Position}
 use Rattle.hunk_grammar.specs.declared.position.Position.TheVariants as positions
+use Rattle.hunk_wide.specs.declared.position.FilePosition.TheVariants as files
 use Rattle.hunk_grammar.specs.Positions.{close, open_next, step}
 use Rattle.hunk_grammar.specs.BlockParts.{Part, Part as parts}
 use Rattle.hunk_grammar.specs.Roles.{Place, InBlock}
@@ -26,7 +27,7 @@ use Rattle.hunk_wide.specs.declared.spot.Spot.{Spot}
 use Rattle.hunk_wide.specs.declared.spot.Spot.TheVariants.{Long}
 use Rattle.hunk_wide.specs.declared.spot.Given.{Given}
 use Rattle.hunk_wide.specs.declared.spot.Given.TheVariants.{Same, BehindEnd}
-use Rattle.hunk_wide.specs.Longwords.{behind_block, behind_long, given, given_block, given_kind, go_on, out_long}
+use Rattle.hunk_wide.specs.Longwords.{behind_block, behind_load, given, given_block, given_kind, go_on, out_long}
 use Rattle.hunk_wide.specs.Plain.{plain, plain_from}
 use Rattle.hunk_wide.specs.Wide.{BeginsWithContent, IsWide, MayLeaveOut, SpellsBlock, SpellsBlocks, SpellsHunks, end_block}
 use Rattle.hunk_wide.proofs.{Along.along_plain, Short.short_goes, Steps.{Along, AtBlock, along_run, along_split, at_block, run}, Cells.long_cells}
@@ -35,14 +36,14 @@ use Rattle.hunk_wide.proofs.{Along.along_plain, Short.short_goes, Steps.{Along, 
 
 -- From this position the bytes are given out as these longwords, which lead to that one.
 abbrev Goes : Position → Labelled → Position → List ℕ → List ℕ → Type 0
-Goes p ls q bytes more = plain_from (go_on p) (bytes ++ more) ≡ bytes_of (words ls) ++ plain_from (go_on q) more
+Goes p ls q bytes more = plain_from (go_on (files.Load p)) (bytes ++ more) ≡ bytes_of (words ls) ++ plain_from (go_on (files.Load q)) more
 
 two_go : (p q r : Position) (ls ms : Labelled) (front back more : List ℕ) → Goes p ls q front (back ++ more) → Goes q ms r back more → Goes p (ls ++ ms) r (front ++ back) more
 two_go p q r ls ms front back more first second =
-    ap (plain_from (go_on p)) (append_assoc front back more)
+    ap (plain_from (go_on (files.Load p))) (append_assoc front back more)
     ∙ first ∙ ap (λ (x : List ℕ). bytes_of (words ls) ++ x) second
-    ∙ sym (append_assoc (bytes_of (words ls)) (bytes_of (words ms)) (plain_from (go_on r) more))
-    ∙ ap (λ (x : List ℕ). x ++ plain_from (go_on r) more) (sym (ap bytes_of (words-append ls ms) ∙ bytes_of-append (words ls) (words ms)))
+    ∙ sym (append_assoc (bytes_of (words ls)) (bytes_of (words ms)) (plain_from (go_on (files.Load r)) more))
+    ∙ ap (λ (x : List ℕ). x ++ plain_from (go_on (files.Load r)) more) (sym (ap bytes_of (words-append ls ms) ∙ bytes_of-append (words ls) (words ms)))
 
 All-front : {A : Type 0} (P : A → Type 0) (xs ys : List A) → AllByRecursion P (xs ++ ys) → AllByRecursion P xs
 All-front P [] ys h = tt
@@ -61,11 +62,11 @@ words_in place (p ∷ ps) = ap (λ (ws : List ℕ). p.1 ∷ ws) (words_in place 
 block_goes : (place : Place) (b : BlockValue) (p q : Position) (bytes more : List ℕ) → IsHunkBlock place.hunks place.longs b → AreAccepted (block_labelled place b)
     → Along p (block_labelled place b) q → SpellsBlock b bytes → Goes p (block_labelled place b) q bytes more
 block_goes place b p q bytes more is ok along (inl e) =
-    ap (λ (x : List ℕ). plain_from (go_on p) (x ++ more)) (e ∙ ap bytes_of (sym (words_in place (block_parts b))))
+    ap (λ (x : List ℕ). plain_from (go_on (files.Load p)) (x ++ more)) (e ∙ ap bytes_of (sym (words_in place (block_parts b))))
     ∙ along_plain p q (block_labelled place b) more along ok
 block_goes place b p q bytes more is ok along (inr s) =
     short_goes place.has_content p b bytes more (at_block p place along.0) is.block is.mode s
-    ∙ ap₂ (λ (ws : List ℕ) (r : Position). bytes_of ws ++ plain_from (go_on r) more) (sym (words_in place (block_parts b)))
+    ∙ ap₂ (λ (ws : List ℕ) (r : Position). bytes_of ws ++ plain_from (go_on (files.Load r)) more) (sym (words_in place (block_parts b)))
     (ap (run p) (sym (words_in place (block_parts b))) ∙ along_run p q (block_labelled place b) along)
 
 module _ (hunks longs : ℕ) where
@@ -83,10 +84,10 @@ module _ (hunks longs : ℕ) where
       → Along p (labels has bs) q → SpellsBlocks false bs bytes → Goes p (labels has bs) q bytes more
   unfolding bytes_of
   blocks_go has [] p q bytes more is ok along e =
-      ap₂ (λ (x : Position) (bs : List ℕ). plain_from (go_on x) (bs ++ more)) along e
+      ap₂ (λ (x : Position) (bs : List ℕ). plain_from (go_on (files.Load x)) (bs ++ more)) along e
   blocks_go has (b ∷ bs) p q bytes more is ok along s =
       let k = along_split p q (block_labelled (place_of has) b) (labels (behind has b) bs) along in
-      ap (λ (x : List ℕ). plain_from (go_on p) (x ++ more)) s.2
+      ap (λ (x : List ℕ). plain_from (go_on (files.Load p)) (x ++ more)) s.2
       ∙ two_go p k.0 q (block_labelled (place_of has) b) (labels (behind has b) bs) s.0 s.1 more
       (block_goes (place_of has) b p k.0 s.0 (s.1 ++ more) is.0 (All-front _ (block_labelled (place_of has) b) (labels (behind has b) bs) ok) k.1 s.3)
       (blocks_go (behind has b) bs k.0 q s.1 more is.1 (All-back _ (block_labelled (place_of has) b) (labels (behind has b) bs) ok) k.2 s.4)
@@ -119,7 +120,7 @@ module _ (hunks longs : ℕ) where
     end_at = p;
     place = place_of true;
     split = refl;
-    goes = ap (λ (x : List ℕ). plain_from (go_on p) (x ++ more)) e;
+    goes = ap (λ (x : List ℕ). plain_from (go_on (files.Load p)) (x ++ more)) e;
     at_end = at_block p (place_of true) along.0;
     closes = along.1;
   }
@@ -141,7 +142,7 @@ module _ (hunks longs : ℕ) where
         place = later.place;
         split = ap (λ (ls : Labelled). block_labelled (place_of has) b ++ ls) later.split ∙ sym (append_assoc (block_labelled (place_of has) b) later.front _);
         goes =
-            ap (λ (x : List ℕ). plain_from (go_on p) (x ++ more)) s.2
+            ap (λ (x : List ℕ). plain_from (go_on (files.Load p)) (x ++ more)) s.2
             ∙ two_go p k.0 later.end_at (block_labelled (place_of has) b) later.front s.0 s.1 more
             (block_goes (place_of has) b p k.0 s.0 (s.1 ++ more) is.0 (All-front _ (block_labelled (place_of has) b) rest ok) k.1 s.3)
             later.goes;
@@ -159,7 +160,7 @@ end_says : (has : Bool) (ahead : ℕ) → has ≡ true → ahead ≡ 0 → cond 
 end_says has ahead h e = rw (h, e) refl
 
 -- The END of the last hunk, at the end of the input.
-end_of_input : (p : Position) → AtBlock true p → step p end_word ≡ positions.Done → plain_from (go_on p) [] ≡ to_be_bytes w32 end_word
+end_of_input : (p : Position) → AtBlock true p → step p end_word ≡ positions.Done → plain_from (go_on (files.Load p)) [] ≡ to_be_bytes w32 end_word
 unfolding plain_from kind
 end_of_input (positions.Body o phases.FirstBlock) at e = end_says o.has_content o.ahead at (done_is o.hunks o.ahead e)
 end_of_input (positions.Body o phases.BlockWord) at e = end_says o.has_content o.ahead at (done_is o.hunks o.ahead e)
@@ -204,32 +205,32 @@ module _ (o : OpenHunk) (w : ℕ) (more : List ℕ) (fits : w < 2 ^ 32) (bits : 
   opens : close o ≡ positions.Body (first o some.0) phases.FirstBlock
   opens = ap (open_next o.hunks) some.1
 
-  next_goes : plain_from (go_on (close o)) (to_be_bytes w32 w ++ more) ≡ to_be_bytes w32 w ++ plain_from (go_on (step (close o) w)) more
+  next_goes : plain_from (go_on (files.Load (close o))) (to_be_bytes w32 w ++ more) ≡ to_be_bytes w32 w ++ plain_from (go_on (files.Load (step (close o) w))) more
   next_goes =
-      ap (λ (x : Position). plain_from (go_on x) (to_be_bytes w32 w ++ more)) opens
-      ∙ long_cells (positions.Body (first o some.0) phases.FirstBlock) w more fits
+      ap (λ (x : Position). plain_from (go_on (files.Load x)) (to_be_bytes w32 w ++ more)) opens
+      ∙ long_cells (files.Load (positions.Body (first o some.0) phases.FirstBlock)) w more fits
       ∙ ap (λ (g : Given). out_long g (to_be_bytes w32 w) w ++ plain_from (behind_block g (first o some.0) phases.FirstBlock w) more) (word_first (first o some.0) w refl bits content)
-      ∙ ap (λ (x : Position). to_be_bytes w32 w ++ plain_from (go_on (step x w)) more) (sym opens)
+      ∙ ap (λ (x : Position). to_be_bytes w32 w ++ plain_from (go_on (files.Load (step x w))) more) (sym opens)
 
   -- from a block word of the hunk
-  ends_before : (phase : Phase) (p : Position) → given p w ≡ given_block o w → behind_long p w ≡ behind_block (given_block o w) o phase w →
-      plain_from (Long p) (to_be_bytes w32 w ++ more) ≡ to_be_bytes w32 end_word ++ plain_from (go_on (close o)) (to_be_bytes w32 w ++ more)
+  ends_before : (phase : Phase) (p : Position) → given (files.Load p) w ≡ given_block o w → behind_load p w ≡ behind_block (given_block o w) o phase w →
+      plain_from (Long (files.Load p)) (to_be_bytes w32 w ++ more) ≡ to_be_bytes w32 end_word ++ plain_from (go_on (files.Load (close o))) (to_be_bytes w32 w ++ more)
   ends_before phase p g b =
       let e = word_behind o w some.0 has some.1 bits content in
-      long_cells p w more fits
+      long_cells (files.Load p) w more fits
       ∙ ap₂ (λ (x : Given) (s : Spot). out_long x (to_be_bytes w32 w) w ++ plain_from s more) (g ∙ e) (b ∙ ap (λ (x : Given). behind_block x o phase w) e)
       ∙ ap (λ (x : List ℕ). to_be_bytes w32 end_word ++ x) (sym next_goes)
 
 -- The END of a hunk before the content of the next.
 end_before : (p q : Position) (w : ℕ) (more : List ℕ) → w < 2 ^ 32 → has_both_bits w ≡ false → IsContentKind (kind w) → AtBlock true p → step p end_word ≡ q → AtBlock false q →
-    plain_from (go_on p) (to_be_bytes w32 w ++ more) ≡ to_be_bytes w32 end_word ++ plain_from (go_on q) (to_be_bytes w32 w ++ more)
+    plain_from (go_on (files.Load p)) (to_be_bytes w32 w ++ more) ≡ to_be_bytes w32 end_word ++ plain_from (go_on (files.Load q)) (to_be_bytes w32 w ++ more)
 unfolding kind
 end_before (positions.Body o phases.FirstBlock) q w more fits bits is at e next =
     ends_before o w more fits bits is at (some_ahead o.hunks o.ahead (subst (AtBlock false) (sym e) next)) phases.FirstBlock (positions.Body o phases.FirstBlock) refl refl
-    ∙ ap (λ (x : Position). to_be_bytes w32 end_word ++ plain_from (go_on x) (to_be_bytes w32 w ++ more)) e
+    ∙ ap (λ (x : Position). to_be_bytes w32 end_word ++ plain_from (go_on (files.Load x)) (to_be_bytes w32 w ++ more)) e
 end_before (positions.Body o phases.BlockWord) q w more fits bits is at e next =
     ends_before o w more fits bits is at (some_ahead o.hunks o.ahead (subst (AtBlock false) (sym e) next)) phases.BlockWord (positions.Body o phases.BlockWord) refl refl
-    ∙ ap (λ (x : Position). to_be_bytes w32 end_word ++ plain_from (go_on x) (to_be_bytes w32 w ++ more)) e
+    ∙ ap (λ (x : Position). to_be_bytes w32 end_word ++ plain_from (go_on (files.Load x)) (to_be_bytes w32 w ++ more)) e
 end_before (positions.Body o _) q w more fits bits is at e next = absurd at
 end_before _ q w more fits bits is at e next = absurd at
 
@@ -297,32 +298,32 @@ module _ (hunks : ℕ) (at_end : Bool) (rest : List ℕ) (ends : at_end ≡ true
   all hs = flat_map (hunk_labelled hunks) hs
 
   abbrev Whole : Position → Labelled → List ℕ → Type 0
-  Whole p ls bytes = plain_from (go_on p) (bytes ++ rest) ≡ bytes_of (words ls) ++ rest
+  Whole p ls bytes = plain_from (go_on (files.Load p)) (bytes ++ rest) ≡ bytes_of (words ls) ++ rest
 
   -- behind a hunk whose END is left out
   end_back : (hs : List HunkValue) (p q : Position) (bytes : List ℕ) → AllByRecursion (IsHunk hunks) hs → Along q (all hs) positions.Done → AtBlock true p → step p end_word ≡ q
-      → MayLeaveOut at_end hs → SpellsHunks at_end hs bytes → plain_from (go_on p) (bytes ++ rest) ≡ to_be_bytes w32 end_word ++ plain_from (go_on q) (bytes ++ rest)
+      → MayLeaveOut at_end hs → SpellsHunks at_end hs bytes → plain_from (go_on (files.Load p)) (bytes ++ rest) ≡ to_be_bytes w32 end_word ++ plain_from (go_on (files.Load q)) (bytes ++ rest)
   unfolding plain_from
   end_back [] p q bytes is along at e may s =
       let none : bytes ++ rest ≡ [] = ap₂ (λ (x y : List ℕ). x ++ y) s (ends may) in
-      ap (plain_from (go_on p)) none ∙ end_of_input p at (e ∙ along)
-      ∙ ap₂ (λ (x : Position) (bs : List ℕ). to_be_bytes w32 end_word ++ plain_from (go_on x) bs) (sym along) (sym none)
+      ap (plain_from (go_on (files.Load p))) none ∙ end_of_input p at (e ∙ along)
+      ∙ ap₂ (λ (x : Position) (bs : List ℕ). to_be_bytes w32 end_word ++ plain_from (go_on (files.Load x)) bs) (sym along) (sym none)
   end_back (h ∷ hs) p q bytes is along at e may s =
       let b = begins_more bytes s.1 s.2 s.3 (begins_blocks hunks (declared_longs h) s.0 h.blocks s.1 is.0.blocks may s.4) in
       let cut : bytes ++ rest ≡ to_be_bytes w32 b.word ++ (b.back ++ rest) = ap (λ (x : List ℕ). x ++ rest) b.split in
-      ap (plain_from (go_on p)) cut
+      ap (plain_from (go_on (files.Load p))) cut
       ∙ end_before p q b.word (b.back ++ rest) b.fits b.bits b.content at e (first_at hunks q positions.Done h (all hs) may along)
-      ∙ ap (λ (x : List ℕ). to_be_bytes w32 end_word ++ plain_from (go_on q) x) (sym cut)
+      ∙ ap (λ (x : List ℕ). to_be_bytes w32 end_word ++ plain_from (go_on (files.Load q)) x) (sym cut)
 
   hunks_go : (hs : List HunkValue) (p : Position) (bytes : List ℕ) → AllByRecursion (IsHunk hunks) hs → AreAccepted (all hs) → Along p (all hs) positions.Done → SpellsHunks at_end hs bytes → Whole p (all hs) bytes
   unfolding plain_from bytes_of
-  hunks_go [] p bytes is ok along s = ap₂ (λ (x : Position) (bs : List ℕ). plain_from (go_on x) (bs ++ rest)) along s
+  hunks_go [] p bytes is ok along s = ap₂ (λ (x : Position) (bs : List ℕ). plain_from (go_on (files.Load x)) (bs ++ rest)) along s
   hunks_go (h ∷ hs) p bytes is ok along s =
       let k = along_split p positions.Done (hunk_labelled hunks h) (all hs) along in
       let fine = All-front _ (hunk_labelled hunks h) (all hs) ok in
       let later = hunks_go hs k.0 s.2 is.1 (All-back _ (hunk_labelled hunks h) (all hs) ok) k.2 s.6 in
       let split : bytes ++ rest ≡ s.1 ++ (s.2 ++ rest) = ap (λ (x : List ℕ). x ++ rest) s.3 ∙ append_assoc s.1 s.2 rest in
-      ap (plain_from (go_on p)) split ∙ go s.0 h hs p k.0 s.1 s.2 is fine k.1 k.2 s.4 s.5 s.6 later
+      ap (plain_from (go_on (files.Load p))) split ∙ go s.0 h hs p k.0 s.1 s.2 is fine k.1 k.2 s.4 s.5 s.6 later
     where
       join : (ls ms : Labelled) → bytes_of (words ls) ++ (bytes_of (words ms) ++ rest) ≡ bytes_of (words (ls ++ ms)) ++ rest
       join ls ms =
@@ -331,7 +332,7 @@ module _ (hunks : ℕ) (at_end : Bool) (rest : List ℕ) (ends : at_end ≡ true
 
       go : (left_out : Bool) (h : HunkValue) (hs : List HunkValue) (p q : Position) (front back : List ℕ) → AllByRecursion (IsHunk hunks) (h ∷ hs) → AreAccepted (hunk_labelled hunks h)
           → Along p (hunk_labelled hunks h) q → Along q (all hs) positions.Done → SpellsBlocks left_out h.blocks front → (left_out ≡ true → MayLeaveOut at_end hs) → SpellsHunks at_end hs back → Whole q (all hs) back
-          → plain_from (go_on p) (front ++ (back ++ rest)) ≡ bytes_of (words (all (h ∷ hs))) ++ rest
+          → plain_from (go_on (files.Load p)) (front ++ (back ++ rest)) ≡ bytes_of (words (all (h ∷ hs))) ++ rest
       go false h hs p q front back is ok along next s may t later =
           blocks_go hunks (declared_longs h) false h.blocks p q front (back ++ rest) is.0.blocks ok along s
           ∙ ap (λ (x : List ℕ). bytes_of (words (hunk_labelled hunks h)) ++ x) later

@@ -3,10 +3,7 @@ use Rattle.std.proofs.Common.{◌≡◌, ℕ, suc, ◌+◌, ◌≤◌, Bool, con
 use Rattle.std.specs.Int.{from_be_bytes, w32}
 use Rattle.std.proofs.lemmas.{Bool.{eq-eqb, ne_eqb}, List.{length-take, take-append-le}}
 use Rattle.std.proofs.Math.Seq.{drop-append_seam, take-append_seam}
-use Rattle.hunk_grammar.specs.declared.phase.Phase.TheVariants as phases
-use Rattle.hunk_grammar.specs.declared.position.OpenHunk.{OpenHunk}
-use Rattle.hunk_grammar.specs.declared.position.Position.{Position}
-use Rattle.hunk_grammar.specs.declared.position.Position.TheVariants as positions
+use Rattle.hunk_wide.specs.declared.position.FilePosition.{FilePosition}
 use Rattle.hunk_wide.specs.declared.spot.ShortPart.{ShortPart}
 use Rattle.hunk_wide.specs.declared.spot.Given.{Given}
 use Rattle.hunk_wide.specs.declared.spot.Spot.{Spot}
@@ -48,7 +45,7 @@ pub passing_copied : (n : ℕ) (piece new buf : List ℕ) → length new ≡ len
 unfolding plain_from
 passing_copied n piece new buf l fits e more = ap (λ (x : List ℕ). x ++ more) (sym (written n new buf l fits ∙ e))
 
-pub straight_copied : (owed n : ℕ) (next : Position) (t : Spot) (piece new buf : List ℕ) → length new ≡ length (take n buf) → n ≤ length buf → n ≤ length piece → n ≤ suc owed
+pub straight_copied : (owed n : ℕ) (next : FilePosition) (t : Spot) (piece new buf : List ℕ) → length new ≡ length (take n buf) → n ≤ length buf → n ≤ length piece → n ≤ suc owed
     → new ≡ take n piece → t ≡ behind_straight owed next n → GivesFor (Straight owed next) (take n piece) (take n (new ++ drop n buf)) t
 straight_copied owed n next t piece new buf l fits whole most e b more =
     let len : length (take n piece) ≡ n = omega (arith, length-take n piece) in
@@ -63,39 +60,39 @@ front_cells piece = get_or piece 0 0 ∷ get_or piece 1 0 ∷ get_or piece 2 0 �
 abbrev pub front_word : List ℕ → ℕ
 front_word piece = from_be_bytes w32 (front_cells piece)
 
-long_front : (p : Position) (piece : List ℕ) → 4 ≤ length piece → GivesFor (Long p) (take 4 piece) (out_long (given p (front_word piece)) (front_cells piece) (front_word piece)) (behind_long p (front_word piece))
+long_front : (p : FilePosition) (piece : List ℕ) → 4 ≤ length piece → GivesFor (Long p) (take 4 piece) (out_long (given p (front_word piece)) (front_cells piece) (front_word piece)) (behind_long p (front_word piece))
 unfolding plain_from
 long_front p (a ∷ b ∷ c ∷ d ∷ rest) whole more = refl
 long_front p _ whole more = absurd (omega arith)
 
-pub half_front : (o : OpenHunk) (part : ShortPart) (odd : Bool) (piece : List ℕ) → 2 ≤ length piece
-    → GivesFor (Half o part odd) (take 2 piece) (0 ∷ 0 ∷ get_or piece 0 0 ∷ get_or piece 1 0 ∷ []) (behind_half o part odd (half_of (get_or piece 0 0) (get_or piece 1 0)))
+pub half_front : (after : FilePosition) (part : ShortPart) (odd : Bool) (piece : List ℕ) → 2 ≤ length piece
+    → GivesFor (Half after part odd) (take 2 piece) (0 ∷ 0 ∷ get_or piece 0 0 ∷ get_or piece 1 0 ∷ []) (behind_half after part odd (half_of (get_or piece 0 0) (get_or piece 1 0)))
 unfolding plain_from
-half_front o part odd (a ∷ b ∷ rest) whole more = refl
-half_front o part odd _ whole more = absurd (omega arith)
+half_front after part odd (a ∷ b ∷ rest) whole more = refl
+half_front after part odd _ whole more = absurd (omega arith)
 
-pub filler_front : (o : OpenHunk) (piece : List ℕ) → 2 ≤ length piece → half_of (get_or piece 0 0) (get_or piece 1 0) ≡ 0 → GivesFor (Filler o) (take 2 piece) [] (Long (positions.Body o phases.BlockWord))
+pub filler_front : (after : FilePosition) (piece : List ℕ) → 2 ≤ length piece → half_of (get_or piece 0 0) (get_or piece 1 0) ≡ 0 → GivesFor (Filler after) (take 2 piece) [] (Long after)
 unfolding plain_from
-filler_front o (a ∷ b ∷ rest) whole e more =
-    ap (λ (x : Bool). cond x [] (0 ∷ 0 ∷ 3 ∷ 252 ∷ a ∷ b ∷ []) ++ plain_from (cond x (Long (positions.Body o phases.BlockWord)) Passing) more) (eq-eqb (half_of a b) 0 e)
-filler_front o _ whole e more = absurd (omega arith)
+filler_front after (a ∷ b ∷ rest) whole e more =
+    ap (λ (x : Bool). cond x [] (0 ∷ 0 ∷ 3 ∷ 252 ∷ a ∷ b ∷ []) ++ plain_from (cond x (Long after) Passing) more) (eq-eqb (half_of a b) 0 e)
+filler_front after _ whole e more = absurd (omega arith)
 
-pub other_front : (o : OpenHunk) (piece : List ℕ) → 2 ≤ length piece → (half_of (get_or piece 0 0) (get_or piece 1 0) ≡ 0 → ⊥)
-    → GivesFor (Filler o) (take 2 piece) (0 ∷ 0 ∷ 3 ∷ 252 ∷ get_or piece 0 0 ∷ get_or piece 1 0 ∷ []) Passing
+pub other_front : (after : FilePosition) (piece : List ℕ) → 2 ≤ length piece → (half_of (get_or piece 0 0) (get_or piece 1 0) ≡ 0 → ⊥)
+    → GivesFor (Filler after) (take 2 piece) (0 ∷ 0 ∷ 3 ∷ 252 ∷ get_or piece 0 0 ∷ get_or piece 1 0 ∷ []) Passing
 unfolding plain_from
-other_front o (a ∷ b ∷ rest) whole e more =
-    ap (λ (x : Bool). cond x [] (0 ∷ 0 ∷ 3 ∷ 252 ∷ a ∷ b ∷ []) ++ plain_from (cond x (Long (positions.Body o phases.BlockWord)) Passing) more) (ne_eqb (half_of a b) 0 e)
-other_front o _ whole e more = absurd (omega arith)
+other_front after (a ∷ b ∷ rest) whole e more =
+    ap (λ (x : Bool). cond x [] (0 ∷ 0 ∷ 3 ∷ 252 ∷ a ∷ b ∷ []) ++ plain_from (cond x (Long after) Passing) more) (ne_eqb (half_of a b) 0 e)
+other_front after _ whole e more = absurd (omega arith)
 
 -- where these are written at the front of a buffer
 pub given_there : (s t u : Spot) (bytes out new buf : List ℕ) (n : ℕ) → GivesFor s bytes out t → length new ≡ length (take n buf) → n ≤ length buf → new ≡ out → u ≡ t → GivesFor s bytes (take n (new ++ drop n buf)) u
 given_there s t u bytes out new buf n gives l fits e b more =
     gives more ∙ ap₂ (λ (x : List ℕ) (y : Spot). x ++ plain_from y more) (sym (written n new buf l fits ∙ e)) (sym b)
 
-pub long_there : (p : Position) (g : Given) (w : ℕ) (u : Spot) (piece out : List ℕ) → 4 ≤ length piece → w ≡ from_be_bytes w32 (front_cells piece) → g ≡ given p w
+pub long_there : (p : FilePosition) (g : Given) (w : ℕ) (u : Spot) (piece out : List ℕ) → 4 ≤ length piece → w ≡ from_be_bytes w32 (front_cells piece) → g ≡ given p w
     → out ≡ out_long g (front_cells piece) (from_be_bytes w32 (front_cells piece)) → u ≡ behind_long p w → GivesFor (Long p) (take 4 piece) out u
-long_there p g w u piece out whole e i o b more =
+long_there p g w u piece out whole e i after b more =
     long_front p piece whole more
     ∙ ap₂ (λ (x : List ℕ) (y : Spot). x ++ plain_from y more)
-    (sym (o ∙ ap (λ (h : Given). out_long h (front_cells piece) (front_word piece)) (i ∙ ap (given p) e)))
+    (sym (after ∙ ap (λ (h : Given). out_long h (front_cells piece) (front_word piece)) (i ∙ ap (given p) e)))
     (sym (b ∙ ap (behind_long p) e))

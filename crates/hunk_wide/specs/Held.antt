@@ -21,8 +21,8 @@ abbrev pub unit : Spot → ℕ
 unit Passing = 0
 unit (Straight owed next) = 1
 unit (Long p) = 4
-unit (Half o part odd) = 2
-unit (Filler o) = 2
+unit (Half after part odd) = 2
+unit (Filler after) = 2
 
 abbrev pub wanted_by : List ℕ → Spot → List ℕ → ℕ
 wanted_by [] spot begun = unit spot - length begun
@@ -37,8 +37,8 @@ abbrev pub reach : Spot → ℕ
 reach Passing = 0
 reach (Straight owed next) = 1
 reach (Long p) = 4
-reach (Half o part odd) = 2
-reach (Filler o) = 6
+reach (Half after part odd) = 2
+reach (Filler after) = 6
 
 abbrev pub owed_by : List ℕ → Spot → List ℕ → ℕ
 owed_by [] spot begun = reach spot - length begun

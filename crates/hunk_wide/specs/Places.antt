@@ -28,8 +28,8 @@ place_from (Straight (suc owed) next) (b ∷ rest) n = here_or 1 1 n (place_from
 place_from (Long p) (a ∷ b ∷ c ∷ d ∷ rest) n =
     here_or 4 (count_long (given p (from_be_bytes w32 (a ∷ b ∷ c ∷ d ∷ [])))) n
     (place_from (behind_long p (from_be_bytes w32 (a ∷ b ∷ c ∷ d ∷ []))) rest (n - count_long (given p (from_be_bytes w32 (a ∷ b ∷ c ∷ d ∷ [])))))
-place_from (Half o part odd) (a ∷ b ∷ rest) n = here_or 2 4 n (place_from (behind_half o part odd (half_of a b)) rest (n - 4))
-place_from (Filler o) (a ∷ b ∷ rest) n = here_or 2 (length (out_filler a b)) n (place_from (behind_filler o a b) rest (n - length (out_filler a b)))
+place_from (Half after part odd) (a ∷ b ∷ rest) n = here_or 2 4 n (place_from (behind_half after part odd (half_of a b)) rest (n - 4))
+place_from (Filler after) (a ∷ b ∷ rest) n = here_or 2 (length (out_filler a b)) n (place_from (behind_filler after a b) rest (n - length (out_filler a b)))
 place_from spot bytes n = 0
 
 -- where no whole unit is left before it

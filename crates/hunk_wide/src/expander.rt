@@ -11,10 +11,11 @@ ghost use Rattle.hunk_wide.specs.Plain.{plain, plain_from};
 ghost use Rattle.std.specs.Int.{to_be_bytes, w32};
 ghost use Rattle.hunk_wide.specs.declared.spot.Spot.TheVariants.{Filler, Half, Long, Passing, Straight};
 
+use crate::position::FilePosition;
 use crate::ready::Ready;
 use crate::spot::{Given, ShortPart, Spot, long_word};
 use crate::units::expand;
-use hunk_grammar::{OpenHunk, Phase, Position};
+use hunk_grammar::{Phase, Position};
 use hunk_words::Pending;
 use std::marker::Model;
 
@@ -22,7 +23,7 @@ use std::marker::Model;
 ///
 /// Contracts see what it holds: the bytes that are ready to be given out, what the next bytes are
 /// for, and which of these have come.
-#[derive(Debug, Drop)]
+#[derive(Drop)]
 pub struct Expander {
     ready: Ready,
     spot: Spot,
@@ -49,7 +50,7 @@ impl Expander {
     {
         Expander {
             ready: Ready::none(),
-            spot: Spot::Long(Position::FirstLong),
+            spot: Spot::Long(FilePosition::Load(Position::FirstLong)),
             begun: Pending::NONE,
         }
     }
@@ -200,13 +201,17 @@ fn after(spot: Spot, begun: Pending, byte: u8) -> Expander
         Spot::Passing => unreachable!(),
         Spot::Straight { owed, next } => after_straight(owed, next, byte),
         Spot::Long(position) => after_long(position, begun, byte),
-        Spot::Half { hunk, part, is_odd } => after_half(hunk, part, is_odd, begun, byte),
-        Spot::Filler(hunk) => after_filler(hunk, begun, byte),
+        Spot::Half {
+            after,
+            part,
+            is_odd,
+        } => after_half(after, part, is_odd, begun, byte),
+        Spot::Filler(after) => after_filler(after, begun, byte),
     }
 }
 
 /// Behind a byte that is given out as it is.
-fn after_straight(count: u64, next: Position, byte: u8) -> Expander
+fn after_straight(count: u64, next: FilePosition, byte: u8) -> Expander
     ensures left { (more : List ℕ) → left_of result more
         ≡ plain_from (Straight count next) (byte ∷ more) }
     ensures wanted { wanted result ≡ 0 }
@@ -220,7 +225,7 @@ fn after_straight(count: u64, next: Position, byte: u8) -> Expander
 }
 
 /// Behind a byte of a longword, where so much of that has come.
-fn after_long(position: Position, begun: Pending, byte: u8) -> Expander
+fn after_long(position: FilePosition, begun: Pending, byte: u8) -> Expander
     requires { begun.count < 4 }
     ensures left { (more : List ℕ) → left_of result more
         ≡ plain_from (Long position) (pending_of begun ++ byte ∷ more) }
@@ -238,7 +243,7 @@ fn after_long(position: Position, begun: Pending, byte: u8) -> Expander
 }
 
 /// Behind a longword.
-fn long_done(position: Position, word: u32) -> Expander
+fn long_done(position: FilePosition, word: u32) -> Expander
     ensures left { (more : List ℕ) → left_of result more
         ≡ plain_from (Long position) (bytes_of (word ∷ []) ++ more) }
     ensures wanted { wanted result ≡ 0 }
@@ -252,40 +257,53 @@ fn long_done(position: Position, word: u32) -> Expander
 }
 
 /// The same in a word of 16 bits of a short block.
-fn after_half(hunk: OpenHunk, part: ShortPart, is_odd: bool, begun: Pending, byte: u8) -> Expander
+fn after_half(
+    after: FilePosition,
+    part: ShortPart,
+    is_odd: bool,
+    begun: Pending,
+    byte: u8,
+) -> Expander
     requires { begun.count < 2 }
     ensures left { (more : List ℕ) → left_of result more
-        ≡ plain_from (Half hunk part is_odd) (pending_of begun ++ byte ∷ more) }
+        ≡ plain_from (Half after part is_odd) (pending_of begun ++ byte ∷ more) }
     ensures wanted { 2 ≤ wanted result + begun.count + 1 }
     ensures fewer { owed result + begun.count < 2 }
 {
     if begun.count == 0 {
-        return begun_by(Spot::Half { hunk, part, is_odd }, byte);
+        return begun_by(
+            Spot::Half {
+                after,
+                part,
+                is_odd,
+            },
+            byte,
+        );
     }
     let half = begun.first as u16 * 256 + byte as u16;
     Expander {
         ready: Ready::four([0, 0, begun.first, byte]),
-        spot: Spot::behind_half(hunk, part, is_odd, half),
+        spot: Spot::behind_half(after, part, is_odd, half),
         begun: Pending::NONE,
     }
 }
 
 /// The same in the word with which a short block is filled up.
-fn after_filler(hunk: OpenHunk, begun: Pending, byte: u8) -> Expander
+fn after_filler(after: FilePosition, begun: Pending, byte: u8) -> Expander
     requires { begun.count < 2 }
     ensures left { (more : List ℕ) → left_of result more
-        ≡ plain_from (Filler hunk) (pending_of begun ++ byte ∷ more) }
+        ≡ plain_from (Filler after) (pending_of begun ++ byte ∷ more) }
     ensures wanted { 2 ≤ wanted result + begun.count + 1 }
     ensures fewer { owed result + begun.count < 6 }
 {
     if begun.count == 0 {
-        return begun_by(Spot::Filler(hunk), byte);
+        return begun_by(Spot::Filler(after), byte);
     }
     let half = begun.first as u16 * 256 + byte as u16;
     if half == 0 {
         return Expander {
             ready: Ready::none(),
-            spot: Spot::Long(Position::Body(hunk, Phase::BlockWord)),
+            spot: Spot::Long(after),
             begun: Pending::NONE,
         };
     }
@@ -342,11 +360,11 @@ fn is_last(spot: Spot) -> bool
 }
 
 /// Whether only the END of the last hunk is to come.
-fn ends(position: Position) -> bool
+fn ends(position: FilePosition) -> bool
     ensures { result ≡ ends position }
 {
     match position {
-        Position::Body(hunk, Phase::FirstBlock | Phase::BlockWord) => {
+        FilePosition::Load(Position::Body(hunk, Phase::FirstBlock | Phase::BlockWord)) => {
             hunk.has_content && hunk.ahead == 0
         }
         _ => false,

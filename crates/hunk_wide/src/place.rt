@@ -2,10 +2,12 @@
 ghost use Rattle.std.specs.Prelude.{◌≡◌, ◌+◌, ◌<◌, ◌≤◌, length, min, IfNone, IfSome};
 ghost use Rattle.hunk_grammar.specs.declared.position.Position.TheVariants.{FirstLong};
 ghost use Rattle.hunk_wide.specs.Places.{ComesFrom, count_long, last_place, GoesBy, place_from};
+ghost use Rattle.hunk_wide.specs.declared.position.FilePosition.TheVariants.{Load};
 ghost use Rattle.hunk_wide.specs.declared.spot.Spot.TheVariants.{Filler, Half, Long, Straight};
 
+use crate::position::FilePosition;
 use crate::spot::{Given, ShortPart, Spot};
-use hunk_grammar::{OpenHunk, Phase, Position};
+use hunk_grammar::Position;
 
 /// A unit of a wide spelling.
 #[derive(Clone, Copy)]
@@ -25,11 +27,11 @@ struct Unit {
 /// that is left out, of what comes in its place. Behind the last one it is the end of the input, or
 /// where its last longword begins that is not whole.
 pub fn place_in(bytes: &[u8], place: u64) -> u64
-    ensures value { result ≡ place_from (Long FirstLong) bytes.now place }
+    ensures value { result ≡ place_from (Long (Load FirstLong)) bytes.now place }
     ensures inside { result ≤ length bytes.now }
-    ensures front { ComesFrom (Long FirstLong) bytes.now place result }
+    ensures front { ComesFrom (Long (Load FirstLong)) bytes.now place result }
 {
-    let mut spot = Spot::Long(Position::FirstLong);
+    let mut spot = Spot::Long(FilePosition::Load(Position::FirstLong));
     let mut rest = bytes;
     let mut owed = place;
     let mut at: u64 = 0;
@@ -66,12 +68,16 @@ fn unit_at(spot: Spot, rest: &[u8], n: u64) -> Option<Unit>
         Spot::Passing => None,
         Spot::Straight { owed, next } => straight_unit(owed, next, rest, n),
         Spot::Long(position) => long_unit(position, rest, n),
-        Spot::Half { hunk, part, is_odd } => half_unit(hunk, part, is_odd, rest, n),
-        Spot::Filler(hunk) => filler_unit(hunk, rest, n),
+        Spot::Half {
+            after,
+            part,
+            is_odd,
+        } => half_unit(after, part, is_odd, rest, n),
+        Spot::Filler(after) => filler_unit(after, rest, n),
     }
 }
 
-fn straight_unit(owed: u64, next: Position, rest: &[u8], n: u64) -> Option<Unit>
+fn straight_unit(owed: u64, next: FilePosition, rest: &[u8], n: u64) -> Option<Unit>
     ensures none { IfNone result
         (place_from (Straight owed next) rest.now n ≡ min n (length rest.now)) }
     ensures some { IfSome result
@@ -87,7 +93,7 @@ fn straight_unit(owed: u64, next: Position, rest: &[u8], n: u64) -> Option<Unit>
     })
 }
 
-fn long_unit(position: Position, rest: &[u8], n: u64) -> Option<Unit>
+fn long_unit(position: FilePosition, rest: &[u8], n: u64) -> Option<Unit>
     ensures none { IfNone result (place_from (Long position) rest.now n ≡ 0) }
     ensures some { IfSome result
         (λ unit. GoesBy (Long position) rest.now n unit.size unit.given unit.next) }
@@ -103,11 +109,17 @@ fn long_unit(position: Position, rest: &[u8], n: u64) -> Option<Unit>
     })
 }
 
-fn half_unit(hunk: OpenHunk, part: ShortPart, is_odd: bool, rest: &[u8], n: u64) -> Option<Unit>
+fn half_unit(
+    after: FilePosition,
+    part: ShortPart,
+    is_odd: bool,
+    rest: &[u8],
+    n: u64,
+) -> Option<Unit>
     ensures none { IfNone result
-        (place_from (Half hunk part is_odd) rest.now n ≡ 0) }
+        (place_from (Half after part is_odd) rest.now n ≡ 0) }
     ensures some { IfSome result
-        (λ unit. GoesBy (Half hunk part is_odd) rest.now n unit.size unit.given unit.next) }
+        (λ unit. GoesBy (Half after part is_odd) rest.now n unit.size unit.given unit.next) }
 {
     if rest.len() < 2 {
         return None;
@@ -116,14 +128,14 @@ fn half_unit(hunk: OpenHunk, part: ShortPart, is_odd: bool, rest: &[u8], n: u64)
     Some(Unit {
         size: 2,
         given: 4,
-        next: Spot::behind_half(hunk, part, is_odd, half),
+        next: Spot::behind_half(after, part, is_odd, half),
     })
 }
 
-fn filler_unit(hunk: OpenHunk, rest: &[u8], n: u64) -> Option<Unit>
-    ensures none { IfNone result (place_from (Filler hunk) rest.now n ≡ 0) }
+fn filler_unit(after: FilePosition, rest: &[u8], n: u64) -> Option<Unit>
+    ensures none { IfNone result (place_from (Filler after) rest.now n ≡ 0) }
     ensures some { IfSome result
-        (λ unit. GoesBy (Filler hunk) rest.now n unit.size unit.given unit.next) }
+        (λ unit. GoesBy (Filler after) rest.now n unit.size unit.given unit.next) }
 {
     if rest.len() < 2 {
         return None;
@@ -133,7 +145,7 @@ fn filler_unit(hunk: OpenHunk, rest: &[u8], n: u64) -> Option<Unit>
         return Some(Unit {
             size: 2,
             given: 0,
-            next: Spot::Long(Position::Body(hunk, Phase::BlockWord)),
+            next: Spot::Long(after),
         });
     }
     Some(Unit {

@@ -1,12 +1,14 @@
 //! What the next bytes of a wide spelling are for.
-ghost use Rattle.std.specs.Prelude.{◌≡◌, ◌≤◌, ◌+◌, ◌^◌};
+ghost use Rattle.std.specs.Prelude.{◌≡◌, ◌≤◌, ◌+◌};
 ghost use Rattle.hunk_wide.specs.Halves.{behind_half, behind_offsets, flipped};
-ghost use Rattle.hunk_wide.specs.Longwords.{after_straight, behind_block, behind_long, behind_same};
-ghost use Rattle.hunk_wide.specs.Longwords.{behind_straight};
-ghost use Rattle.hunk_wide.specs.Longwords.{given, given_block, go_on, long_word, straight_longs};
+ghost use Rattle.hunk_wide.specs.Longwords.{behind_block, behind_first, behind_load, behind_long};
+ghost use Rattle.hunk_wide.specs.Longwords.{behind_object, behind_same, behind_straight};
+ghost use Rattle.hunk_wide.specs.Longwords.{behind_word, given, given_block, given_object, go_on};
+ghost use Rattle.hunk_wide.specs.Longwords.{long_word};
 
-use hunk_grammar::{OpenHunk, Phase, Position, open_next};
-use hunk_words::{BlockWord, HEADER_WORD, Kind};
+use crate::position::FilePosition;
+use hunk_grammar::{ObjectPosition, OpenHunk, Phase, Position, WordPlace, open_next};
+use hunk_words::{BlockWord, HEADER_WORD, Kind, UNIT_WORD};
 
 /// What a word of 16 bits of a short block is for.
 ///
@@ -22,7 +24,7 @@ pub enum ShortPart {
 }
 
 /// What the next bytes are for.
-#[derive(Clone, Copy, Debug, PartialEq, Eq)]
+#[derive(Clone, Copy)]
 pub enum Spot {
     /// From here on all bytes pass as they are.
     Passing,
@@ -30,18 +32,20 @@ pub enum Spot {
     /// content, a name, debug data, or offsets of 32 bits.
     Straight {
         owed: u64,
-        next: Position,
+        next: FilePosition,
     },
     /// A longword, which the plain spelling has at this position.
-    Long(Position),
-    /// A word of 16 bits of a short block, behind an odd number of them or an even one.
+    Long(FilePosition),
+    /// A word of 16 bits of a short block, behind an odd number of them or an even one. The next
+    /// block word stands at `after`.
     Half {
-        hunk: OpenHunk,
+        after: FilePosition,
         part: ShortPart,
         is_odd: bool,
     },
-    /// The word of 16 bits, 0, with which a short block fills up its last longword.
-    Filler(OpenHunk),
+    /// The word of 16 bits, 0, with which a short block fills up its last longword. The next block
+    /// word stands at this position.
+    Filler(FilePosition),
 }
 
 /// What the plain spelling has for a longword.
@@ -58,30 +62,44 @@ pub enum Given {
 impl Spot {
     /// Behind a longword that stands at this position.
     #[inline(always)]
-    pub fn behind_long(position: Position, word: u32) -> Spot
+    pub fn behind_long(position: FilePosition, word: u32) -> Spot
         ensures { result ≡ behind_long position word }
+    {
+        match position {
+            FilePosition::Load(position) => Spot::behind_load(position, word),
+            FilePosition::Object(position) => Spot::behind_object(position, word),
+        }
+    }
+
+    /// Behind a longword of a load file, or the first of any file.
+    #[inline(always)]
+    fn behind_load(position: Position, word: u32) -> Spot
+        ensures { result ≡ behind_load position word }
     {
         match position {
             Position::Body(hunk, phase) => match phase {
                 Phase::FirstBlock | Phase::BlockWord => {
                     Spot::behind_block(Given::of_block(hunk, word), hunk, phase, word)
                 }
-                _ => Spot::at(position.step(word)),
+                _ => Spot::at(FilePosition::Load(position.step(word))),
             },
             _ => Spot::behind_same(position, word),
         }
     }
 
-    /// Behind a block word of this hunk.
+    /// Behind a block word of this hunk of a load file.
     #[inline(always)]
     fn behind_block(given: Given, hunk: OpenHunk, phase: Phase, word: u32) -> Spot
         ensures { result ≡ behind_block given hunk phase word }
     {
         match given {
-            Given::Same => Spot::at(Position::Body(hunk, phase).step(word)),
-            Given::BehindEnd => Spot::at(open_next(hunk.hunks, hunk.ahead).step(word)),
+            Given::Same => Spot::at(FilePosition::Load(Position::Body(hunk, phase).step(word))),
+            Given::BehindEnd => {
+                let next = open_next(hunk.hunks, hunk.ahead);
+                Spot::at(FilePosition::Load(next.step(word)))
+            }
             Given::AsLong => Spot::Half {
-                hunk,
+                after: FilePosition::after_short(hunk),
                 part: ShortPart::Count,
                 is_odd: false,
             },
@@ -94,23 +112,65 @@ impl Spot {
         ensures { result ≡ behind_same position word }
     {
         match position {
-            Position::FirstLong if word != HEADER_WORD => Spot::Passing,
-            _ => Spot::at(position.step(word)),
+            Position::FirstLong => Spot::behind_first(word),
+            _ => Spot::at(FilePosition::Load(position.step(word))),
         }
     }
 
-    /// At this position. Behind the file all bytes pass.
+    /// Behind the first longword, which says of what kind the file is.
     #[inline(always)]
-    fn at(position: Position) -> Spot
+    fn behind_first(word: u32) -> Spot
+        ensures { result ≡ behind_first word }
+    {
+        if word == HEADER_WORD {
+            Spot::at(FilePosition::Load(Position::FirstLong.step(word)))
+        } else if word == UNIT_WORD {
+            Spot::at(FilePosition::Object(ObjectPosition::UnitCount))
+        } else {
+            Spot::Passing
+        }
+    }
+
+    /// Behind a longword of an object file.
+    #[inline(always)]
+    fn behind_object(position: ObjectPosition, word: u32) -> Spot
+        ensures { result ≡ behind_object position word }
+    {
+        match position {
+            ObjectPosition::Word(place) => {
+                Spot::behind_word(Given::of_object(word), place, word)
+            }
+            _ => Spot::at(FilePosition::Object(position.step(word))),
+        }
+    }
+
+    /// Behind the word of a block or of a unit of an object file.
+    #[inline(always)]
+    fn behind_word(given: Given, place: WordPlace, word: u32) -> Spot
+        ensures { result ≡ behind_word given place word }
+    {
+        match given {
+            Given::AsLong => Spot::Half {
+                after: FilePosition::after_object_short(place),
+                part: ShortPart::Count,
+                is_odd: false,
+            },
+            _ => Spot::at(FilePosition::Object(ObjectPosition::Word(place).step(word))),
+        }
+    }
+
+    /// At this position. Behind a load file all bytes pass.
+    #[inline(always)]
+    fn at(position: FilePosition) -> Spot
         ensures { result ≡ go_on position }
     {
         match position {
-            Position::Done => Spot::Passing,
-            _ => match straight_longs(position) {
+            FilePosition::Load(Position::Done) => Spot::Passing,
+            _ => match position.straight_longs() {
                 0 => Spot::Long(position),
                 longs => Spot::Straight {
                     owed: 4 * (longs - 1) + 3,
-                    next: after_straight(position),
+                    next: position.after_straight(),
                 },
             },
         }
@@ -118,7 +178,7 @@ impl Spot {
 
     /// After `count` bytes that are given out as they are.
     #[inline(always)]
-    pub(crate) fn behind_straight(owed: u64, next: Position, count: u64) -> Spot
+    pub(crate) fn behind_straight(owed: u64, next: FilePosition, count: u64) -> Spot
         requires { count ≤ owed + 1 }
         ensures { result ≡ behind_straight owed next count }
     {
@@ -132,32 +192,40 @@ impl Spot {
 
     /// After `count` offsets of a short block, where `owed` more follow the first.
     #[inline(always)]
-    pub(crate) fn behind_offsets(hunk: OpenHunk, owed: u16, is_odd: bool, count: usize) -> Spot
+    pub(crate) fn behind_offsets(after: FilePosition, owed: u16, is_odd: bool, count: usize) -> Spot
         requires { count ≤ owed + 1 }
-        ensures { result ≡ behind_offsets hunk owed is_odd count }
+        ensures { result ≡ behind_offsets after owed is_odd count }
     {
         let is_odd = flipped(is_odd, count);
         if count <= owed as usize {
             let owed = owed - count as u16;
             let part = ShortPart::Offset { owed };
-            Spot::Half { hunk, part, is_odd }
+            Spot::Half {
+                after,
+                part,
+                is_odd,
+            }
         } else {
             let part = ShortPart::Count;
-            Spot::Half { hunk, part, is_odd }
+            Spot::Half {
+                after,
+                part,
+                is_odd,
+            }
         }
     }
 
     /// Behind a word of 16 bits of a short block.
     #[inline(always)]
-    pub fn behind_half(hunk: OpenHunk, part: ShortPart, is_odd: bool, half: u16) -> Spot
-        ensures { result ≡ behind_half hunk part is_odd half }
+    pub fn behind_half(after: FilePosition, part: ShortPart, is_odd: bool, half: u16) -> Spot
+        ensures { result ≡ behind_half after part is_odd half }
     {
         let part = match part {
             ShortPart::Count if half == 0 => {
                 return if is_odd {
-                    Spot::Long(Position::Body(hunk, Phase::BlockWord))
+                    Spot::Long(after)
                 } else {
-                    Spot::Filler(hunk)
+                    Spot::Filler(after)
                 };
             }
             ShortPart::Count => ShortPart::Target { owed: half - 1 },
@@ -166,7 +234,7 @@ impl Spot {
             ShortPart::Offset { owed } => ShortPart::Offset { owed: owed - 1 },
         };
         Spot::Half {
-            hunk,
+            after,
             part,
             is_odd: !is_odd,
         }
@@ -176,18 +244,19 @@ impl Spot {
 impl Given {
     /// Of a longword at this position.
     #[inline(always)]
-    pub fn of(position: Position, word: u32) -> Given
+    pub fn of(position: FilePosition, word: u32) -> Given
         ensures { result ≡ given position word }
     {
         match position {
-            Position::Body(hunk, Phase::FirstBlock | Phase::BlockWord) => {
+            FilePosition::Load(Position::Body(hunk, Phase::FirstBlock | Phase::BlockWord)) => {
                 Given::of_block(hunk, word)
             }
+            FilePosition::Object(ObjectPosition::Word(_)) => Given::of_object(word),
             _ => Given::Same,
         }
     }
 
-    /// Of a block word in this hunk.
+    /// Of a block word in this hunk of a load file.
     #[inline(always)]
     fn of_block(hunk: OpenHunk, word: u32) -> Given
         ensures { result ≡ given_block hunk word }
@@ -204,6 +273,18 @@ impl Given {
             _ => Given::Same,
         }
     }
+
+    /// Of the word of a block or of a unit of an object file, where 3F7 is not short.
+    #[inline(always)]
+    fn of_object(word: u32) -> Given
+        ensures { result ≡ given_object word }
+    {
+        let block = BlockWord::of(word);
+        match block.kind() {
+            Kind::Reloc32Short if !block.has_both_memory_bits() => Given::AsLong,
+            _ => Given::Same,
+        }
+    }
 }
 
 /// The block word of RELOC32 with the flags of this one.
@@ -212,42 +293,6 @@ pub fn long_word(word: u32) -> u32
     ensures { result ≡ long_word word }
 {
     (word >> 29) * 0x2000_0000 + 0x3EC
-}
-
-/// How many longwords come at least that are given out as they are, whatever they have.
-#[inline(always)]
-fn straight_longs(position: Position) -> u64
-    ensures value { result ≡ straight_longs position }
-    ensures bound { result ≤ 2 ^ 32 }
-{
-    match position {
-        Position::Body(_, phase) => phase.longest_run(),
-        _ => 0,
-    }
-}
-
-/// After all of them.
-#[inline(always)]
-fn after_straight(position: Position) -> Position
-    ensures { result ≡ after_straight position }
-{
-    match position {
-        Position::Body(hunk, phase) => match phase {
-            Phase::Content { longs: _, owed: _ } => {
-                let hunk = OpenHunk {
-                    has_content: true,
-                    ..hunk
-                };
-                Position::Body(hunk, Phase::BlockWord)
-            }
-            Phase::Payload { owed: _ } => Position::Body(hunk, Phase::BlockWord),
-            _ => match phase.pass_longest_run() {
-                Some(next) => Position::Body(hunk, next),
-                None => unreachable!(),
-            },
-        },
-        _ => position,
-    }
 }
 
 /// Whether the number of words is odd after `count` more.

@@ -7,8 +7,8 @@ ghost use Rattle.hunk_wide.specs.declared.spot.ShortPart.TheVariants.{Offset};
 ghost use Rattle.hunk_wide.specs.Plain.{GivesFor};
 ghost use Rattle.hunk_wide.specs.declared.spot.Spot.TheVariants.{Filler, Half, Long, Passing, Straight};
 
+use crate::position::FilePosition;
 use crate::spot::{Given, ShortPart, Spot, long_word};
-use hunk_grammar::{OpenHunk, Phase, Position};
 
 /// The bytes at the front of a piece that were given out at the front of a buffer.
 #[derive(Clone, Copy)]
@@ -56,8 +56,12 @@ fn expand_unit(spot: Spot, piece: &[u8], buf: &mut [u8]) -> Stretch
         Spot::Passing => expand_passing(piece, buf),
         Spot::Straight { owed, next } => expand_straight(owed, next, piece, buf),
         Spot::Long(position) => expand_long(position, piece, buf),
-        Spot::Half { hunk, part, is_odd } => expand_half(hunk, part, is_odd, piece, buf),
-        Spot::Filler(hunk) => expand_filler(hunk, piece, buf),
+        Spot::Half {
+            after,
+            part,
+            is_odd,
+        } => expand_half(after, part, is_odd, piece, buf),
+        Spot::Filler(after) => expand_filler(after, piece, buf),
     }
 }
 
@@ -90,7 +94,7 @@ fn expand_passing(piece: &[u8], buf: &mut [u8]) -> Stretch
 }
 
 #[inline(always)]
-fn expand_straight(owed: u64, next: Position, piece: &[u8], buf: &mut [u8]) -> Stretch
+fn expand_straight(owed: u64, next: FilePosition, piece: &[u8], buf: &mut [u8]) -> Stretch
     ensures taken { result.taken ≤ length piece.now }
     ensures given { result.given ≤ length buf.new }
     ensures gives { GivesFor (Straight owed next) (take result.taken piece.now)
@@ -107,7 +111,7 @@ fn expand_straight(owed: u64, next: Position, piece: &[u8], buf: &mut [u8]) -> S
 }
 
 #[inline(always)]
-fn expand_long(position: Position, piece: &[u8], buf: &mut [u8]) -> Stretch
+fn expand_long(position: FilePosition, piece: &[u8], buf: &mut [u8]) -> Stretch
     ensures taken { result.taken ≤ length piece.now }
     ensures given { result.given ≤ length buf.new }
     ensures gives { GivesFor (Long position) (take result.taken piece.now)
@@ -152,7 +156,7 @@ fn put_long(given: Given, cells: [u8; 4], buf: &mut [u8]) -> usize
 
 #[inline(always)]
 fn expand_half(
-    hunk: OpenHunk,
+    after: FilePosition,
     part: ShortPart,
     is_odd: bool,
     piece: &[u8],
@@ -160,30 +164,40 @@ fn expand_half(
 ) -> Stretch
     ensures taken { result.taken ≤ length piece.now }
     ensures given { result.given ≤ length buf.new }
-    ensures gives { GivesFor (Half hunk part is_odd) (take result.taken piece.now)
+    ensures gives { GivesFor (Half after part is_odd) (take result.taken piece.now)
         (take result.given buf.new) result.next }
 {
     if piece.len() < 2 || buf.len() < 4 {
-        return nothing(Spot::Half { hunk, part, is_odd });
+        return nothing(Spot::Half {
+            after,
+            part,
+            is_odd,
+        });
     }
     if let ShortPart::Offset { owed } = part {
-        return expand_offsets(hunk, owed, is_odd, piece, buf);
+        return expand_offsets(after, owed, is_odd, piece, buf);
     }
     let half = piece[0] as u16 * 256 + piece[1] as u16;
     buf[..4].copy_from_slice([0, 0, piece[0], piece[1]].as_slice());
     Stretch {
         taken: 2,
         given: 4,
-        next: Spot::behind_half(hunk, part, is_odd, half),
+        next: Spot::behind_half(after, part, is_odd, half),
     }
 }
 
 /// Offsets of a group, as many as lie in the piece and fit.
 #[inline(always)]
-fn expand_offsets(hunk: OpenHunk, owed: u16, is_odd: bool, piece: &[u8], buf: &mut [u8]) -> Stretch
+fn expand_offsets(
+    after: FilePosition,
+    owed: u16,
+    is_odd: bool,
+    piece: &[u8],
+    buf: &mut [u8],
+) -> Stretch
     ensures taken { result.taken ≤ length piece.now }
     ensures given { result.given ≤ length buf.new }
-    ensures gives { GivesFor (Half hunk (Offset owed) is_odd) (take result.taken piece.now)
+    ensures gives { GivesFor (Half after (Offset owed) is_odd) (take result.taken piece.now)
         (take result.given buf.new) result.next }
 {
     let most = (piece.len() / 2).min(buf.len() / 4);
@@ -192,7 +206,7 @@ fn expand_offsets(hunk: OpenHunk, owed: u16, is_odd: bool, piece: &[u8], buf: &m
     Stretch {
         taken: 2 * count,
         given: 4 * count,
-        next: Spot::behind_offsets(hunk, owed, is_odd, count),
+        next: Spot::behind_offsets(after, owed, is_odd, count),
     }
 }
 
@@ -209,21 +223,21 @@ fn widen(halves: &[u8], longs: &mut [u8])
 }
 
 #[inline(always)]
-fn expand_filler(hunk: OpenHunk, piece: &[u8], buf: &mut [u8]) -> Stretch
+fn expand_filler(after: FilePosition, piece: &[u8], buf: &mut [u8]) -> Stretch
     ensures taken { result.taken ≤ length piece.now }
     ensures given { result.given ≤ length buf.new }
-    ensures gives { GivesFor (Filler hunk) (take result.taken piece.now)
+    ensures gives { GivesFor (Filler after) (take result.taken piece.now)
         (take result.given buf.new) result.next }
 {
     if piece.len() < 2 || buf.len() < 6 {
-        return nothing(Spot::Filler(hunk));
+        return nothing(Spot::Filler(after));
     }
     let half = piece[0] as u16 * 256 + piece[1] as u16;
     if half == 0 {
         return Stretch {
             taken: 2,
             given: 0,
-            next: Spot::Long(Position::Body(hunk, Phase::BlockWord)),
+            next: Spot::Long(after),
         };
     }
     buf[..6].copy_from_slice([0, 0, 3, 0xFC, piece[0], piece[1]].as_slice());

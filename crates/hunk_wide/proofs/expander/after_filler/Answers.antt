@@ -1,6 +1,4 @@
 use Rattle.std.proofs.Common.{ℕ, List, ◌++◌, ap, ◌∙◌}
-use Rattle.hunk_grammar.specs.declared.phase.Phase.TheVariants as phases
-use Rattle.hunk_grammar.specs.declared.position.Position.TheVariants as positions
 use Rattle.hunk_wide.specs.declared.spot.Spot.TheVariants.{Long, Passing}
 use Rattle.hunk_wide.specs.Plain.{plain_from}
 use Rattle.hunk_wide.proofs.Few.{filler_other, filler_zero}
@@ -8,10 +6,10 @@ use Rattle.hunk_wide.proofs.expander.after_filler.Goals as goal
 
 pub returns-then-half-eq0-clause-left : goal.returns-then-half-eq0-clause-left
 returns-then-half-eq0-clause-left c =
-    λ more. ap (λ (r : List ℕ). r ++ plain_from (Long (positions.Body c.args.hunk phases.BlockWord)) more) c.none.ensures
-    ∙ filler_zero c.args.hunk c.args.begun c.args.byte more c.requires c.if-begun-eq0.false c.if-half-eq0.true
+    λ more. ap (λ (r : List ℕ). r ++ plain_from (Long c.args.after) more) c.none.ensures
+    ∙ filler_zero c.args.after c.args.begun c.args.byte more c.requires c.if-begun-eq0.false c.if-half-eq0.true
 
 pub returns-clause-left : goal.returns-clause-left
 returns-clause-left c =
     λ more. ap (λ (r : List ℕ). r ++ plain_from Passing more) c.six.ensures
-    ∙ filler_other c.args.hunk c.args.begun c.args.byte more c.requires c.if-begun-eq0.false c.if-half-eq0.false
+    ∙ filler_other c.args.after c.args.begun c.args.byte more c.requires c.if-begun-eq0.false c.if-half-eq0.false

@@ -6,4 +6,4 @@ use Rattle.hunk_wide.proofs.expander.after_half.Goals as goal
 pub returns-clause-left : goal.returns-clause-left
 returns-clause-left c =
     λ more. (λ i. c.four.ensures i ++ plain_from (c.behind_half.ensures i) more)
-    ∙ half_whole c.args.hunk c.args.part c.args.is_odd c.args.begun c.args.byte more c.requires c.if-begun-eq0.false
+    ∙ half_whole c.args.after c.args.part c.args.is_odd c.args.begun c.args.byte more c.requires c.if-begun-eq0.false

@@ -6,5 +6,5 @@ use Rattle.hunk_wide.proofs.units.expand_offsets.Goals as goal
 pub returns-clause-gives : goal.returns-clause-gives
 returns-clause-gives c =
     let count : ℕ = c.min-count.result in
-    offsets_there c.args.hunk c.args.owed count c.args.is_odd c.behind_offsets.result c.args.piece.now _ (omega arith) (omega arith)
+    offsets_there c.args.after c.args.owed count c.args.is_odd c.behind_offsets.result c.args.piece.now _ (omega arith) (omega arith)
     (written (4 * count) c.widen.new.longs c.args.buf.now c.widen.auto.longs (omega arith) ∙ c.widen.ensures) c.behind_offsets.ensures

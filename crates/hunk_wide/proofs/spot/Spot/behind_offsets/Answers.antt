@@ -6,10 +6,10 @@ use Rattle.hunk_wide.proofs.spot.Spot.behind_offsets.Goals as goal
 
 pub returns-then-count-owed : goal.returns-then-count-owed
 returns-then-count-owed c =
-    ap (Half c.args.hunk (Offset (c.args.owed - c.args.count))) c.flipped-is_odd.ensures
-    ∙ sym (behind_some c.args.hunk c.args.owed c.args.count c.args.is_odd c.if-count-owed.true)
+    ap (Half c.args.after (Offset (c.args.owed - c.args.count))) c.flipped-is_odd.ensures
+    ∙ sym (behind_some c.args.after c.args.owed c.args.count c.args.is_odd c.if-count-owed.true)
 
 pub returns-else-count-owed : goal.returns-else-count-owed
 returns-else-count-owed c =
-    ap (Half c.args.hunk Count) c.flipped-is_odd.ensures
-    ∙ sym (behind_all c.args.hunk c.args.owed c.args.count c.args.is_odd (omega arith))
+    ap (Half c.args.after Count) c.flipped-is_odd.ensures
+    ∙ sym (behind_all c.args.after c.args.owed c.args.count c.args.is_odd (omega arith))
