@@ -1,12 +1,14 @@
 pub mod Along
 pub mod Cutting
 pub mod Few
+pub mod Objects
 pub mod Offsets
 pub mod Placing
 pub mod Straight
 pub mod Stretches
 pub mod Short
 pub mod Spelled
+pub mod SpelledObjects
 pub mod Steps
 pub mod Supplies
 pub mod Cells

@@ -139,7 +139,7 @@ no_bits w h = let e : w / 2 ^ 30 ≡ long_word w / 2 ^ 30 = omega arith in ap (�
 -- ---- the block in its hunk
 
 -- the longwords of the block
-short_text : (b : BlockValue) (bytes : List ℕ) (s : IsShort b bytes) → block_text b ≡ long_word s.word ∷ list_text group_text s.groups
+pub short_text : (b : BlockValue) (bytes : List ℕ) (s : IsShort b bytes) → block_text b ≡ long_word s.word ∷ list_text group_text s.groups
 short_text b bytes s =
     ap (λ (body : BlockBody). b.word ∷ body_text body) s.body ∙ ap (λ (ns : List ℕ). b.word ∷ ns) (body_text_is (Reloc s.groups))
     ∙ ap (λ (w : ℕ). w ∷ list_text group_text s.groups) s.long
@@ -156,13 +156,13 @@ short_at p after b bytes more s is g n =
     ∙ ap (λ (x : List ℕ). to_be_bytes w32 (long_word s.word) ++ x) (list_goes after s.groups more is s.halves)
     ∙ ap (λ (ns : List ℕ). bytes_of ns ++ plain_from (Long after) more) (sym (short_text b bytes s))
 
-groups_fit : (word : ℕ) (body : BlockBody) (groups : List RelocGroup) → body ≡ Reloc groups → FitsWord word body → AllByRecursion IsGroup groups
+pub groups_fit : (word : ℕ) (body : BlockBody) (groups : List RelocGroup) → body ≡ Reloc groups → FitsWord word body → AllByRecursion IsGroup groups
 groups_fit word body groups e h = (subst (λ (x : BlockBody). FitsWord word x) e h).1
 
 kind_fits : (word : ℕ) (body : BlockBody) (groups : List RelocGroup) → body ≡ Reloc groups → IsOfLoadMode word body → kind word ≡ kinds.Reloc32
 kind_fits word body groups e h = subst (λ (x : BlockBody). IsOfLoadMode word x) e h
 
-word_bits : (b : BlockValue) (bytes : List ℕ) (s : IsShort b bytes) → IsFalse (has_both_bits b.word) → has_both_bits s.word ≡ false
+pub word_bits : (b : BlockValue) (bytes : List ℕ) (s : IsShort b bytes) → IsFalse (has_both_bits b.word) → has_both_bits s.word ≡ false
 word_bits b bytes s h = no_bits s.word (ap has_both_bits (sym s.long) ∙ false_is (has_both_bits b.word) h)
   where
     false_is : (x : Bool) → IsFalse x → x ≡ false

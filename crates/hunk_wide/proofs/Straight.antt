@@ -40,7 +40,7 @@ behind_all (suc owed) (suc count) next h = behind_all owed count next (omega ari
 
 -- ---- longwords
 
-four_more : (k a b c d : ℕ) (next : FilePosition) (more : List ℕ) → plain_from (Straight (4 * suc k + 3) next) (a ∷ b ∷ c ∷ d ∷ more) ≡ a ∷ b ∷ c ∷ d ∷ plain_from (Straight (4 * k + 3) next) more
+pub four_more : (k a b c d : ℕ) (next : FilePosition) (more : List ℕ) → plain_from (Straight (4 * suc k + 3) next) (a ∷ b ∷ c ∷ d ∷ more) ≡ a ∷ b ∷ c ∷ d ∷ plain_from (Straight (4 * k + 3) next) more
 unfolding plain_from
 four_more k a b c d next more =
     let e : 4 * suc k + 3 ≡ suc (suc (suc (suc (4 * k + 3)))) = omega arith in

@@ -5,3 +5,4 @@ pub mod Longwords
 pub mod Places
 pub mod Plain
 pub mod Wide
+pub mod WideObject

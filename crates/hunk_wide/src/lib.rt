@@ -14,7 +14,7 @@ mod spot;
 mod units;
 
 pub use crate::expander::Expander;
-pub use crate::laws::{one_spelling, plain_spelling};
+pub use crate::laws::{one_object_spelling, one_spelling, plain_spelling};
 pub use crate::place::place_in;
 pub use crate::plain::Plain;
 pub use crate::position::FilePosition;
