@@ -9,6 +9,7 @@ pub mod Stretches
 pub mod Short
 pub mod Spelled
 pub mod SpelledObjects
+pub mod Counted
 pub mod Steps
 pub mod Supplies
 pub mod Cells

@@ -4,5 +4,6 @@ pub mod Held
 pub mod Longwords
 pub mod Places
 pub mod Plain
+pub mod Spellings
 pub mod Wide
 pub mod WideObject

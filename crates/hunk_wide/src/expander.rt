@@ -350,7 +350,7 @@ fn ready_end(spot: Spot, begun: Pending) -> Ready
 }
 
 /// Whether only the END of the last hunk is to come, no byte of which has come.
-fn is_last(spot: Spot) -> bool
+pub(crate) fn is_last(spot: Spot) -> bool
     ensures { result ≡ is_last spot }
 {
     match spot {

@@ -10,6 +10,7 @@ mod place;
 mod plain;
 mod position;
 mod ready;
+mod spelling;
 mod spot;
 mod units;
 
@@ -18,4 +19,5 @@ pub use crate::laws::{one_object_spelling, one_spelling, plain_spelling};
 pub use crate::place::place_in;
 pub use crate::plain::Plain;
 pub use crate::position::FilePosition;
+pub use crate::spelling::{Spelling, spelling_of};
 pub use crate::spot::{Given, ShortPart, Spot};

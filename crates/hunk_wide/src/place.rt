@@ -156,7 +156,7 @@ fn filler_unit(after: FilePosition, rest: &[u8], n: u64) -> Option<Unit>
 }
 
 /// How many bytes are given out for a longword.
-fn given_len(given: Given) -> u64
+pub(crate) fn given_len(given: Given) -> u64
     ensures { result ≡ count_long given }
 {
     match given {

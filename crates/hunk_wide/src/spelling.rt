@@ -1,0 +1,213 @@
+//! How an input spells its file: what it has otherwise than the plain spelling.
+ghost use Rattle.std.specs.Prelude.{◌≡◌, ◌+◌, ◌*◌, ◌≤◌, length, IfNone, IfSome};
+ghost use Rattle.hunk_grammar.specs.declared.position.Position.TheVariants.{FirstLong};
+ghost use Rattle.hunk_wide.specs.Plain.{plain};
+ghost use Rattle.hunk_wide.specs.Spellings.{BeginsWith, EndsThere};
+ghost use Rattle.hunk_wide.specs.Spellings.{ends_last, ends_of, has_end, is_short, one_if, short_blocks_of};
+ghost use Rattle.hunk_wide.specs.declared.spot.ShortPart.TheVariants.{Offset};
+ghost use Rattle.hunk_wide.specs.declared.spot.Spot.TheVariants.{Filler, Half, Long, Straight};
+
+use crate::expander::is_last;
+use crate::place::given_len;
+use crate::spot::{Given, ShortPart, Spot};
+use hunk_grammar::{OpenHunk, Phase, Position};
+
+/// How an input spells its file.
+#[derive(Clone, Copy, Debug, PartialEq, Eq)]
+pub struct Spelling {
+    /// The number of bytes of its plain spelling.
+    pub len: u64,
+    /// How many blocks of short relocations it has.
+    pub short_blocks: u64,
+    /// How many END it leaves out.
+    pub ends: u64,
+}
+
+/// The first units of a wide spelling.
+#[derive(Clone, Copy)]
+struct Units {
+    /// The number of their bytes.
+    size: usize,
+    /// How many bytes are given out for them.
+    given: u64,
+    /// What is given out for a longword. Of other units nothing is counted.
+    put_in: Given,
+    /// What the bytes after them are for.
+    next: Spot,
+}
+
+/// How the input spells its file, by one pass over it. Nothing is written.
+///
+/// Where it has no short block and leaves out no END, it is its own plain spelling.
+pub fn spelling_of(bytes: &[u8]) -> Spelling
+    ensures len { result.len ≡ length (plain bytes.now) }
+    ensures short_blocks { result.short_blocks ≡ short_blocks_of bytes.now }
+    ensures ends { result.ends ≡ ends_of bytes.now }
+    ensures same { result.short_blocks ≡ 0 → result.ends ≡ 0 → plain bytes.now ≡ bytes.now }
+    ensures bound { result.len ≤ 2 * length bytes.now }
+{
+    let mut spot = Spot::Long(Position::FirstLong);
+    let mut rest = bytes;
+    let mut len: u64 = 0;
+    let mut short_blocks: u64 = 0;
+    let mut ends: u64 = 0;
+    'units: while let Some(units) = units_at(spot, rest) {
+        len += units.given;
+        short_blocks += u64::from(is_short(units.put_in));
+        ends += u64::from(has_end(units.put_in));
+        rest = &rest[units.size..];
+        spot = units.next;
+    }
+    let last = ends_last(spot, rest);
+    Spelling {
+        len: len + rest.len() as u64 + 4 * last,
+        short_blocks,
+        ends: ends + last,
+    }
+}
+
+/// How many END are put in at the end of the input: 1 or none.
+fn ends_last(spot: Spot, rest: &[u8]) -> u64
+    ensures { result ≡ one_if (ends_last spot rest.now) }
+{
+    u64::from(rest.is_empty() && is_last(spot))
+}
+
+/// Whether it is the word of a short block.
+#[inline(always)]
+fn is_short(given: Given) -> bool
+    ensures { result ≡ is_short given }
+{
+    match given {
+        Given::AsLong => true,
+        _ => false,
+    }
+}
+
+/// Whether an END is put in.
+#[inline(always)]
+fn has_end(given: Given) -> bool
+    ensures { result ≡ has_end given }
+{
+    match given {
+        Given::BehindEnd => true,
+        _ => false,
+    }
+}
+
+/// The first unit, or as many of those that are given out as they are, or offsets of a short block,
+/// as follow one another. `None` where no such thing is whole.
+#[inline(always)]
+fn units_at(spot: Spot, rest: &[u8]) -> Option<Units>
+    ensures none { IfNone result (EndsThere spot rest.now) }
+    ensures some { IfSome result
+        (λ u. BeginsWith spot rest.now u.size u.given u.put_in u.next) }
+{
+    match spot {
+        Spot::Passing => None,
+        Spot::Straight { owed, next } => straight_at(owed, next, rest),
+        Spot::Long(position) => long_at(position, rest),
+        Spot::Half { hunk, part, is_odd } => half_at(hunk, part, is_odd, rest),
+        Spot::Filler(hunk) => filler_at(hunk, rest),
+    }
+}
+
+#[inline(always)]
+fn straight_at(owed: u64, next: Position, rest: &[u8]) -> Option<Units>
+    ensures none { IfNone result (EndsThere (Straight owed next) rest.now) }
+    ensures some { IfSome result
+        (λ u. BeginsWith (Straight owed next) rest.now u.size u.given u.put_in u.next) }
+{
+    if rest.len() as u64 <= owed {
+        return None;
+    }
+    Some(Units {
+        size: owed as usize + 1,
+        given: owed + 1,
+        put_in: Given::Same,
+        next: Spot::Long(next),
+    })
+}
+
+#[inline(always)]
+fn long_at(position: Position, rest: &[u8]) -> Option<Units>
+    ensures none { IfNone result (EndsThere (Long position) rest.now) }
+    ensures some { IfSome result
+        (λ u. BeginsWith (Long position) rest.now u.size u.given u.put_in u.next) }
+{
+    if rest.len() < 4 {
+        return None;
+    }
+    let word = u32::from_be_bytes([rest[0], rest[1], rest[2], rest[3]]);
+    let put_in = Given::of(position, word);
+    Some(Units {
+        size: 4,
+        given: given_len(put_in),
+        put_in,
+        next: Spot::behind_long(position, word),
+    })
+}
+
+#[inline(always)]
+fn half_at(hunk: OpenHunk, part: ShortPart, is_odd: bool, rest: &[u8]) -> Option<Units>
+    ensures none { IfNone result (EndsThere (Half hunk part is_odd) rest.now) }
+    ensures some { IfSome result
+        (λ u. BeginsWith (Half hunk part is_odd) rest.now u.size u.given u.put_in u.next) }
+{
+    if rest.len() < 2 {
+        return None;
+    }
+    if let ShortPart::Offset { owed } = part {
+        return offsets_at(hunk, owed, is_odd, rest);
+    }
+    let half = rest[0] as u16 * 256 + rest[1] as u16;
+    Some(Units {
+        size: 2,
+        given: 4,
+        put_in: Given::Same,
+        next: Spot::behind_half(hunk, part, is_odd, half),
+    })
+}
+
+/// Offsets of a group, as many as are in front.
+#[inline(always)]
+fn offsets_at(hunk: OpenHunk, owed: u16, is_odd: bool, rest: &[u8]) -> Option<Units>
+    requires { 2 ≤ length rest.now }
+    ensures none { IfNone result (EndsThere (Half hunk (Offset owed) is_odd) rest.now) }
+    ensures some { IfSome result
+        (λ u. BeginsWith (Half hunk (Offset owed) is_odd) rest.now u.size u.given u.put_in u.next) }
+{
+    let count = (rest.len() / 2).min(owed as usize + 1);
+    Some(Units {
+        size: 2 * count,
+        given: 4 * count as u64,
+        put_in: Given::Same,
+        next: Spot::behind_offsets(hunk, owed, is_odd, count),
+    })
+}
+
+#[inline(always)]
+fn filler_at(hunk: OpenHunk, rest: &[u8]) -> Option<Units>
+    ensures none { IfNone result (EndsThere (Filler hunk) rest.now) }
+    ensures some { IfSome result
+        (λ u. BeginsWith (Filler hunk) rest.now u.size u.given u.put_in u.next) }
+{
+    if rest.len() < 2 {
+        return None;
+    }
+    let half = rest[0] as u16 * 256 + rest[1] as u16;
+    if half == 0 {
+        return Some(Units {
+            size: 2,
+            given: 0,
+            put_in: Given::Same,
+            next: Spot::Long(Position::Body(hunk, Phase::BlockWord)),
+        });
+    }
+    Some(Units {
+        size: 2,
+        given: 6,
+        put_in: Given::Same,
+        next: Spot::Passing,
+    })
+}
