@@ -12,4 +12,5 @@ pub mod SpelledObjects
 pub mod Counted
 pub mod Steps
 pub mod Supplies
+pub mod Written
 pub mod Cells

@@ -18,19 +18,22 @@ two_give s t u front back given more_given first second more =
     ∙ ap (λ (x : List ℕ). given ++ x) (second more)
     ∙ sym (append_assoc given more_given (plain_from u more))
 
--- Of a piece and a buffer the first parts, and then parts of what is after them.
-pub one_more : (s t u : Spot) (piece buf new post : List ℕ) (taken more_taken given more_given : ℕ) → given ≤ length buf → more_given ≤ length new → GivesFor s (take taken piece) (take given buf) t
-    → GivesFor t (take more_taken (drop taken piece)) (take more_given new) u → GivesFor s (take (taken + more_taken) piece) (take (given + more_given) (take given buf ++ (new ++ post))) u
-one_more s t u piece buf new post taken more_taken given more_given fits room first second =
+-- the first part of a buffer, and then a part of what is written behind it
+pub front_more : (buf new post : List ℕ) (given more_given : ℕ) → given ≤ length buf → more_given ≤ length new → take (given + more_given) (take given buf ++ (new ++ post)) ≡ take given buf ++ take more_given new
+front_more buf new post given more_given fits room =
     let len : length (take given buf) ≡ given = omega (arith, length-take given buf) in
-    let front : take (given + more_given) (take given buf ++ (new ++ post)) ≡ take given buf ++ take more_given new =
     take_add given more_given (take given buf ++ (new ++ post))
     ∙ ap₂ (λ (x y : List ℕ). x ++ take more_given y)
     (ap (λ (n : ℕ). take n (take given buf ++ (new ++ post))) (sym len) ∙ take-append_seam (take given buf) (new ++ post))
     (ap (λ (n : ℕ). drop n (take given buf ++ (new ++ post))) (sym len) ∙ drop-append_seam (take given buf) (new ++ post))
-    ∙ ap (λ (x : List ℕ). take given buf ++ x) (take-append-le more_given new post room) in
+    ∙ ap (λ (x : List ℕ). take given buf ++ x) (take-append-le more_given new post room)
+
+-- Of a piece and a buffer the first parts, and then parts of what is after them.
+pub one_more : (s t u : Spot) (piece buf new post : List ℕ) (taken more_taken given more_given : ℕ) → given ≤ length buf → more_given ≤ length new → GivesFor s (take taken piece) (take given buf) t
+    → GivesFor t (take more_taken (drop taken piece)) (take more_given new) u → GivesFor s (take (taken + more_taken) piece) (take (given + more_given) (take given buf ++ (new ++ post))) u
+one_more s t u piece buf new post taken more_taken given more_given fits room first second =
     subst (λ (x : List ℕ). GivesFor s x (take (given + more_given) (take given buf ++ (new ++ post))) u) (sym (take_add taken more_taken piece))
-    (subst (λ (x : List ℕ). GivesFor s (take taken piece ++ take more_taken (drop taken piece)) x u) (sym front)
+    (subst (λ (x : List ℕ). GivesFor s (take taken piece ++ take more_taken (drop taken piece)) x u) (sym (front_more buf new post given more_given fits room))
     (two_give s t u (take taken piece) (take more_taken (drop taken piece)) (take given buf) (take more_given new) first second))
 
 -- ---- bytes that are copied

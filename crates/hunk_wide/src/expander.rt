@@ -83,6 +83,7 @@ impl Expander {
         ensures left { (more : List ℕ) → left_of self.new more
             ≡ left_of self.old (piece.now ++ more) }
         ensures fewer { 0 < length piece.now → owed self.new < owed self.old }
+        ensures wants { wanted self.old ≤ wanted self.new + length piece.now }
     {
         for byte in piece {
             self.push(*byte);

@@ -13,6 +13,7 @@ mod ready;
 mod spelling;
 mod spot;
 mod units;
+mod writing;
 
 pub use crate::expander::Expander;
 pub use crate::laws::{one_object_spelling, one_spelling, plain_spelling};
@@ -21,3 +22,4 @@ pub use crate::plain::Plain;
 pub use crate::position::FilePosition;
 pub use crate::spelling::{Spelling, spelling_of};
 pub use crate::spot::{Given, ShortPart, Spot};
+pub use crate::writing::{NoRoom, write_plain};

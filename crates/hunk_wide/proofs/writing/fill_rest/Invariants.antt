@@ -1,0 +1,12 @@
+use Rattle.std.proofs.Common.{◌≡◌, ◌≤◌, ◌++◌, length, take}
+use Rattle.hunk_wide.specs.Held.{left_of}
+use Rattle.hunk_wide.proofs.writing.fill_rest.Given as goal
+
+abbrev pub invariant-units : goal.invariant-units
+invariant-units l = record {
+  inside : l.at ≤ length l.out;
+  same : take l.at l.out ++ left_of l.held l.rest ≡ left_of l.fn.held l.fn.bytes;
+}
+
+abbrev pub decreases-units : goal.decreases-units
+decreases-units l = length l.rest

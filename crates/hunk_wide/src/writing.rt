@@ -1,0 +1,83 @@
+//! The plain spelling of an input that is in hand whole, written at once.
+ghost use Rattle.std.specs.Prelude.{◌≡◌, ◌<◌, ◌≤◌, ◌++◌, ◌⊎◌, [], IfErr, IfOk, OnErr, length, drop};
+ghost use Rattle.hunk_wide.specs.Held.{left_of, wanted};
+ghost use Rattle.hunk_wide.specs.Plain.{plain};
+
+use crate::expander::Expander;
+use crate::spelling::spelling_of;
+
+/// There is no room for the plain spelling.
+#[derive(Clone, Copy, Debug, PartialEq, Eq)]
+pub struct NoRoom {
+    /// The number of its bytes.
+    pub needed: u64,
+}
+
+/// Writes the plain spelling of the input to the front of `out`, and gives the number of its bytes.
+/// The bytes of `out` after it stay as they were.
+///
+/// # Errors
+///
+/// `NoRoom` where `out` has fewer bytes than the plain spelling. Then nothing is written.
+pub fn write_plain(bytes: &[u8], out: &mut [u8]) -> Result<usize, NoRoom>
+    ensures count { IfOk result (λ count. count ≡ length (plain bytes.now)) }
+    ensures written { IfOk result (λ count. out.new ≡ plain bytes.now ++ drop count out.old) }
+    ensures needed { IfErr result (λ e. e.needed ≡ length (plain bytes.now)) }
+    ensures no_room { IfErr result (λ e. length out.old < e.needed) }
+    ensures stays { OnErr result (out.new ≡ out.old) }
+{
+    let needed = spelling_of(bytes).len;
+    if needed > out.len() as u64 {
+        return Err(NoRoom { needed });
+    }
+    let count = needed as usize;
+    fill(bytes, &mut out[..count]);
+    Ok(count)
+}
+
+/// Fills the buffer, which has just as many bytes, with the plain spelling.
+fn fill(bytes: &[u8], out: &mut [u8])
+    requires { length out.old ≡ length (plain bytes.now) }
+    ensures { out.new ≡ plain bytes.now }
+{
+    let mut held = Expander::new();
+    let (taken, given) = held.expand(bytes, out);
+    fill_rest(held, &bytes[taken..], &mut out[given..]);
+}
+
+/// The same, where this is held and these bytes are still to come. It goes a unit at a time.
+fn fill_rest(held: Expander, bytes: &[u8], out: &mut [u8])
+    requires { length out.old ≡ length (left_of held bytes.now) }
+    ensures { out.new ≡ left_of held bytes.now }
+{
+    let mut held = held;
+    let mut rest = bytes;
+    let mut at = 0;
+    'units: loop {
+        at += held.give(&mut out[at..]);
+        let want = held.want();
+        if want == 0 || rest.len() < want {
+            break 'units;
+        }
+        held.take(&rest[..want]);
+        rest = &rest[want..];
+    }
+    fill_last(held, rest, &mut out[at..]);
+}
+
+/// The same, where all bytes pass, or no unit is whole.
+fn fill_last(held: Expander, bytes: &[u8], out: &mut [u8])
+    requires ready { held.ready ≡ [] }
+    requires few { (wanted held ≡ 0) ⊎ (length bytes.now < wanted held) }
+    requires room { length out.old ≡ length (left_of held bytes.now) }
+    ensures { out.new ≡ left_of held bytes.now }
+{
+    let mut held = held;
+    if held.want() == 0 {
+        out.copy_from_slice(bytes);
+        return;
+    }
+    held.take(bytes);
+    held.end();
+    held.give(out);
+}
