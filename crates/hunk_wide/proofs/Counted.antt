@@ -2,14 +2,18 @@
 use Rattle.std.proofs.Common.{◌≡◌, ℕ, zero, suc, ◌+◌, ◌*◌, ◌==◌, ◌<◌, ◌≤◌, Bool, true, false, cond, not, List, [], ◌∷◌, ◌++◌, length, drop, get_or, length-append, refl, sym, ap, ap₂, subst, ◌∙◌, arith}
 use Rattle.std.specs.Int.{from_be_bytes, to_be_bytes, w32}
 use Rattle.std.proofs.lemmas.Bool.{eq-eqb, ne_eqb, true≢false}
-use Rattle.hunk_words.specs.Bits.{end_word, header_word}
+use Rattle.hunk_words.specs.Bits.{end_word, header_word, unit_word}
 use Rattle.hunk_grammar.specs.declared.phase.Phase.{Phase}
 use Rattle.hunk_grammar.specs.declared.phase.Phase.TheVariants as phases
 use Rattle.hunk_grammar.specs.declared.position.OpenHunk.{OpenHunk}
-use Rattle.hunk_grammar.specs.declared.position.Position.{Position}
 use Rattle.hunk_grammar.specs.declared.position.Position.TheVariants as positions
+use Rattle.hunk_grammar.specs.declared.object_position.ObjectPosition.TheVariants as places
+use Rattle.hunk_grammar.specs.declared.object_position.WordPlace.{WordPlace}
+use Rattle.hunk_grammar.specs.ObjectPositions as object
 use Rattle.hunk_grammar.specs.PhaseSteps as inside
-use Rattle.hunk_grammar.specs.Positions.{step}
+use Rattle.hunk_grammar.specs.Positions.{close, step}
+use Rattle.hunk_wide.specs.declared.position.FilePosition.{FilePosition}
+use Rattle.hunk_wide.specs.declared.position.FilePosition.TheVariants as files
 use Rattle.hunk_wide.specs.declared.spot.ShortPart.{ShortPart}
 use Rattle.hunk_wide.specs.declared.spot.ShortPart.TheVariants.{Offset}
 use Rattle.hunk_wide.specs.declared.spot.Spot.{Spot}
@@ -19,7 +23,7 @@ use Rattle.hunk_wide.specs.declared.spot.Given.TheVariants.{Same, BehindEnd, AsL
 use Rattle.hunk_wide.specs.Places.{count_long}
 use Rattle.hunk_wide.specs.FileEnds.{ends, ending}
 use Rattle.hunk_wide.specs.Halves.{behind_filler, behind_half, behind_offsets, half_of, out_filler}
-use Rattle.hunk_wide.specs.Longwords.{behind_block, behind_long, given, go_on, out_long, straight}
+use Rattle.hunk_wide.specs.Longwords.{behind_block, behind_long, behind_word, given, given_block, given_object, go_on, out_long, straight}
 use Rattle.hunk_wide.specs.Plain.{plain, plain_from}
 use Rattle.hunk_wide.specs.Spellings.{BeginsWith, EndsThere, counted, ends_from, ends_of, has_end, is_short, one_if, short_blocks_from, short_blocks_of}
 use Rattle.hunk_wide.proofs.Placing.{front_half, front_word}
@@ -36,7 +40,7 @@ most_long Same = omega arith
 most_long BehindEnd = omega arith
 most_long AsLong = omega arith
 
-ending_length : (p : Position) → length (ending p) ≡ 4 * one_if (ends p)
+ending_length : (p : FilePosition) → length (ending p) ≡ 4 * one_if (ends p)
 ending_length p = go (ends p)
   where
     go : (b : Bool) → length (cond b (to_be_bytes w32 end_word) []) ≡ 4 * one_if b
@@ -47,12 +51,12 @@ one_most : (b : Bool) → one_if b ≤ 1
 one_most true = omega arith
 one_most false = omega arith
 
-filler_length : (o : OpenHunk) (a b : ℕ) (rest : List ℕ) → ((s : Spot) → length (plain_from s rest) ≤ 2 * length rest + 4)
-    → length (plain_from Passing rest) ≡ length rest → length (out_filler a b ++ plain_from (behind_filler o a b) rest) ≤ 2 * (2 + length rest) + 4
-filler_length o a b rest h passing = go (half_of a b == 0)
+filler_length : (after : FilePosition) (a b : ℕ) (rest : List ℕ) → ((s : Spot) → length (plain_from s rest) ≤ 2 * length rest + 4)
+    → length (plain_from Passing rest) ≡ length rest → length (out_filler a b ++ plain_from (behind_filler after a b) rest) ≤ 2 * (2 + length rest) + 4
+filler_length after a b rest h passing = go (half_of a b == 0)
   where
-    go : (x : Bool) → length (cond x [] (0 ∷ 0 ∷ 3 ∷ 0xFC ∷ a ∷ b ∷ []) ++ plain_from (cond x (Long (positions.Body o phases.BlockWord)) Passing) rest) ≤ 2 * (2 + length rest) + 4
-    go true = omega (arith, h (Long (positions.Body o phases.BlockWord)))
+    go : (x : Bool) → length (cond x [] (0 ∷ 0 ∷ 3 ∷ 0xFC ∷ a ∷ b ∷ []) ++ plain_from (cond x (Long after) Passing) rest) ≤ 2 * (2 + length rest) + 4
+    go true = omega (arith, h (Long after))
     go false = omega (arith, passing)
 
 -- from anywhere
@@ -71,12 +75,12 @@ longest (Long p) (a ∷ b ∷ c ∷ d ∷ rest) =
     let w : ℕ = from_be_bytes w32 (a ∷ b ∷ c ∷ d ∷ []) in
     let out : List ℕ = out_long (given p w) (a ∷ b ∷ c ∷ d ∷ []) w in
     omega (arith, length-append out (plain_from (behind_long p w) rest), out_length (given p w) a b c d w, most_long (given p w), longest (behind_long p w) rest)
-longest (Half o part odd) [] = omega arith
-longest (Half o part odd) (a ∷ []) = omega arith
-longest (Half o part odd) (a ∷ b ∷ rest) = omega (arith, longest (behind_half o part odd (half_of a b)) rest)
-longest (Filler o) [] = omega arith
-longest (Filler o) (a ∷ []) = omega arith
-longest (Filler o) (a ∷ b ∷ rest) = omega (arith, filler_length o a b rest (λ s. longest s rest) refl)
+longest (Half after part odd) [] = omega arith
+longest (Half after part odd) (a ∷ []) = omega arith
+longest (Half after part odd) (a ∷ b ∷ rest) = omega (arith, longest (behind_half after part odd (half_of a b)) rest)
+longest (Filler after) [] = omega arith
+longest (Filler after) (a ∷ []) = omega arith
+longest (Filler after) (a ∷ b ∷ rest) = omega (arith, filler_length after a b rest (λ s. longest s rest) refl)
 
 -- The plain spelling of an input has at most twice its bytes.
 pub at_most_twice : (bytes : List ℕ) → length (plain bytes) ≤ 2 * length bytes
@@ -85,23 +89,23 @@ at_most_twice [] = omega arith
 at_most_twice (a ∷ []) = omega arith
 at_most_twice (a ∷ b ∷ []) = omega arith
 at_most_twice (a ∷ b ∷ c ∷ []) = omega arith
-at_most_twice (a ∷ b ∷ c ∷ d ∷ rest) = let w : ℕ = from_be_bytes w32 (a ∷ b ∷ c ∷ d ∷ []) in omega (arith, longest (behind_long positions.FirstLong w) rest)
+at_most_twice (a ∷ b ∷ c ∷ d ∷ rest) = let w : ℕ = from_be_bytes w32 (a ∷ b ∷ c ∷ d ∷ []) in omega (arith, longest (behind_long (files.Load positions.FirstLong) w) rest)
 
 abbrev shorts : Given → ℕ
 shorts g = one_if (is_short g)
 
-abbrev at_no_end : Position → ℕ
+abbrev at_no_end : FilePosition → ℕ
 at_no_end p = 0
 
 abbrev ends_before : Given → ℕ
 ends_before g = one_if (has_end g)
 
-abbrev ends_after : Position → ℕ
+abbrev ends_after : FilePosition → ℕ
 ends_after p = one_if (ends p)
 
 -- ---- units in front
 
-pub long_begins : (p : Position) (bytes : List ℕ) → 4 ≤ length bytes → BeginsWith (Long p) bytes 4 (count_long (given p (front_word bytes))) (given p (front_word bytes)) (behind_long p (front_word bytes))
+pub long_begins : (p : FilePosition) (bytes : List ℕ) → 4 ≤ length bytes → BeginsWith (Long p) bytes 4 (count_long (given p (front_word bytes))) (given p (front_word bytes)) (behind_long p (front_word bytes))
 unfolding plain_from counted
 long_begins p (a ∷ b ∷ c ∷ d ∷ rest) whole =
     let w : ℕ = from_be_bytes w32 (a ∷ b ∷ c ∷ d ∷ []) in
@@ -115,46 +119,46 @@ long_begins p (a ∷ b ∷ c ∷ d ∷ rest) whole =
     }
 long_begins p _ whole = absurd (omega arith)
 
-pub half_begins : (o : OpenHunk) (part : ShortPart) (odd : Bool) (bytes : List ℕ) → 2 ≤ length bytes → BeginsWith (Half o part odd) bytes 2 4 Same (behind_half o part odd (front_half bytes))
+pub half_begins : (after : FilePosition) (part : ShortPart) (odd : Bool) (bytes : List ℕ) → 2 ≤ length bytes → BeginsWith (Half after part odd) bytes 2 4 Same (behind_half after part odd (front_half bytes))
 unfolding plain_from counted
-half_begins o part odd (a ∷ b ∷ rest) whole = record { some = omega arith; whole = whole; len = omega arith; short_blocks = omega arith; ends = omega arith }
-half_begins o part odd _ whole = absurd (omega arith)
+half_begins after part odd (a ∷ b ∷ rest) whole = record { some = omega arith; whole = whole; len = omega arith; short_blocks = omega arith; ends = omega arith }
+half_begins after part odd _ whole = absurd (omega arith)
 
-filler_begins : (o : OpenHunk) (bytes : List ℕ) → 2 ≤ length bytes
-    → BeginsWith (Filler o) bytes 2 (length (out_filler (get_or bytes 0 0) (get_or bytes 1 0))) Same (behind_filler o (get_or bytes 0 0) (get_or bytes 1 0))
+filler_begins : (after : FilePosition) (bytes : List ℕ) → 2 ≤ length bytes
+    → BeginsWith (Filler after) bytes 2 (length (out_filler (get_or bytes 0 0) (get_or bytes 1 0))) Same (behind_filler after (get_or bytes 0 0) (get_or bytes 1 0))
 unfolding plain_from counted
-filler_begins o (a ∷ b ∷ rest) whole = record {
+filler_begins after (a ∷ b ∷ rest) whole = record {
   some = omega arith;
   whole = whole;
-  len = length-append (out_filler a b) (plain_from (behind_filler o a b) rest);
+  len = length-append (out_filler a b) (plain_from (behind_filler after a b) rest);
   short_blocks = omega arith;
   ends = omega arith;
 }
-filler_begins o _ whole = absurd (omega arith)
+filler_begins after _ whole = absurd (omega arith)
 
-pub zero_begins : (o : OpenHunk) (bytes : List ℕ) → 2 ≤ length bytes → front_half bytes ≡ 0 → BeginsWith (Filler o) bytes 2 0 Same (Long (positions.Body o phases.BlockWord))
-zero_begins o bytes whole e =
-    subst (λ (b : Bool). BeginsWith (Filler o) bytes 2 (length (cond b [] (0 ∷ 0 ∷ 3 ∷ 252 ∷ get_or bytes 0 0 ∷ get_or bytes 1 0 ∷ []))) Same (cond b (Long (positions.Body o phases.BlockWord)) Passing))
-    (eq-eqb (front_half bytes) 0 e) (filler_begins o bytes whole)
+pub zero_begins : (after : FilePosition) (bytes : List ℕ) → 2 ≤ length bytes → front_half bytes ≡ 0 → BeginsWith (Filler after) bytes 2 0 Same (Long after)
+zero_begins after bytes whole e =
+    subst (λ (b : Bool). BeginsWith (Filler after) bytes 2 (length (cond b [] (0 ∷ 0 ∷ 3 ∷ 252 ∷ get_or bytes 0 0 ∷ get_or bytes 1 0 ∷ []))) Same (cond b (Long after) Passing))
+    (eq-eqb (front_half bytes) 0 e) (filler_begins after bytes whole)
 
-pub other_begins : (o : OpenHunk) (bytes : List ℕ) → 2 ≤ length bytes → (front_half bytes ≡ 0 → ⊥) → BeginsWith (Filler o) bytes 2 6 Same Passing
-other_begins o bytes whole e =
-    subst (λ (b : Bool). BeginsWith (Filler o) bytes 2 (length (cond b [] (0 ∷ 0 ∷ 3 ∷ 252 ∷ get_or bytes 0 0 ∷ get_or bytes 1 0 ∷ []))) Same (cond b (Long (positions.Body o phases.BlockWord)) Passing))
-    (ne_eqb (front_half bytes) 0 e) (filler_begins o bytes whole)
+pub other_begins : (after : FilePosition) (bytes : List ℕ) → 2 ≤ length bytes → (front_half bytes ≡ 0 → ⊥) → BeginsWith (Filler after) bytes 2 6 Same Passing
+other_begins after bytes whole e =
+    subst (λ (b : Bool). BeginsWith (Filler after) bytes 2 (length (cond b [] (0 ∷ 0 ∷ 3 ∷ 252 ∷ get_or bytes 0 0 ∷ get_or bytes 1 0 ∷ []))) Same (cond b (Long after) Passing))
+    (ne_eqb (front_half bytes) 0 e) (filler_begins after bytes whole)
 
-straight_len : (owed : ℕ) (next : Position) (bytes : List ℕ) → owed < length bytes → length (plain_from (Straight owed next) bytes) ≡ suc owed + length (plain_from (Long next) (drop (suc owed) bytes))
+straight_len : (owed : ℕ) (next : FilePosition) (bytes : List ℕ) → owed < length bytes → length (plain_from (Straight owed next) bytes) ≡ suc owed + length (plain_from (Long next) (drop (suc owed) bytes))
 unfolding plain_from
 straight_len owed next [] whole = absurd (omega arith)
 straight_len zero next (b ∷ rest) whole = omega arith
 straight_len (suc owed) next (b ∷ rest) whole = omega (arith, straight_len owed next rest (omega arith))
 
-straight_counted : (f : Given → ℕ) (e : Position → ℕ) (owed : ℕ) (next : Position) (bytes : List ℕ) → owed < length bytes → counted f e (Straight owed next) bytes ≡ counted f e (Long next) (drop (suc owed) bytes)
+straight_counted : (f : Given → ℕ) (e : FilePosition → ℕ) (owed : ℕ) (next : FilePosition) (bytes : List ℕ) → owed < length bytes → counted f e (Straight owed next) bytes ≡ counted f e (Long next) (drop (suc owed) bytes)
 unfolding counted
 straight_counted f e owed next [] whole = absurd (omega arith)
 straight_counted f e zero next (b ∷ rest) whole = refl
 straight_counted f e (suc owed) next (b ∷ rest) whole = straight_counted f e owed next rest (omega arith)
 
-pub straight_begins : (owed : ℕ) (next : Position) (bytes : List ℕ) → owed < length bytes → BeginsWith (Straight owed next) bytes (suc owed) (suc owed) Same (Long next)
+pub straight_begins : (owed : ℕ) (next : FilePosition) (bytes : List ℕ) → owed < length bytes → BeginsWith (Straight owed next) bytes (suc owed) (suc owed) Same (Long next)
 straight_begins owed next bytes whole = record {
   some = omega arith;
   whole = omega arith;
@@ -166,39 +170,39 @@ straight_begins owed next bytes whole = record {
 twice : (count : ℕ) → 2 * suc count ≡ suc (suc (2 * count))
 twice count = omega arith
 
-offsets_len : (o : OpenHunk) (owed count : ℕ) (odd : Bool) (bytes : List ℕ) → count ≤ suc owed → 2 * count ≤ length bytes
-    → length (plain_from (Half o (Offset owed) odd) bytes) ≡ 4 * count + length (plain_from (behind_offsets o owed odd count) (drop (2 * count) bytes))
+offsets_len : (after : FilePosition) (owed count : ℕ) (odd : Bool) (bytes : List ℕ) → count ≤ suc owed → 2 * count ≤ length bytes
+    → length (plain_from (Half after (Offset owed) odd) bytes) ≡ 4 * count + length (plain_from (behind_offsets after owed odd count) (drop (2 * count) bytes))
 unfolding plain_from
-offsets_len o owed zero odd bytes most whole = omega arith
-offsets_len o owed (suc count) odd [] most whole = absurd (omega arith)
-offsets_len o owed (suc count) odd (a ∷ []) most whole = absurd (omega arith)
-offsets_len o zero (suc zero) odd (a ∷ b ∷ rest) most whole = omega arith
-offsets_len o zero (suc (suc count)) odd (a ∷ b ∷ rest) most whole = absurd (omega arith)
-offsets_len o (suc owed) (suc count) odd (a ∷ b ∷ rest) most whole =
-    let more = offsets_len o owed count (not odd) rest (omega arith) (omega arith) in
-    let same = ap (λ (n : ℕ). length (plain_from (behind_offsets o owed (not odd) count) (drop n (a ∷ b ∷ rest)))) (twice count) in
+offsets_len after owed zero odd bytes most whole = omega arith
+offsets_len after owed (suc count) odd [] most whole = absurd (omega arith)
+offsets_len after owed (suc count) odd (a ∷ []) most whole = absurd (omega arith)
+offsets_len after zero (suc zero) odd (a ∷ b ∷ rest) most whole = omega arith
+offsets_len after zero (suc (suc count)) odd (a ∷ b ∷ rest) most whole = absurd (omega arith)
+offsets_len after (suc owed) (suc count) odd (a ∷ b ∷ rest) most whole =
+    let more = offsets_len after owed count (not odd) rest (omega arith) (omega arith) in
+    let same = ap (λ (n : ℕ). length (plain_from (behind_offsets after owed (not odd) count) (drop n (a ∷ b ∷ rest)))) (twice count) in
     omega (arith, more, same)
 
-offsets_counted : (f : Given → ℕ) (e : Position → ℕ) (o : OpenHunk) (owed count : ℕ) (odd : Bool) (bytes : List ℕ) → count ≤ suc owed → 2 * count ≤ length bytes
-    → counted f e (Half o (Offset owed) odd) bytes ≡ counted f e (behind_offsets o owed odd count) (drop (2 * count) bytes)
+offsets_counted : (f : Given → ℕ) (e : FilePosition → ℕ) (after : FilePosition) (owed count : ℕ) (odd : Bool) (bytes : List ℕ) → count ≤ suc owed → 2 * count ≤ length bytes
+    → counted f e (Half after (Offset owed) odd) bytes ≡ counted f e (behind_offsets after owed odd count) (drop (2 * count) bytes)
 unfolding counted
-offsets_counted f e o owed zero odd bytes most whole = refl
-offsets_counted f e o owed (suc count) odd [] most whole = absurd (omega arith)
-offsets_counted f e o owed (suc count) odd (a ∷ []) most whole = absurd (omega arith)
-offsets_counted f e o zero (suc zero) odd (a ∷ b ∷ rest) most whole = refl
-offsets_counted f e o zero (suc (suc count)) odd (a ∷ b ∷ rest) most whole = absurd (omega arith)
-offsets_counted f e o (suc owed) (suc count) odd (a ∷ b ∷ rest) most whole =
-    offsets_counted f e o owed count (not odd) rest (omega arith) (omega arith)
-    ∙ sym (ap (λ (n : ℕ). counted f e (behind_offsets o owed (not odd) count) (drop n (a ∷ b ∷ rest))) (twice count))
+offsets_counted f e after owed zero odd bytes most whole = refl
+offsets_counted f e after owed (suc count) odd [] most whole = absurd (omega arith)
+offsets_counted f e after owed (suc count) odd (a ∷ []) most whole = absurd (omega arith)
+offsets_counted f e after zero (suc zero) odd (a ∷ b ∷ rest) most whole = refl
+offsets_counted f e after zero (suc (suc count)) odd (a ∷ b ∷ rest) most whole = absurd (omega arith)
+offsets_counted f e after (suc owed) (suc count) odd (a ∷ b ∷ rest) most whole =
+    offsets_counted f e after owed count (not odd) rest (omega arith) (omega arith)
+    ∙ sym (ap (λ (n : ℕ). counted f e (behind_offsets after owed (not odd) count) (drop n (a ∷ b ∷ rest))) (twice count))
 
-pub offsets_begin : (o : OpenHunk) (owed count : ℕ) (odd : Bool) (bytes : List ℕ) → 0 < count → count ≤ suc owed → 2 * count ≤ length bytes
-    → BeginsWith (Half o (Offset owed) odd) bytes (2 * count) (4 * count) Same (behind_offsets o owed odd count)
-offsets_begin o owed count odd bytes some most whole = record {
+pub offsets_begin : (after : FilePosition) (owed count : ℕ) (odd : Bool) (bytes : List ℕ) → 0 < count → count ≤ suc owed → 2 * count ≤ length bytes
+    → BeginsWith (Half after (Offset owed) odd) bytes (2 * count) (4 * count) Same (behind_offsets after owed odd count)
+offsets_begin after owed count odd bytes some most whole = record {
   some = omega arith;
   whole = whole;
-  len = offsets_len o owed count odd bytes most whole;
-  short_blocks = omega (arith, offsets_counted shorts at_no_end o owed count odd bytes most whole);
-  ends = omega (arith, offsets_counted ends_before ends_after o owed count odd bytes most whole);
+  len = offsets_len after owed count odd bytes most whole;
+  short_blocks = omega (arith, offsets_counted shorts at_no_end after owed count odd bytes most whole);
+  ends = omega (arith, offsets_counted ends_before ends_after after owed count odd bytes most whole);
 }
 
 -- ---- no whole unit
@@ -208,21 +212,21 @@ unfolding plain_from counted
 passing_ends [] = record { len = refl; short_blocks = refl; ends = refl }
 passing_ends (b ∷ bytes) = record { len = omega arith; short_blocks = refl; ends = refl }
 
-straight_few_len : (owed : ℕ) (next : Position) (bytes : List ℕ) → length bytes ≤ owed → plain_from (Straight owed next) bytes ≡ bytes
+straight_few_len : (owed : ℕ) (next : FilePosition) (bytes : List ℕ) → length bytes ≤ owed → plain_from (Straight owed next) bytes ≡ bytes
 unfolding plain_from
 straight_few_len zero next [] few = refl
 straight_few_len (suc owed) next [] few = refl
 straight_few_len zero next (b ∷ bytes) few = absurd (omega arith)
 straight_few_len (suc owed) next (b ∷ bytes) few = ap (λ (x : List ℕ). b ∷ x) (straight_few_len owed next bytes (omega arith))
 
-straight_few_counted : (f : Given → ℕ) (e : Position → ℕ) (owed : ℕ) (next : Position) (bytes : List ℕ) → length bytes ≤ owed → counted f e (Straight owed next) bytes ≡ 0
+straight_few_counted : (f : Given → ℕ) (e : FilePosition → ℕ) (owed : ℕ) (next : FilePosition) (bytes : List ℕ) → length bytes ≤ owed → counted f e (Straight owed next) bytes ≡ 0
 unfolding counted
 straight_few_counted f e zero next [] few = refl
 straight_few_counted f e (suc owed) next [] few = refl
 straight_few_counted f e zero next (b ∷ bytes) few = absurd (omega arith)
 straight_few_counted f e (suc owed) next (b ∷ bytes) few = straight_few_counted f e owed next bytes (omega arith)
 
-pub straight_ends : (owed : ℕ) (next : Position) (bytes : List ℕ) → length bytes ≤ owed → EndsThere (Straight owed next) bytes
+pub straight_ends : (owed : ℕ) (next : FilePosition) (bytes : List ℕ) → length bytes ≤ owed → EndsThere (Straight owed next) bytes
 straight_ends owed next [] few = record {
   len = ap length (straight_few_len owed next [] few);
   short_blocks = straight_few_counted _ _ owed next [] few;
@@ -234,7 +238,7 @@ straight_ends owed next (b ∷ bytes) few = record {
   ends = straight_few_counted _ _ owed next (b ∷ bytes) few;
 }
 
-pub long_ends : (p : Position) (bytes : List ℕ) → length bytes < 4 → EndsThere (Long p) bytes
+pub long_ends : (p : FilePosition) (bytes : List ℕ) → length bytes < 4 → EndsThere (Long p) bytes
 unfolding plain_from counted
 long_ends p [] few = record { len = omega (arith, ending_length p); short_blocks = refl; ends = refl }
 long_ends p (a ∷ []) few = record { len = refl; short_blocks = refl; ends = refl }
@@ -242,17 +246,17 @@ long_ends p (a ∷ b ∷ []) few = record { len = refl; short_blocks = refl; end
 long_ends p (a ∷ b ∷ c ∷ []) few = record { len = refl; short_blocks = refl; ends = refl }
 long_ends p (a ∷ b ∷ c ∷ d ∷ rest) few = absurd (omega arith)
 
-pub half_ends : (o : OpenHunk) (part : ShortPart) (odd : Bool) (bytes : List ℕ) → length bytes < 2 → EndsThere (Half o part odd) bytes
+pub half_ends : (after : FilePosition) (part : ShortPart) (odd : Bool) (bytes : List ℕ) → length bytes < 2 → EndsThere (Half after part odd) bytes
 unfolding plain_from counted
-half_ends o part odd [] few = record { len = refl; short_blocks = refl; ends = refl }
-half_ends o part odd (a ∷ []) few = record { len = refl; short_blocks = refl; ends = refl }
-half_ends o part odd (a ∷ b ∷ rest) few = absurd (omega arith)
+half_ends after part odd [] few = record { len = refl; short_blocks = refl; ends = refl }
+half_ends after part odd (a ∷ []) few = record { len = refl; short_blocks = refl; ends = refl }
+half_ends after part odd (a ∷ b ∷ rest) few = absurd (omega arith)
 
-pub filler_ends : (o : OpenHunk) (bytes : List ℕ) → length bytes < 2 → EndsThere (Filler o) bytes
+pub filler_ends : (after : FilePosition) (bytes : List ℕ) → length bytes < 2 → EndsThere (Filler after) bytes
 unfolding plain_from counted
-filler_ends o [] few = record { len = refl; short_blocks = refl; ends = refl }
-filler_ends o (a ∷ []) few = record { len = refl; short_blocks = refl; ends = refl }
-filler_ends o (a ∷ b ∷ rest) few = absurd (omega arith)
+filler_ends after [] few = record { len = refl; short_blocks = refl; ends = refl }
+filler_ends after (a ∷ []) few = record { len = refl; short_blocks = refl; ends = refl }
+filler_ends after (a ∷ b ∷ rest) few = absurd (omega arith)
 
 -- ---- an input that is its own plain spelling
 
@@ -261,39 +265,48 @@ abbrev in_short : Spot → Bool
 in_short Passing = false
 in_short (Straight owed next) = false
 in_short (Long p) = false
-in_short (Half o part odd) = true
-in_short (Filler o) = true
+in_short (Half after part odd) = true
+in_short (Filler after) = true
 
-straight_out : (n : ℕ) (here next : Position) → in_short (straight n here next) ≡ false
+straight_out : (n : ℕ) (here next : FilePosition) → in_short (straight n here next) ≡ false
 straight_out zero here next = refl
 straight_out (suc n) here next = refl
 
-on_out : (p : Position) → in_short (go_on p) ≡ false
-on_out positions.FirstLong = refl
-on_out positions.ResidentName = refl
-on_out positions.TableSize = refl
-on_out (positions.FirstHunk hunks) = refl
-on_out (positions.LastHunk hunks) = refl
-on_out (positions.SizeWord hunks owed) = refl
-on_out (positions.Attributes hunks word owed) = refl
-on_out (positions.Body o phase) = straight_out (inside.longest_run phase) _ _
-on_out positions.Done = refl
+on_out : (p : FilePosition) → in_short (go_on p) ≡ false
+on_out (files.Load positions.FirstLong) = refl
+on_out (files.Load positions.ResidentName) = refl
+on_out (files.Load positions.TableSize) = refl
+on_out (files.Load (positions.FirstHunk hunks)) = refl
+on_out (files.Load (positions.LastHunk hunks)) = refl
+on_out (files.Load (positions.SizeWord hunks owed)) = refl
+on_out (files.Load (positions.Attributes hunks word owed)) = refl
+on_out (files.Load (positions.Body o phase)) = straight_out (inside.longest_run phase) _ _
+on_out (files.Load positions.Done) = refl
+on_out (files.Object p) = straight_out (object.run p) _ _
 
-first_out : (w : ℕ) (b : Bool) → in_short (cond b (go_on (step positions.FirstLong w)) Passing) ≡ false
-first_out w true = refl
-first_out w false = refl
+first_out : (w : ℕ) (b b2 : Bool) → in_short (cond b (go_on (files.Load (step positions.FirstLong w))) (cond b2 (go_on (files.Object places.UnitCount)) Passing)) ≡ false
+first_out w true b2 = refl
+first_out w false true = refl
+first_out w false false = refl
 
 block_out : (g : Given) (o : OpenHunk) (phase : Phase) (w : ℕ) → is_short g ≡ false → in_short (behind_block g o phase w) ≡ false
-block_out Same o phase w e = on_out (step (positions.Body o phase) w)
-block_out BehindEnd o phase w e = on_out _
+block_out Same o phase w e = on_out (files.Load (step (positions.Body o phase) w))
+block_out BehindEnd o phase w e = on_out (files.Load (step (close o) w))
 block_out AsLong o phase w e = absurd (true≢false e)
 
-behind_out : (p : Position) (w : ℕ) → is_short (given p w) ≡ false → in_short (behind_long p w) ≡ false
-behind_out positions.FirstLong w e = first_out w (w == header_word)
-behind_out (positions.Body o phases.FirstBlock) w e = block_out (given (positions.Body o phases.FirstBlock) w) o phases.FirstBlock w e
-behind_out (positions.Body o phases.BlockWord) w e = block_out (given (positions.Body o phases.BlockWord) w) o phases.BlockWord w e
-behind_out (positions.Body o phase) w e = on_out (step (positions.Body o phase) w)
-behind_out p w e = on_out (step p w)
+word_out : (g : Given) (place : WordPlace) (w : ℕ) → is_short g ≡ false → in_short (behind_word g place w) ≡ false
+word_out Same place w e = on_out (files.Object (object.step (places.Word place) w))
+word_out BehindEnd place w e = on_out (files.Object (object.step (places.Word place) w))
+word_out AsLong place w e = absurd (true≢false e)
+
+behind_out : (p : FilePosition) (w : ℕ) → is_short (given p w) ≡ false → in_short (behind_long p w) ≡ false
+behind_out (files.Load positions.FirstLong) w e = first_out w (w == header_word) (w == unit_word)
+behind_out (files.Load (positions.Body o phases.FirstBlock)) w e = block_out (given_block o w) o phases.FirstBlock w e
+behind_out (files.Load (positions.Body o phases.BlockWord)) w e = block_out (given_block o w) o phases.BlockWord w e
+behind_out (files.Load (positions.Body o phase)) w e = on_out (files.Load (step (positions.Body o phase) w))
+behind_out (files.Load p) w e = on_out (files.Load (step p w))
+behind_out (files.Object (places.Word place)) w e = word_out (given_object w) place w e
+behind_out (files.Object p) w e = on_out (files.Object (object.step p w))
 
 out_same : (g : Given) (cells : List ℕ) (w m n : ℕ) → one_if (is_short g) + m ≡ 0 → one_if (has_end g) + n ≡ 0 → (is_short g ≡ false) × (m ≡ 0) × (n ≡ 0) × (out_long g cells w ≡ cells)
 out_same Same cells w m n short end = (refl, omega (arith, short), omega (arith, end), refl)
@@ -320,9 +333,9 @@ same_from (Long p) (a ∷ b ∷ c ∷ d ∷ rest) out short end =
     let next : Spot = behind_long p w in
     let here = out_same (given p w) (a ∷ b ∷ c ∷ d ∷ []) w (short_blocks_from next rest) (ends_from next rest) short end in
     ap₂ (λ (x y : List ℕ). x ++ y) here.3 (same_from next rest (behind_out p w here.0) here.1 here.2)
-same_from (Half o part odd) bytes out short end = absurd (true≢false out)
-same_from (Filler o) bytes out short end = absurd (true≢false out)
+same_from (Half after part odd) bytes out short end = absurd (true≢false out)
+same_from (Filler after) bytes out short end = absurd (true≢false out)
 
 -- With no short block and no END put in, an input is its own plain spelling.
 pub same_input : (bytes : List ℕ) → short_blocks_of bytes ≡ 0 → ends_of bytes ≡ 0 → plain bytes ≡ bytes
-same_input bytes short end = same_from (Long positions.FirstLong) bytes refl short end
+same_input bytes short end = same_from (Long (files.Load positions.FirstLong)) bytes refl short end

@@ -34,8 +34,8 @@ module _ {Pos Role : Type 0} (test : Role → Pos → ℕ → Option Reason) (te
 
 -- Over the numbers of a RELOC32 block, by the steps of its phases.
 module _ {Pos : Type 0} (goes : Pos → ℕ → Pos) (in_block : Phase → Pos) (after : Pos) (ends : goes (in_block phases.GroupCount) 0 ≡ after)
-  (counts : (n : ℕ) → goes (in_block phases.GroupCount) (suc n) ≡ in_block (phases.Target n)) (aims : (n t : ℕ) → goes (in_block (phases.Target n)) t ≡ in_block (phases.Offset t n))
-  (last : (t w : ℕ) → goes (in_block (phases.Offset t 0)) w ≡ in_block phases.GroupCount) (more : (t n w : ℕ) → goes (in_block (phases.Offset t (suc n))) w ≡ in_block (phases.Offset t n)) where
+    (counts : (n : ℕ) → goes (in_block phases.GroupCount) (suc n) ≡ in_block (phases.Target n)) (aims : (n t : ℕ) → goes (in_block (phases.Target n)) t ≡ in_block (phases.Offset t n))
+    (last : (t w : ℕ) → goes (in_block (phases.Offset t 0)) w ≡ in_block phases.GroupCount) (more : (t n w : ℕ) → goes (in_block (phases.Offset t (suc n))) w ≡ in_block (phases.Offset t n)) where
   abbrev to : Pos → List ℕ → Pos
   to p ws = leads_to goes p ws
 

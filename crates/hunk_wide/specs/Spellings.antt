@@ -1,8 +1,9 @@
 -- What a wide spelling has otherwise than the plain one, in numbers.
 use Rattle.std.specs.Prelude.{◌≡◌, ℕ, zero, suc, ◌+◌, ◌*◌, ◌<◌, ◌≤◌, Bool, true, false, List, [], ◌∷◌, length, drop, if◌then◌else◌}
 use Rattle.std.specs.Int.{from_be_bytes, w32}
-use Rattle.hunk_grammar.specs.declared.position.Position.{Position}
 use Rattle.hunk_grammar.specs.declared.position.Position.TheVariants as positions
+use Rattle.hunk_wide.specs.declared.position.FilePosition.{FilePosition}
+use Rattle.hunk_wide.specs.declared.position.FilePosition.TheVariants as files
 use Rattle.hunk_wide.specs.declared.spot.Spot.{Spot}
 use Rattle.hunk_wide.specs.declared.spot.Spot.TheVariants.{Straight, Long, Half, Filler}
 use Rattle.hunk_wide.specs.declared.spot.Given.{Given}
@@ -13,15 +14,15 @@ use Rattle.hunk_wide.specs.Longwords.{behind_long, given}
 use Rattle.hunk_wide.specs.Plain.{plain_from}
 
 -- The sum over the longwords of what each counts, by what is given out for it, and of what the end of the input counts.
-unfoldable pub counted : (Given → ℕ) → (Position → ℕ) → Spot → List ℕ → ℕ
+unfoldable pub counted : (Given → ℕ) → (FilePosition → ℕ) → Spot → List ℕ → ℕ
 counted of_long of_end (Straight zero next) (b ∷ rest) = counted of_long of_end (Long next) rest
 counted of_long of_end (Straight (suc owed) next) (b ∷ rest) = counted of_long of_end (Straight owed next) rest
 counted of_long of_end (Long p) (a ∷ b ∷ c ∷ d ∷ rest) =
     of_long (given p (from_be_bytes w32 (a ∷ b ∷ c ∷ d ∷ [])))
     + counted of_long of_end (behind_long p (from_be_bytes w32 (a ∷ b ∷ c ∷ d ∷ []))) rest
 counted of_long of_end (Long p) [] = of_end p
-counted of_long of_end (Half o part odd) (a ∷ b ∷ rest) = counted of_long of_end (behind_half o part odd (half_of a b)) rest
-counted of_long of_end (Filler o) (a ∷ b ∷ rest) = counted of_long of_end (behind_filler o a b) rest
+counted of_long of_end (Half after part odd) (a ∷ b ∷ rest) = counted of_long of_end (behind_half after part odd (half_of a b)) rest
+counted of_long of_end (Filler after) (a ∷ b ∷ rest) = counted of_long of_end (behind_filler after a b) rest
 counted of_long of_end spot bytes = 0
 
 -- the word of a short block counts
@@ -47,11 +48,11 @@ ends_from spot bytes = counted (λ g. one_if (has_end g)) (λ p. one_if (ends p)
 
 -- How many blocks the input has whose word the plain spelling has as RELOC32.
 abbrev pub short_blocks_of : List ℕ → ℕ
-short_blocks_of bytes = short_blocks_from (Long positions.FirstLong) bytes
+short_blocks_of bytes = short_blocks_from (Long (files.Load positions.FirstLong)) bytes
 
 -- How many END the plain spelling has that the input leaves out.
 abbrev pub ends_of : List ℕ → ℕ
-ends_of bytes = ends_from (Long positions.FirstLong) bytes
+ends_of bytes = ends_from (Long (files.Load positions.FirstLong)) bytes
 
 -- ---- one step over an input
 

@@ -1,6 +1,5 @@
 //! How an input spells its file: what it has otherwise than the plain spelling.
 ghost use Rattle.std.specs.Prelude.{◌≡◌, ◌+◌, ◌*◌, ◌≤◌, length, IfNone, IfSome};
-ghost use Rattle.hunk_grammar.specs.declared.position.Position.TheVariants.{FirstLong};
 ghost use Rattle.hunk_wide.specs.Plain.{plain};
 ghost use Rattle.hunk_wide.specs.Spellings.{BeginsWith, EndsThere};
 ghost use Rattle.hunk_wide.specs.Spellings.{ends_last, ends_of, has_end, is_short, one_if, short_blocks_of};
@@ -9,8 +8,9 @@ ghost use Rattle.hunk_wide.specs.declared.spot.Spot.TheVariants.{Filler, Half, L
 
 use crate::expander::is_last;
 use crate::place::given_len;
+use crate::position::FilePosition;
 use crate::spot::{Given, ShortPart, Spot};
-use hunk_grammar::{OpenHunk, Phase, Position};
+use hunk_grammar::Position;
 
 /// How an input spells its file.
 #[derive(Clone, Copy, Debug, PartialEq, Eq)]
@@ -46,7 +46,7 @@ pub fn spelling_of(bytes: &[u8]) -> Spelling
     ensures same { result.short_blocks ≡ 0 → result.ends ≡ 0 → plain bytes.now ≡ bytes.now }
     ensures bound { result.len ≤ 2 * length bytes.now }
 {
-    let mut spot = Spot::Long(Position::FirstLong);
+    let mut spot = Spot::Long(FilePosition::Load(Position::FirstLong));
     let mut rest = bytes;
     let mut len: u64 = 0;
     let mut short_blocks: u64 = 0;
@@ -107,13 +107,17 @@ fn units_at(spot: Spot, rest: &[u8]) -> Option<Units>
         Spot::Passing => None,
         Spot::Straight { owed, next } => straight_at(owed, next, rest),
         Spot::Long(position) => long_at(position, rest),
-        Spot::Half { hunk, part, is_odd } => half_at(hunk, part, is_odd, rest),
-        Spot::Filler(hunk) => filler_at(hunk, rest),
+        Spot::Half {
+            after,
+            part,
+            is_odd,
+        } => half_at(after, part, is_odd, rest),
+        Spot::Filler(after) => filler_at(after, rest),
     }
 }
 
 #[inline(always)]
-fn straight_at(owed: u64, next: Position, rest: &[u8]) -> Option<Units>
+fn straight_at(owed: u64, next: FilePosition, rest: &[u8]) -> Option<Units>
     ensures none { IfNone result (EndsThere (Straight owed next) rest.now) }
     ensures some { IfSome result
         (λ u. BeginsWith (Straight owed next) rest.now u.size u.given u.put_in u.next) }
@@ -130,7 +134,7 @@ fn straight_at(owed: u64, next: Position, rest: &[u8]) -> Option<Units>
 }
 
 #[inline(always)]
-fn long_at(position: Position, rest: &[u8]) -> Option<Units>
+fn long_at(position: FilePosition, rest: &[u8]) -> Option<Units>
     ensures none { IfNone result (EndsThere (Long position) rest.now) }
     ensures some { IfSome result
         (λ u. BeginsWith (Long position) rest.now u.size u.given u.put_in u.next) }
@@ -149,48 +153,48 @@ fn long_at(position: Position, rest: &[u8]) -> Option<Units>
 }
 
 #[inline(always)]
-fn half_at(hunk: OpenHunk, part: ShortPart, is_odd: bool, rest: &[u8]) -> Option<Units>
-    ensures none { IfNone result (EndsThere (Half hunk part is_odd) rest.now) }
+fn half_at(after: FilePosition, part: ShortPart, is_odd: bool, rest: &[u8]) -> Option<Units>
+    ensures none { IfNone result (EndsThere (Half after part is_odd) rest.now) }
     ensures some { IfSome result
-        (λ u. BeginsWith (Half hunk part is_odd) rest.now u.size u.given u.put_in u.next) }
+        (λ u. BeginsWith (Half after part is_odd) rest.now u.size u.given u.put_in u.next) }
 {
     if rest.len() < 2 {
         return None;
     }
     if let ShortPart::Offset { owed } = part {
-        return offsets_at(hunk, owed, is_odd, rest);
+        return offsets_at(after, owed, is_odd, rest);
     }
     let half = rest[0] as u16 * 256 + rest[1] as u16;
     Some(Units {
         size: 2,
         given: 4,
         put_in: Given::Same,
-        next: Spot::behind_half(hunk, part, is_odd, half),
+        next: Spot::behind_half(after, part, is_odd, half),
     })
 }
 
 /// Offsets of a group, as many as are in front.
 #[inline(always)]
-fn offsets_at(hunk: OpenHunk, owed: u16, is_odd: bool, rest: &[u8]) -> Option<Units>
+fn offsets_at(after: FilePosition, owed: u16, is_odd: bool, rest: &[u8]) -> Option<Units>
     requires { 2 ≤ length rest.now }
-    ensures none { IfNone result (EndsThere (Half hunk (Offset owed) is_odd) rest.now) }
+    ensures none { IfNone result (EndsThere (Half after (Offset owed) is_odd) rest.now) }
     ensures some { IfSome result
-        (λ u. BeginsWith (Half hunk (Offset owed) is_odd) rest.now u.size u.given u.put_in u.next) }
+        (λ u. BeginsWith (Half after (Offset owed) is_odd) rest.now u.size u.given u.put_in u.next) }
 {
     let count = (rest.len() / 2).min(owed as usize + 1);
     Some(Units {
         size: 2 * count,
         given: 4 * count as u64,
         put_in: Given::Same,
-        next: Spot::behind_offsets(hunk, owed, is_odd, count),
+        next: Spot::behind_offsets(after, owed, is_odd, count),
     })
 }
 
 #[inline(always)]
-fn filler_at(hunk: OpenHunk, rest: &[u8]) -> Option<Units>
-    ensures none { IfNone result (EndsThere (Filler hunk) rest.now) }
+fn filler_at(after: FilePosition, rest: &[u8]) -> Option<Units>
+    ensures none { IfNone result (EndsThere (Filler after) rest.now) }
     ensures some { IfSome result
-        (λ u. BeginsWith (Filler hunk) rest.now u.size u.given u.put_in u.next) }
+        (λ u. BeginsWith (Filler after) rest.now u.size u.given u.put_in u.next) }
 {
     if rest.len() < 2 {
         return None;
@@ -201,7 +205,7 @@ fn filler_at(hunk: OpenHunk, rest: &[u8]) -> Option<Units>
             size: 2,
             given: 0,
             put_in: Given::Same,
-            next: Spot::Long(Position::Body(hunk, Phase::BlockWord)),
+            next: Spot::Long(after),
         });
     }
     Some(Units {

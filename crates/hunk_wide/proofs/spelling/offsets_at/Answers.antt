@@ -10,5 +10,5 @@ use Rattle.hunk_wide.proofs.spelling.offsets_at.Goals as goal
 pub returns-clause-some : goal.returns-clause-some
 returns-clause-some c =
     let count : ℕ = c.min-count.result in
-    subst (λ (next : Spot). BeginsWith (Half c.args.hunk (Offset c.args.owed) c.args.is_odd) c.args.rest.now (2 * count) (4 * count) Same next) (sym c.behind_offsets.ensures)
-    (offsets_begin c.args.hunk c.args.owed count c.args.is_odd c.args.rest.now (omega (arith, c.requires)) (omega arith) (omega arith))
+    subst (λ (next : Spot). BeginsWith (Half c.args.after (Offset c.args.owed) c.args.is_odd) c.args.rest.now (2 * count) (4 * count) Same next) (sym c.behind_offsets.ensures)
+    (offsets_begin c.args.after c.args.owed count c.args.is_odd c.args.rest.now (omega (arith, c.requires)) (omega arith) (omega arith))
