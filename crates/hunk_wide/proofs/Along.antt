@@ -54,7 +54,7 @@ given_same longs _ w h = refl
 header_is : (w : ℕ) → refuse roles.FirstLong w ≡ None → eqb w 0x3F3 ≡ true
 header_is w h = search rules
 
-step_same : (longs : ℕ) (p : Position) (w : ℕ) → refuse (role_at longs p) w ≡ None → behind_load p w ≡ go_on (files.Load (step p w))
+pub step_same : (longs : ℕ) (p : Position) (w : ℕ) → refuse (role_at longs p) w ≡ None → behind_load p w ≡ go_on (files.Load (step p w))
 step_same longs positions.FirstLong w h = rw (header_is w h) refl
 step_same longs (positions.Body o phases.FirstBlock) w h = ap (λ (g : Given). behind_block g o phases.FirstBlock w) (word_same o w h)
 step_same longs (positions.Body o phases.BlockWord) w h = ap (λ (g : Given). behind_block g o phases.BlockWord w) (word_same o w h)

@@ -3,7 +3,7 @@ use Rattle.std.proofs.Common.{◌≡◌, ℕ, zero, suc, ◌+◌, ◌-◌, ◌�
 use Rattle.std.proofs.lemmas.List.{drop-drop, length-take}
 use Rattle.std.proofs.Math.Seq.{take-append_seam}
 
--- a front, and what is taken behind it
+-- a front, and what is taken after it
 pub take_add : (n m : ℕ) (xs : List ℕ) → take (n + m) xs ≡ take n xs ++ take m (drop n xs)
 take_add zero m xs = ap (λ (k : ℕ). take k xs) (omega arith)
 take_add (suc n) m [] = none (suc n + m) m

@@ -1,7 +1,10 @@
 pub mod Along
 pub mod Cutting
+pub mod Ends
 pub mod Few
 pub mod Objects
+pub mod Files
+pub mod Leads
 pub mod Offsets
 pub mod Placing
 pub mod Straight

@@ -29,26 +29,26 @@ use Rattle.hunk_wide.proofs.Cells.{half_cells, long_cells}
 
 -- ---- numbers
 
-parity-append : (odd : Bool) (xs ys : List ℕ) → parity odd (xs ++ ys) ≡ parity (parity odd xs) ys
+pub parity-append : (odd : Bool) (xs ys : List ℕ) → parity odd (xs ++ ys) ≡ parity (parity odd xs) ys
 parity-append odd [] ys = refl
 parity-append odd (x ∷ xs) ys = parity-append (not odd) xs ys
 
-halves-append : (xs ys : List ℕ) → halves_of (xs ++ ys) ≡ halves_of xs ++ halves_of ys
+pub halves-append : (xs ys : List ℕ) → halves_of (xs ++ ys) ≡ halves_of xs ++ halves_of ys
 halves-append xs ys = flat_map-append (to_be_bytes w16) xs ys
 
-All-front : {A : Type 0} (P : A → Type 0) (xs ys : List A) → AllByRecursion P (xs ++ ys) → AllByRecursion P xs
+pub All-front : {A : Type 0} (P : A → Type 0) (xs ys : List A) → AllByRecursion P (xs ++ ys) → AllByRecursion P xs
 All-front P [] ys h = tt
 All-front P (x ∷ xs) ys h = (h.0, All-front P xs ys h.1)
 
-All-back : {A : Type 0} (P : A → Type 0) (xs ys : List A) → AllByRecursion P (xs ++ ys) → AllByRecursion P ys
+pub All-back : {A : Type 0} (P : A → Type 0) (xs ys : List A) → AllByRecursion P (xs ++ ys) → AllByRecursion P ys
 All-back P [] ys h = h
 All-back P (x ∷ xs) ys h = All-back P xs ys h.1
 
--- with what fills up behind the 0 that ends the block
-abbrev tail : Bool → List ℕ
+-- with what fills up after the 0 that ends the block
+abbrev pub tail : Bool → List ℕ
 tail odd = cond (not odd) (0 ∷ 0 ∷ []) (0 ∷ [])
 
-filled_is : (ns : List ℕ) → filled (ns ++ 0 ∷ []) ≡ ns ++ tail (parity false ns)
+pub filled_is : (ns : List ℕ) → filled (ns ++ 0 ∷ []) ≡ ns ++ tail (parity false ns)
 filled_is ns = ap (λ (b : Bool). cond b ((ns ++ 0 ∷ []) ++ 0 ∷ []) (ns ++ 0 ∷ [])) (parity-append false ns (0 ∷ [])) ∙ go (parity false ns)
   where
     go : (b : Bool) → cond (not b) ((ns ++ 0 ∷ []) ++ 0 ∷ []) (ns ++ 0 ∷ []) ≡ ns ++ tail b
@@ -130,7 +130,7 @@ module _ (o : OpenHunk) where
   short_given kinds.Drel32 h = refl
   short_given _ h = absurd cc
 
-  is_given : (w : ℕ) → has_both_bits w ≡ false → IsTrue (is_short (kind w)) → given_block o w ≡ AsLong
+  pub is_given : (w : ℕ) → has_both_bits w ≡ false → IsTrue (is_short (kind w)) → given_block o w ≡ AsLong
   is_given w bits h = rw bits (short_given (kind w) h)
 
 no_bits : (w : ℕ) → has_both_bits (long_word w) ≡ false → has_both_bits w ≡ false
@@ -159,7 +159,7 @@ short_at p after b bytes more s is g n =
 pub groups_fit : (word : ℕ) (body : BlockBody) (groups : List RelocGroup) → body ≡ Reloc groups → FitsWord word body → AllByRecursion IsGroup groups
 groups_fit word body groups e h = (subst (λ (x : BlockBody). FitsWord word x) e h).1
 
-kind_fits : (word : ℕ) (body : BlockBody) (groups : List RelocGroup) → body ≡ Reloc groups → IsOfLoadMode word body → kind word ≡ kinds.Reloc32
+pub kind_fits : (word : ℕ) (body : BlockBody) (groups : List RelocGroup) → body ≡ Reloc groups → IsOfLoadMode word body → kind word ≡ kinds.Reloc32
 kind_fits word body groups e h = subst (λ (x : BlockBody). IsOfLoadMode word x) e h
 
 pub word_bits : (b : BlockValue) (bytes : List ℕ) (s : IsShort b bytes) → IsFalse (has_both_bits b.word) → has_both_bits s.word ≡ false

@@ -55,7 +55,7 @@ All-back P (x ∷ xs) ys h = All-back P xs ys h.1
 
 -- ---- blocks
 
-words_in : (place : Place) (ps : List (Part × ℕ)) → words (map (λ (x : Part × ℕ). (InBlock place x.0, x.1)) ps) ≡ longs_of ps
+pub words_in : (place : Place) (ps : List (Part × ℕ)) → words (map (λ (x : Part × ℕ). (InBlock place x.0, x.1)) ps) ≡ longs_of ps
 words_in place [] = refl
 words_in place (p ∷ ps) = ap (λ (ws : List ℕ). p.1 ∷ ws) (words_in place ps)
 
@@ -102,7 +102,7 @@ module _ (hunks longs : ℕ) where
     pub at_end : AtBlock true end_at
     pub closes : step end_at end_word ≡ q
 
-  order_next : (s t : BlockStanding) (has : Bool) (rest : List BlockStanding) → AreInOrder has (s ∷ t ∷ rest) → AreInOrder (has || is_content s) (t ∷ rest)
+  pub order_next : (s t : BlockStanding) (has : Bool) (rest : List BlockStanding) → AreInOrder has (s ∷ t ∷ rest) → AreInOrder (has || is_content s) (t ∷ rest)
   order_next Beside t true rest o = o
   order_next Beside t false rest o = o
   order_next Content t true rest o = absurd o
@@ -168,7 +168,7 @@ end_of_input (positions.Body o _) at e = absurd at
 end_of_input _ at e = absurd at
 
 -- the kinds of content blocks
-abbrev IsContentKind : Kind → Type 0
+abbrev pub IsContentKind : Kind → Type 0
 IsContentKind kinds.Code = Unit {0}
 IsContentKind kinds.Data = Unit {0}
 IsContentKind kinds.Bss = Unit {0}
@@ -180,7 +180,7 @@ kind_behind o kinds.Data ahead h e c = rw (h, e) (ap (λ (b : Bool). cond b Behi
 kind_behind o kinds.Bss ahead h e c = rw (h, e) (ap (λ (b : Bool). cond b BehindEnd Same) (lt-ltb 0 (suc ahead) (omega arith)))
 kind_behind o _ ahead h e c = absurd c
 
-word_behind : (o : OpenHunk) (w ahead : ℕ) → o.has_content ≡ true → o.ahead ≡ suc ahead → has_both_bits w ≡ false → IsContentKind (kind w) → given_block o w ≡ BehindEnd
+pub word_behind : (o : OpenHunk) (w ahead : ℕ) → o.has_content ≡ true → o.ahead ≡ suc ahead → has_both_bits w ≡ false → IsContentKind (kind w) → given_block o w ≡ BehindEnd
 word_behind o w ahead h e bits c = rw bits (kind_behind o (kind w) ahead h e c)
 
 kind_first : (o : OpenHunk) (k : Kind) → o.has_content ≡ false → IsContentKind k → given_kind o k ≡ Same
@@ -189,15 +189,15 @@ kind_first o kinds.Data h c = rw h refl
 kind_first o kinds.Bss h c = rw h refl
 kind_first o _ h c = absurd c
 
-word_first : (o : OpenHunk) (w : ℕ) → o.has_content ≡ false → has_both_bits w ≡ false → IsContentKind (kind w) → given_block o w ≡ Same
+pub word_first : (o : OpenHunk) (w : ℕ) → o.has_content ≡ false → has_both_bits w ≡ false → IsContentKind (kind w) → given_block o w ≡ Same
 word_first o w h bits c = rw bits (kind_first o (kind w) h c)
 
 -- the next hunk, which opens
-abbrev first : OpenHunk → ℕ → OpenHunk
+abbrev pub first : OpenHunk → ℕ → OpenHunk
 first o ahead = record { hunks = o.hunks; ahead = ahead; has_content = false }
 
--- Some hunk comes behind this one.
-some_ahead : (hunks ahead : ℕ) → AtBlock false (open_next hunks ahead) → (k : ℕ) × (ahead ≡ suc k)
+-- Some hunk comes after this one.
+pub some_ahead : (hunks ahead : ℕ) → AtBlock false (open_next hunks ahead) → (k : ℕ) × (ahead ≡ suc k)
 some_ahead hunks zero h = absurd h
 some_ahead hunks (suc k) h = (k, refl)
 
@@ -237,7 +237,7 @@ end_before _ q w more fits bits is at e next = absurd at
 -- ---- hunks
 
 -- The bytes begin with the word of a content block.
-record BeginsSo (bytes : List ℕ) : Type 0 where
+pub record BeginsSo (bytes : List ℕ) : Type 0 where
   pub word : ℕ
   pub back : List ℕ
   pub split : bytes ≡ to_be_bytes w32 word ++ back
@@ -268,7 +268,7 @@ begins_block b bytes is e (inr s) =
     let other : standing b.body ≡ Relocating = ap standing s.body in
     absurd (cc (other, e))
 
-begins_more : (bytes front back : List ℕ) → bytes ≡ front ++ back → BeginsSo front → BeginsSo bytes
+pub begins_more : (bytes front back : List ℕ) → bytes ≡ front ++ back → BeginsSo front → BeginsSo bytes
 begins_more bytes front back e b = record {
   word = b.word;
   back = b.back ++ back;
@@ -278,7 +278,7 @@ begins_more bytes front back e b = record {
   content = b.content;
 }
 
-begins_blocks : (hunks longs : ℕ) (left_out : Bool) (bs : List BlockValue) (bytes : List ℕ) → AllByRecursion (IsHunkBlock hunks longs) bs → BeginsWithContent bs → SpellsBlocks left_out bs bytes → BeginsSo bytes
+pub begins_blocks : (hunks longs : ℕ) (left_out : Bool) (bs : List BlockValue) (bytes : List ℕ) → AllByRecursion (IsHunkBlock hunks longs) bs → BeginsWithContent bs → SpellsBlocks left_out bs bytes → BeginsSo bytes
 begins_blocks hunks longs left_out [] bytes is c s = absurd c
 begins_blocks hunks longs false (b ∷ bs) bytes is c s = begins_more bytes s.0 s.1 s.2 (begins_block b s.0 is.0.block c s.3)
 begins_blocks hunks longs true (b ∷ []) bytes is c s =
@@ -286,7 +286,7 @@ begins_blocks hunks longs true (b ∷ []) bytes is c s =
     absurd (cc (other, c))
 begins_blocks hunks longs true (b ∷ d ∷ bs) bytes is c s = begins_more bytes s.0 s.1 s.2 (begins_block b s.0 is.0.block c s.3)
 
-first_at : (hunks : ℕ) (q r : Position) (h : HunkValue) (ls : Labelled) → BeginsWithContent h.blocks → Along q (hunk_labelled hunks h ++ ls) r → AtBlock false q
+pub first_at : (hunks : ℕ) (q r : Position) (h : HunkValue) (ls : Labelled) → BeginsWithContent h.blocks → Along q (hunk_labelled hunks h ++ ls) r → AtBlock false q
 first_at hunks q r h ls c along = go h.blocks c along
   where
     go : (bs : List BlockValue) → BeginsWithContent bs → Along q (blocks_labelled hunks (declared_longs h) false bs ++ ls) r → AtBlock false q
@@ -300,7 +300,7 @@ module _ (hunks : ℕ) (at_end : Bool) (rest : List ℕ) (ends : at_end ≡ true
   abbrev Whole : Position → Labelled → List ℕ → Type 0
   Whole p ls bytes = plain_from (go_on (files.Load p)) (bytes ++ rest) ≡ bytes_of (words ls) ++ rest
 
-  -- behind a hunk whose END is left out
+  -- after a hunk whose END is left out
   end_back : (hs : List HunkValue) (p q : Position) (bytes : List ℕ) → AllByRecursion (IsHunk hunks) hs → Along q (all hs) positions.Done → AtBlock true p → step p end_word ≡ q
       → MayLeaveOut at_end hs → SpellsHunks at_end hs bytes → plain_from (go_on (files.Load p)) (bytes ++ rest) ≡ to_be_bytes w32 end_word ++ plain_from (go_on (files.Load q)) (bytes ++ rest)
   unfolding plain_from

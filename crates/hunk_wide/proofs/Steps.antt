@@ -1,4 +1,4 @@
--- Where the machine stands behind longwords, and which of its positions are those of block words.
+-- Where the machine stands after longwords, and which of its positions are those of block words.
 use Rattle.std.proofs.Common.{◌≡◌, ◌≢◌, ℕ, suc, ◌+◌, ◌*◌, Bool, true, false, cond, eqb, ltb, List, [], ◌∷◌, ◌++◌, length, refl, sym, ap, ◌∙◌, Option, Some, None}
 use Rattle.std.specs.List.{flat_map, AllByRecursion}
 use Rattle.hunk_words.specs.Bits.{kind}

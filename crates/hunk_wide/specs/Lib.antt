@@ -1,6 +1,7 @@
 pub mod FileEnds
 pub mod Halves
 pub mod Held
+pub mod InFile
 pub mod Longwords
 pub mod Places
 pub mod Plain

@@ -38,7 +38,7 @@ last_place Passing bytes n = min n (length bytes)
 last_place (Straight owed next) bytes n = min n (length bytes)
 last_place _ bytes n = 0
 
--- Units of this size are in front, for which so many bytes are given out, byte n by the first of them or none, and behind
+-- Units of this size are in front, for which so many bytes are given out, byte n by the first of them or none, and after
 -- them the next bytes are for this.
 pub record GoesBy (s : Spot) (bytes : List ℕ) (n size given : ℕ) (next : Spot) : Type 0 where
   pub some : 0 < size

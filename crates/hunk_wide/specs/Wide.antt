@@ -23,12 +23,12 @@ halves_of numbers = flat_map (to_be_bytes w16) numbers
 abbrev pub IsHalf : ℕ → Type 0
 IsHalf n = n < 2 ^ 16
 
--- Behind so many more numbers: whether their number is odd, where it was so before.
+-- After so many more numbers: whether their number is odd, where it was so before.
 abbrev pub parity : Bool → List ℕ → Bool
 parity odd [] = odd
 parity odd (n ∷ numbers) = parity (not odd) numbers
 
--- with a 0 behind them where their number is odd
+-- with a 0 after them where their number is odd
 abbrev pub filled : List ℕ → List ℕ
 filled numbers = if parity false numbers then numbers ++ 0 ∷ [] else numbers
 
@@ -74,7 +74,7 @@ abbrev pub MayLeaveOut : Bool → List HunkValue → Type 0
 MayLeaveOut at_end [] = at_end ≡ true
 MayLeaveOut at_end (h ∷ hs) = BeginsWithContent h.blocks
 
--- The bytes spell these hunks. The flag says whether the input ends behind them.
+-- The bytes spell these hunks. The flag says whether the input ends after them.
 abbrev pub SpellsHunks : Bool → List HunkValue → List ℕ → Type 0
 SpellsHunks at_end [] bytes = bytes ≡ []
 SpellsHunks at_end (h ∷ hs) bytes =

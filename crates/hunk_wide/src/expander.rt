@@ -2,13 +2,16 @@
 ghost use Rattle.std.specs.Prelude.{◌≡◌, ℕ, ◌+◌, ◌-◌, ◌*◌, ◌==◌, ◌≤◌, ◌<◌, List, [], ◌∷◌, ◌++◌};
 ghost use Rattle.std.specs.Prelude.{length, take, drop, min};
 ghost use Rattle.std.specs.Prelude.{IsTrue, ◌↔◌, ◌⊎◌};
+ghost use Rattle.hunk_grammar.specs.declared.position.Position.TheVariants.{FirstLong};
 ghost use Rattle.hunk_words.specs.Longs.{bytes_of};
 ghost use Rattle.hunk_words.specs.PendingBytes.{pending_of};
 ghost use Rattle.hunk_wide.specs.Held.{left_of, owed, reach, straight_of, unit, wanted};
 ghost use Rattle.hunk_wide.specs.FileEnds.{ends, is_last};
+ghost use Rattle.hunk_wide.specs.InFile.{spot_after, spot_of};
 ghost use Rattle.hunk_wide.specs.Longwords.{out_long};
 ghost use Rattle.hunk_wide.specs.Plain.{plain, plain_from};
 ghost use Rattle.std.specs.Int.{to_be_bytes, w32};
+ghost use Rattle.hunk_wide.specs.declared.position.FilePosition.TheVariants.{Load};
 ghost use Rattle.hunk_wide.specs.declared.spot.Spot.TheVariants.{Filler, Half, Long, Passing, Straight};
 
 use crate::position::FilePosition;
@@ -46,7 +49,9 @@ impl Model for Expander {
 impl Expander {
     /// Of a file that begins here.
     pub fn new() -> Expander
-        ensures { (more : List ℕ) → left_of result more ≡ plain more }
+        ensures left { (more : List ℕ) → left_of result more ≡ plain more }
+        ensures spot { (more : List ℕ) → spot_of result more
+            ≡ spot_after (Long (Load FirstLong)) more }
     {
         Expander {
             ready: Ready::none(),
@@ -82,10 +87,12 @@ impl Expander {
         requires { length piece.now ≤ wanted self.old }
         ensures left { (more : List ℕ) → left_of self.new more
             ≡ left_of self.old (piece.now ++ more) }
+        ensures spot { (more : List ℕ) → spot_of self.new more
+            ≡ spot_of self.old (piece.now ++ more) }
         ensures fewer { 0 < length piece.now → owed self.new < owed self.old }
         ensures wants { wanted self.old ≤ wanted self.new + length piece.now }
     {
-        for byte in piece {
+        'bytes: for byte in piece {
             self.push(*byte);
         }
     }
@@ -94,6 +101,7 @@ impl Expander {
     fn push(&mut self, byte: u8)
         requires { 0 < wanted self.old }
         ensures left { (more : List ℕ) → left_of self.new more ≡ left_of self.old (byte ∷ more) }
+        ensures spot { (more : List ℕ) → spot_of self.new more ≡ spot_of self.old (byte ∷ more) }
         ensures wanted { wanted self.old ≤ wanted self.new + 1 }
         ensures fewer { owed self.new < owed self.old }
     {
@@ -135,6 +143,8 @@ impl Expander {
         requires { (bytes : List ℕ) → length bytes ≡ count → straight_of self.old bytes ≡ bytes }
         ensures left { (bytes more : List ℕ) → length bytes ≡ count
             → left_of self.old (bytes ++ more) ≡ bytes ++ left_of self.new more }
+        ensures spot { (bytes more : List ℕ) → length bytes ≡ count
+            → spot_of self.old (bytes ++ more) ≡ spot_of self.new more }
         ensures same { (self.new.ready ≡ self.old.ready) × (self.new.begun ≡ self.old.begun) }
         ensures straight { (bytes : List ℕ) → count ≤ length (straight_of self.old bytes)
             → straight_of self.new (drop count bytes) ≡ drop count (straight_of self.old bytes) }
@@ -162,6 +172,9 @@ impl Expander {
         ensures bare { 0 < result.1 → (self.new.ready ≡ []) × (self.new.begun ≡ []) }
         ensures left { (more : List ℕ) → left_of self.old (take result.0 piece.now ++ more)
             ≡ take result.1 buf.new ++ left_of self.new more }
+        ensures spot { (more : List ℕ) → spot_of self.old (take result.0 piece.now ++ more)
+            ≡ spot_of self.new more }
+        ensures nothing_held { 0 < result.0 → (self.new.ready ≡ []) × (self.new.begun ≡ []) }
     {
         if !self.is_bare() {
             return (0, 0);
@@ -183,6 +196,7 @@ impl Expander {
         ensures number { result ≡ min (length self.old.ready) (length buf.old) }
         ensures rest { result < length buf.new → self.new.ready ≡ [] }
         ensures begun { self.new.begun ≡ self.old.begun }
+        ensures spot { self.new.spot ≡ self.old.spot }
         ensures gives { (more : List ℕ) →
             left_of self.old more ≡ take result buf.new ++ left_of self.new more }
     {
@@ -190,11 +204,13 @@ impl Expander {
     }
 }
 
-/// Behind a byte, where so much of its unit has come.
+/// After a byte, where so much of its unit has come.
 fn after(spot: Spot, begun: Pending, byte: u8) -> Expander
     requires { begun.count < unit spot }
     ensures left { (more : List ℕ) → left_of result more
         ≡ plain_from spot (pending_of begun ++ byte ∷ more) }
+    ensures spot { (more : List ℕ) → spot_of result more
+        ≡ spot_after spot (pending_of begun ++ byte ∷ more) }
     ensures wanted { unit spot ≤ wanted result + begun.count + 1 }
     ensures fewer { owed result + begun.count < reach spot }
 {
@@ -211,10 +227,12 @@ fn after(spot: Spot, begun: Pending, byte: u8) -> Expander
     }
 }
 
-/// Behind a byte that is given out as it is.
+/// After a byte that is given out as it is.
 fn after_straight(count: u64, next: FilePosition, byte: u8) -> Expander
     ensures left { (more : List ℕ) → left_of result more
         ≡ plain_from (Straight count next) (byte ∷ more) }
+    ensures spot { (more : List ℕ) → spot_of result more
+        ≡ spot_after (Straight count next) (byte ∷ more) }
     ensures wanted { wanted result ≡ 0 }
     ensures owed { owed result ≡ 0 }
 {
@@ -225,11 +243,13 @@ fn after_straight(count: u64, next: FilePosition, byte: u8) -> Expander
     }
 }
 
-/// Behind a byte of a longword, where so much of that has come.
+/// After a byte of a longword, where so much of that has come.
 fn after_long(position: FilePosition, begun: Pending, byte: u8) -> Expander
     requires { begun.count < 4 }
     ensures left { (more : List ℕ) → left_of result more
         ≡ plain_from (Long position) (pending_of begun ++ byte ∷ more) }
+    ensures spot { (more : List ℕ) → spot_of result more
+        ≡ spot_after (Long position) (pending_of begun ++ byte ∷ more) }
     ensures wanted { 4 ≤ wanted result + begun.count + 1 }
     ensures fewer { owed result + begun.count < 4 }
 {
@@ -243,10 +263,12 @@ fn after_long(position: FilePosition, begun: Pending, byte: u8) -> Expander
     }
 }
 
-/// Behind a longword.
+/// After a longword.
 fn long_done(position: FilePosition, word: u32) -> Expander
     ensures left { (more : List ℕ) → left_of result more
         ≡ plain_from (Long position) (bytes_of (word ∷ []) ++ more) }
+    ensures spot { (more : List ℕ) → spot_of result more
+        ≡ spot_after (Long position) (bytes_of (word ∷ []) ++ more) }
     ensures wanted { wanted result ≡ 0 }
     ensures owed { owed result ≡ 0 }
 {
@@ -268,6 +290,8 @@ fn after_half(
     requires { begun.count < 2 }
     ensures left { (more : List ℕ) → left_of result more
         ≡ plain_from (Half after part is_odd) (pending_of begun ++ byte ∷ more) }
+    ensures spot { (more : List ℕ) → spot_of result more
+        ≡ spot_after (Half after part is_odd) (pending_of begun ++ byte ∷ more) }
     ensures wanted { 2 ≤ wanted result + begun.count + 1 }
     ensures fewer { owed result + begun.count < 2 }
 {
@@ -294,6 +318,8 @@ fn after_filler(after: FilePosition, begun: Pending, byte: u8) -> Expander
     requires { begun.count < 2 }
     ensures left { (more : List ℕ) → left_of result more
         ≡ plain_from (Filler after) (pending_of begun ++ byte ∷ more) }
+    ensures spot { (more : List ℕ) → spot_of result more
+        ≡ spot_after (Filler after) (pending_of begun ++ byte ∷ more) }
     ensures wanted { 2 ≤ wanted result + begun.count + 1 }
     ensures fewer { owed result + begun.count < 6 }
 {

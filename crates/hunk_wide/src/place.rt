@@ -16,7 +16,7 @@ struct Unit {
     size: usize,
     /// How many bytes are given out for it.
     given: u64,
-    /// What the bytes behind it are for.
+    /// What the bytes after it are for.
     next: Spot,
 }
 
@@ -24,8 +24,11 @@ struct Unit {
 ///
 /// Of content, names, debug data and offsets of 32 bits it is just that byte. Else it is the first
 /// byte of the longword, or of the word of 16 bits, for which the byte is given out: for an END
-/// that is left out, of what comes in its place. Behind the last one it is the end of the input, or
-/// where its last longword begins that is not whole.
+/// that is left out, of what comes in its place.
+///
+/// After the last one it is the end of the input, or where the unit begins that is cut off: a
+/// longword, or a word of 16 bits. So it is for the place of `Truncated`, which is after the last
+/// whole longword of the plain spelling.
 pub fn place_in(bytes: &[u8], place: u64) -> u64
     ensures value { result ≡ place_from (Long (Load FirstLong)) bytes.now place }
     ensures inside { result ≤ length bytes.now }
@@ -58,7 +61,8 @@ fn last(spot: Spot, rest: &[u8], owed: u64) -> u64
     }
 }
 
-/// The unit that the bytes begin with, or bytes that are given out as they are, all before byte `n`.
+/// The unit that the bytes begin with, or bytes that are given out as they are, all before byte
+/// `n`.
 fn unit_at(spot: Spot, rest: &[u8], n: u64) -> Option<Unit>
     ensures none { IfNone result (place_from spot rest.now n ≡ last_place spot rest.now n) }
     ensures some { IfSome result

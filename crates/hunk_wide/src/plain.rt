@@ -1,10 +1,15 @@
 //! A source of the plain spelling.
-ghost use Rattle.std.specs.Prelude.{◌≡◌, ℕ, ◌<◌, ◌≤◌, ◌||◌, ◌↔◌, List, [], Some, IsTrue, IfOk};
-ghost use Rattle.std.specs.Prelude.{MatchResult, is_err, OnOk, length, take};
+ghost use Rattle.std.specs.Prelude.{◌≡◌, ℕ, ◌<◌, ◌≤◌, ◌||◌, ◌↔◌, List, [], ◌++◌, Some, IsTrue, IfOk};
+ghost use Rattle.std.specs.Prelude.{MatchResult, false, is_err, OnOk, drop, length, take};
 ghost use Rattle.std.specs.Io.KnownBytes.{Consumes, Keeps, ReadConsumes};
 ghost use Rattle.std.specs.Io.{ReadsAtMost};
 ghost use Rattle.hunk_wide.specs.Held.{owed, straight_of, supply_of, wanted};
+ghost use Rattle.hunk_wide.specs.InFile.{InFile, StaysInFile};
 ghost use Rattle.hunk_wide.specs.Plain.{plain};
+ghost use Rattle.hunk_wide.specs.Wide.{IsWide};
+ghost use Rattle.hunk_files.specs.LoadFile.{IsLoadFile, LoadFileValue};
+ghost use Rattle.hunk_files.specs.LoadText.{text};
+ghost use Rattle.hunk_words.specs.Longs.{bytes_of};
 
 use crate::expander::Expander;
 use hunk_words::{Failed, Source};
@@ -13,7 +18,7 @@ use hunk_words::{Failed, Source};
 ///
 /// No byte is pulled before it is asked for: at most the rest of the longword, or of the word of 16
 /// bits, that the next byte to be given out is made of, and of longwords that are given out as they
-/// are no more than fit. Behind the END of the last hunk all bytes pass.
+/// are no more than fit. After the END of the last hunk all bytes pass.
 #[derive(Drop)]
 pub struct Plain<R> {
     source: R,
@@ -26,6 +31,9 @@ impl<R: Source> Plain<R> {
         ensures source { result.source ≡ source }
         ensures left { (input : List ℕ) → (R.supply source).left ≡ Some input
             → (supply_of result.held (R.supply result.source)).left ≡ Some (plain input) }
+        ensures file { (v : LoadFileValue) (bytes rest : List ℕ) → IsLoadFile v
+            → IsWide false v bytes → (R.supply source).left ≡ Some (bytes ++ rest)
+            → InFile result.held (R.supply result.source).left (bytes_of (text v)) rest }
     {
         Plain {
             source,
@@ -41,6 +49,9 @@ impl<R: Source> Plain<R> {
             ↔ ((self.now.held.ready ≡ []) × (wanted self.now.held ≡ 0)) }
         ensures left { IsTrue result → (supply_of self.now.held (R.supply self.now.source)).left
             ≡ (R.supply self.now.source).left }
+        ensures file { (rest : List ℕ)
+            → InFile self.now.held (R.supply self.now.source).left [] rest
+            → (IsTrue result) × ((R.supply self.now.source).left ≡ Some rest) }
     {
         self.held.is_empty() && self.held.want() == 0
     }
@@ -60,6 +71,8 @@ impl<R: Source> Plain<R> {
         ensures bytes { Consumes (supply_of self.old.held (R.supply self.old.source)).left
             (supply_of self.new.held (R.supply self.new.source)).left (take result buf.new) }
         ensures works { (R.supply self.new.source).failed ≡ (R.supply self.old.source).failed }
+        ensures file { StaysInFile self.old.held (R.supply self.old.source).left
+            self.new.held (R.supply self.new.source).left result }
         ensures none_ahead { 0 < result → (self.new.held.begun ≡ []) × (self.new.held.ready ≡ []) }
     {
         let (taken, given) = self.held.expand(self.source.held(), buf);
@@ -78,6 +91,11 @@ impl<R: Source> Plain<R> {
             (supply_of self.new.held (R.supply self.new.source)).left) }
         ensures fails { (R.supply self.new.source).failed
             ≡ ((R.supply self.old.source).failed || is_err result) }
+        ensures file { MatchResult result
+            (λ n. StaysInFile self.old.held (R.supply self.old.source).left
+            self.new.held (R.supply self.new.source).left n)
+            (λ _. StaysInFile self.old.held (R.supply self.old.source).left
+            self.new.held (R.supply self.new.source).left 0) }
         ensures none_ahead { IfOk result (λ n. 0 < n
             → (self.new.held.begun ≡ []) × (self.new.held.ready ≡ [])) }
     {
@@ -100,6 +118,8 @@ impl<R: Source> Plain<R> {
         ensures fails { (R.supply self.new.source).failed
             ≡ ((R.supply self.old.source).failed || is_err result) }
         ensures fewer { OnOk result (owed self.new.held < owed self.old.held) }
+        ensures file { StaysInFile self.old.held (R.supply self.old.source).left
+            self.new.held (R.supply self.new.source).left 0 }
     {
         let mut piece = [0; 4];
         let count = self.source.pull(&mut piece[..want])?;
@@ -119,6 +139,11 @@ impl<R: Source> Plain<R> {
             (supply_of self.new.held (R.supply self.new.source)).left result buf.new }
         ensures fails { (R.supply self.new.source).failed
             ≡ ((R.supply self.old.source).failed || is_err result) }
+        ensures file { MatchResult result
+            (λ n. StaysInFile self.old.held (R.supply self.old.source).left
+            self.new.held (R.supply self.new.source).left n)
+            (λ _. StaysInFile self.old.held (R.supply self.old.source).left
+            self.new.held (R.supply self.new.source).left 0) }
         ensures none_ahead { IfOk result (λ n. (self.new.held.begun ≡ [])
             × (n < length buf.new → self.new.held.ready ≡ [])) }
     {
@@ -148,6 +173,13 @@ impl<R: Source> Source for Plain<R> {
         ensures fails { (R.supply self.new.source).failed
             ≡ ((R.supply self.old.source).failed || is_err result) }
 
+        // Of a file no more is taken than the bytes are for.
+        ensures file { MatchResult result
+            (λ n. StaysInFile self.old.held (R.supply self.old.source).left
+            self.new.held (R.supply self.new.source).left n)
+            (λ _. StaysInFile self.old.held (R.supply self.old.source).left
+            self.new.held (R.supply self.new.source).left 0) }
+
         // No part of a further unit is held, and of the last one nothing that fitted.
         ensures none_ahead { IfOk result (λ n. 0 < n → (self.new.held.begun ≡ [])
             × (n < length buf.new → self.new.held.ready ≡ [])) }
@@ -171,7 +203,17 @@ impl<R: Source> Source for Plain<R> {
         self.held.straight(self.source.held())
     }
 
-    fn consume(&mut self, count: usize) {
+    fn consume(&mut self, count: usize)
+        requires { count ≤ length (straight_of self.old.held (R.shown self.old.source)) }
+        ensures bytes { Consumes (supply_of self.old.held (R.supply self.old.source)).left
+            (supply_of self.new.held (R.supply self.new.source)).left
+            (take count (straight_of self.old.held (R.shown self.old.source))) }
+        ensures rest { straight_of self.new.held (R.shown self.new.source)
+            ≡ drop count (straight_of self.old.held (R.shown self.old.source)) }
+        ensures works { (R.supply self.new.source).failed ≡ (R.supply self.old.source).failed }
+        ensures file { StaysInFile self.old.held (R.supply self.old.source).left
+            self.new.held (R.supply self.new.source).left count }
+    {
         self.source.consume(count);
         self.held.pass(count as u64);
     }

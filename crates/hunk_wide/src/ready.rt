@@ -69,7 +69,7 @@ impl Ready {
         }
     }
 
-    /// The word of a short block, and two bytes behind it.
+    /// The word of a short block, and two bytes after it.
     pub(crate) fn six(high: u8, low: u8) -> Ready
         ensures { result ≡ 0 ∷ 0 ∷ 3 ∷ 0xFC ∷ high ∷ low ∷ [] }
     {

@@ -12,7 +12,7 @@ use hunk_words::{BlockWord, HEADER_WORD, Kind, UNIT_WORD};
 
 /// What a word of 16 bits of a short block is for.
 ///
-/// `owed` is how many more offsets follow the next, or follow the first behind a target.
+/// `owed` is how many more offsets follow the next, or follow the first after a target.
 #[derive(Clone, Copy, Debug, PartialEq, Eq)]
 pub enum ShortPart {
     /// The number of offsets of a group, or the 0 that ends the block.
@@ -36,7 +36,7 @@ pub enum Spot {
     },
     /// A longword, which the plain spelling has at this position.
     Long(FilePosition),
-    /// A word of 16 bits of a short block, behind an odd number of them or an even one. The next
+    /// A word of 16 bits of a short block, after an odd number of them or an even one. The next
     /// block word stands at `after`.
     Half {
         after: FilePosition,
@@ -60,7 +60,7 @@ pub enum Given {
 }
 
 impl Spot {
-    /// Behind a longword that stands at this position.
+    /// After a longword that stands at this position.
     #[inline(always)]
     pub fn behind_long(position: FilePosition, word: u32) -> Spot
         ensures { result ≡ behind_long position word }
@@ -87,7 +87,7 @@ impl Spot {
         }
     }
 
-    /// Behind a block word of this hunk of a load file.
+    /// After a block word of this hunk of a load file.
     #[inline(always)]
     fn behind_block(given: Given, hunk: OpenHunk, phase: Phase, word: u32) -> Spot
         ensures { result ≡ behind_block given hunk phase word }
@@ -106,7 +106,7 @@ impl Spot {
         }
     }
 
-    /// Behind a longword that is no block word of a body.
+    /// After a longword that is no block word of a body.
     #[inline(always)]
     fn behind_same(position: Position, word: u32) -> Spot
         ensures { result ≡ behind_same position word }
@@ -117,7 +117,7 @@ impl Spot {
         }
     }
 
-    /// Behind the first longword, which says of what kind the file is.
+    /// After the first longword, which says of what kind the file is.
     #[inline(always)]
     fn behind_first(word: u32) -> Spot
         ensures { result ≡ behind_first word }
@@ -215,7 +215,7 @@ impl Spot {
         }
     }
 
-    /// Behind a word of 16 bits of a short block.
+    /// After a word of 16 bits of a short block.
     #[inline(always)]
     pub fn behind_half(after: FilePosition, part: ShortPart, is_odd: bool, half: u16) -> Spot
         ensures { result ≡ behind_half after part is_odd half }

@@ -2,6 +2,7 @@
 ghost use Rattle.std.specs.Prelude.{◌≡◌, ◌≤◌, ◌*◌, ◌/◌, length, take};
 ghost use Rattle.std.specs.Int.{from_be_bytes, w32};
 ghost use Rattle.hunk_wide.specs.Halves.{widened};
+ghost use Rattle.hunk_wide.specs.InFile.{LeadsTo};
 ghost use Rattle.hunk_wide.specs.Longwords.{out_long};
 ghost use Rattle.hunk_wide.specs.declared.spot.ShortPart.TheVariants.{Offset};
 ghost use Rattle.hunk_wide.specs.Plain.{GivesFor};
@@ -28,6 +29,7 @@ pub(crate) fn expand(spot: Spot, piece: &[u8], buf: &mut [u8]) -> Stretch
     ensures given { result.given ≤ length buf.new }
     ensures gives { GivesFor spot (take result.taken piece.now) (take result.given buf.new)
         result.next }
+    ensures leads { LeadsTo spot (take result.taken piece.now) result.next }
 {
     let mut all = nothing(spot);
     'units: loop {
@@ -51,6 +53,7 @@ fn expand_unit(spot: Spot, piece: &[u8], buf: &mut [u8]) -> Stretch
     ensures given { result.given ≤ length buf.new }
     ensures gives { GivesFor spot (take result.taken piece.now) (take result.given buf.new)
         result.next }
+    ensures leads { LeadsTo spot (take result.taken piece.now) result.next }
 {
     match spot {
         Spot::Passing => expand_passing(piece, buf),
@@ -83,6 +86,7 @@ fn expand_passing(piece: &[u8], buf: &mut [u8]) -> Stretch
     ensures given { result.given ≤ length buf.new }
     ensures gives { GivesFor Passing (take result.taken piece.now) (take result.given buf.new)
         result.next }
+    ensures leads { LeadsTo Passing (take result.taken piece.now) result.next }
 {
     let count = piece.len().min(buf.len());
     buf[..count].copy_from_slice(&piece[..count]);
@@ -99,6 +103,7 @@ fn expand_straight(owed: u64, next: FilePosition, piece: &[u8], buf: &mut [u8]) 
     ensures given { result.given ≤ length buf.new }
     ensures gives { GivesFor (Straight owed next) (take result.taken piece.now)
         (take result.given buf.new) result.next }
+    ensures leads { LeadsTo (Straight owed next) (take result.taken piece.now) result.next }
 {
     let most = piece.len().min(buf.len()) as u64;
     let count = most.min(owed.saturating_add(1)) as usize;
@@ -116,6 +121,7 @@ fn expand_long(position: FilePosition, piece: &[u8], buf: &mut [u8]) -> Stretch
     ensures given { result.given ≤ length buf.new }
     ensures gives { GivesFor (Long position) (take result.taken piece.now)
         (take result.given buf.new) result.next }
+    ensures leads { LeadsTo (Long position) (take result.taken piece.now) result.next }
 {
     if piece.len() < 4 || buf.len() < 8 {
         return nothing(Spot::Long(position));
@@ -166,6 +172,7 @@ fn expand_half(
     ensures given { result.given ≤ length buf.new }
     ensures gives { GivesFor (Half after part is_odd) (take result.taken piece.now)
         (take result.given buf.new) result.next }
+    ensures leads { LeadsTo (Half after part is_odd) (take result.taken piece.now) result.next }
 {
     if piece.len() < 2 || buf.len() < 4 {
         return nothing(Spot::Half {
@@ -199,6 +206,8 @@ fn expand_offsets(
     ensures given { result.given ≤ length buf.new }
     ensures gives { GivesFor (Half after (Offset owed) is_odd) (take result.taken piece.now)
         (take result.given buf.new) result.next }
+    ensures leads { LeadsTo (Half after (Offset owed) is_odd) (take result.taken piece.now)
+        result.next }
 {
     let most = (piece.len() / 2).min(buf.len() / 4);
     let count = most.min(owed as usize + 1);
@@ -216,7 +225,7 @@ fn widen(halves: &[u8], longs: &mut [u8])
     requires { length longs.old ≡ 4 * (length halves.now / 2) }
     ensures { longs.new ≡ widened halves.now }
 {
-    for i in 0..halves.len() / 2 {
+    'words: for i in 0..halves.len() / 2 {
         let long = [0, 0, halves[2 * i], halves[2 * i + 1]];
         longs[4 * i..4 * i + 4].copy_from_slice(long.as_slice());
     }
@@ -228,6 +237,7 @@ fn expand_filler(after: FilePosition, piece: &[u8], buf: &mut [u8]) -> Stretch
     ensures given { result.given ≤ length buf.new }
     ensures gives { GivesFor (Filler after) (take result.taken piece.now)
         (take result.given buf.new) result.next }
+    ensures leads { LeadsTo (Filler after) (take result.taken piece.now) result.next }
 {
     if piece.len() < 2 || buf.len() < 6 {
         return nothing(Spot::Filler(after));

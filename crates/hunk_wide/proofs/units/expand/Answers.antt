@@ -2,7 +2,7 @@ use Rattle.std.proofs.Common.{ℕ, ◌-◌, List, ◌++◌, length, length-appen
 use Rattle.std.proofs.lemmas.List.{length-drop, length-take, take_rest}
 use borrow.Rule.Slice.PartMut.{post_of}
 use Rattle.hunk_wide.specs.Plain.{GivesFor}
-use Rattle.hunk_wide.proofs.Stretches.{one_more}
+use Rattle.hunk_wide.proofs.{Leads.more_lead, Stretches.one_more}
 use Rattle.hunk_wide.proofs.units.expand.Goals as goal
 
 pub units-preserved : goal.units-preserved
@@ -32,4 +32,7 @@ units-preserved c =
           c.units.all.taken c.expand_unit-unit.result.taken c.units.all.given c.expand_unit-unit.result.given c.units.invariant.given c.expand_unit-unit.ensures.given c.units.invariant.gives
           (subst (λ (rest : List ℕ). GivesFor c.units.all.next (take c.expand_unit-unit.result.taken rest) (take c.expand_unit-unit.result.given new) c.expand_unit-unit.result.next)
           (take_rest c.args.piece.now c.units.all.taken) c.expand_unit-unit.ensures.gives);
+      leads =
+          more_lead c.args.spot c.units.all.next c.expand_unit-unit.result.next c.args.piece.now _ c.units.all.taken c.expand_unit-unit.result.taken
+          c.units.invariant.leads c.expand_unit-unit.ensures.leads (take_rest c.args.piece.now c.units.all.taken);
     }

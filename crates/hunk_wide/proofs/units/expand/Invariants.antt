@@ -1,5 +1,5 @@
 use Rattle.std.proofs.Common.{◌-◌, ◌≤◌, length, take}
-use Rattle.hunk_wide.specs.Plain.{GivesFor}
+use Rattle.hunk_wide.specs.{InFile.LeadsTo, Plain.GivesFor}
 use Rattle.hunk_wide.proofs.units.expand.Given as goal
 
 abbrev pub invariant-units : goal.invariant-units
@@ -7,6 +7,7 @@ invariant-units l = record {
   taken : l.all.taken ≤ length l.piece;
   given : l.all.given ≤ length l.buf;
   gives : GivesFor l.fn.spot (take l.all.taken l.piece) (take l.all.given l.buf) l.all.next;
+  leads : LeadsTo l.fn.spot (take l.all.taken l.piece) l.all.next;
 }
 
 abbrev pub decreases-units : goal.decreases-units

@@ -131,22 +131,71 @@ fn places(rt: HostRuntime) -> Result<(), Fail> {
     Ok(())
 }
 
+/// A wide spelling that is cut off, the place of `Truncated` in the plain one, and the place in it: its end, or where the
+/// last longword, or 16-bit word, begins that is not whole.
+const CUT: &[(&str, u64, u64)] = &[
+    // In a longword: of the header, a block word, and the block word of the next hunk, whose END is not put back.
+    ("", 0, 0),
+    ("0000 03", 0, 0),
+    ("3F3 0 1 / 0000", 12, 12),
+    ("3F3 0 1 0 0 1 / 3EB 1 / 00", 32, 32),
+    ("3F3 0 1 0 0 1 / 3EB 1 / 3FC 0000 0000 / 0000 03", 40, 40),
+    ("3F3 0 2 0 1 1 1 / 3E9 1 4E754E71 / 0000 03", 40, 40),
+    // Between two hunks.
+    ("3F3 0 2 0 1 1 1 / 3E9 1 4E754E71", 40, 40),
+    // In a 16-bit word of a short block: the count, the target, the second offset, and what fills it up.
+    ("3F3 0 1 0 0 1 / 3EB 1 / 3FC 00", 36, 36),
+    ("3F3 0 1 0 0 1 / 3EB 1 / 3FC 0001 00", 40, 38),
+    ("3F3 0 1 0 0 1 / 3EB 1 / 3FC 0001 0000 00", 44, 40),
+    ("3F3 0 1 0 0 2 / 3EB 2 / 3FC 0002 0000 0000 00", 48, 42),
+    ("3F3 0 1 0 0 1 / 3EB 1 / 3FC 0000 00", 40, 38),
+    // After whole ones: none, an odd number, an even one, and all but what fills it up.
+    ("3F3 0 1 0 0 1 / 3EB 1 / 3FC", 36, 36),
+    ("3F3 0 1 0 0 1 / 3EB 1 / 3FC 0001", 40, 38),
+    ("3F3 0 1 0 0 1 / 3EB 1 / 3FC 0001 0000", 44, 40),
+    ("3F3 0 1 0 0 1 / 3EB 1 / 3FC 0000", 40, 38),
+    // In a content, after 1, 2, 3 and 4 bytes of its second longword, and after an END that was put back.
+    ("3F3 0 1 0 0 3 / 3E9 3 4E754E71 4E", 36, 36),
+    ("3F3 0 1 0 0 3 / 3E9 3 4E754E71 4E75", 36, 36),
+    ("3F3 0 1 0 0 3 / 3E9 3 4E754E71 4E75 4E", 36, 36),
+    ("3F3 0 1 0 0 3 / 3E9 3 4E754E71 4E754E71", 40, 40),
+    ("3F3 0 2 0 1 1 2 / 3E9 1 4E754E71 / 3EA 2 7 4E", 56, 52),
+    ("3F3 0 2 0 1 1 2 / 3E9 1 4E754E71 / 3EA 2 7 4E75", 56, 52),
+    ("3F3 0 2 0 1 1 2 / 3E9 1 4E754E71 / 3EA 2 7 4E75 4E", 56, 52),
+    // In a name, after a short block.
+    ("3F3 0 1 0 0 1 / 3EB 1 / 3FC 0001 0000 0000 0000 / 3E8 2 41424344 45", 64, 56),
+];
+
+#[test]
+fn cut_off(rt: HostRuntime) -> Result<(), Fail> {
+    for (wide, place, from) in CUT {
+        let bytes = digits(rt.alloc(), wide)?;
+        let fault = LoadFault {
+            place: *place,
+            reason: Reason::Truncated,
+        };
+        assert_equal_at(&rt, loaded(rt.alloc(), &bytes).err(), Some(fault), wide);
+        assert_equal_at(&rt, place_in(&bytes, *place), *from, wide);
+    }
+    Ok(())
+}
+
 /// Whether a load by a source of pieces succeeds, and what that source has left.
-fn left_behind(alloc: Global, wide: &[u8], most: usize) -> (bool, &[u8]) {
+fn left_after(alloc: Global, wide: &[u8], most: usize) -> (bool, &[u8]) {
     let mut plain = Plain::new(Fed::new(wide, most, Then::Ends));
     let is_loaded = load(alloc, &mut plain, LIMITS, &START).is_ok();
     (is_loaded, plain.into_inner().rest())
 }
 
-/// Of the source no byte behind the file is taken.
+/// Of the source no byte after the file is taken.
 #[test]
-fn what_is_behind(rt: HostRuntime) -> Result<(), Fail> {
-    let behind = [0, 0, 3, 0xFC, 0];
+fn what_follows(rt: HostRuntime) -> Result<(), Fail> {
+    let after = [0, 0, 3, 0xFC, 0];
     let mut bytes = digits(rt.alloc(), SHORT)?;
-    bytes.extend_from_slice(&behind)?;
+    bytes.extend_from_slice(&after)?;
     for most in [1, 3, 256] {
-        let got = left_behind(rt.alloc(), &bytes, most);
-        assert_equal_at(&rt, got, (true, behind.as_slice()), most);
+        let got = left_after(rt.alloc(), &bytes, most);
+        assert_equal_at(&rt, got, (true, after.as_slice()), most);
     }
     Ok(())
 }

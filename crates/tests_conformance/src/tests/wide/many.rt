@@ -29,7 +29,7 @@ const WITH_ENDS: &[&[Run]] = &[&[
 /// The front of a file of one hunk.
 const FRONT: &[u32] = &[0x3F3, 0, 1, 0, 0, 0x4000, 0x3EB, 0x4000];
 
-/// The file with a short block: of a count, a target, the offsets, the 0 behind them, and a filler.
+/// The file with a short block: of a count, a target, the offsets, the 0 after them, and a filler.
 fn short(alloc: Global) -> Result<Vec<u8>, AllocError> {
     let mut bytes = bytes_of(alloc, FRONT)?;
     bytes.extend_from_slice(&[0, 0, 3, 0xFC, 0x13, 0x88, 0, 0])?;

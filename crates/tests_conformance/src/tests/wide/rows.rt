@@ -40,7 +40,7 @@ const ROWS: &[(&str, &str)] = &[
         "3F3 0 1 0 0 1 / 3EB 1 / 3FC 0001 0000 00",
         "3F3 0 1 0 0 1 / 3EB 1 / 3EC 1 0 00",
     ),
-    // END is left out before DATA and CODE, before BSS with a NAME, and at the end behind a short block.
+    // END is left out before DATA and CODE, before BSS with a NAME, and at the end after a short block.
     (
         "3F3 0 3 0 2 1 1 1 / 3E9 1 4E754E71 / 800003EA 1 7 / 3E9 1 4E714E75",
         "3F3 0 3 0 2 1 1 1 / 3E9 1 4E754E71 / 3F2 / 800003EA 1 7 / 3F2 / 3E9 1 4E714E75 / 3F2",
@@ -53,7 +53,7 @@ const ROWS: &[(&str, &str)] = &[
         "3F3 0 1 0 0 1 / 3EB 1 / 3FC 0000 0000",
         "3F3 0 1 0 0 1 / 3EB 1 / 3EC 0 / 3F2",
     ),
-    // It is not put back behind a byte of the next longword, nor before a second content of the last hunk.
+    // It is not put back after a byte of the next longword, nor before a second content of the last hunk.
     ("3F3 0 1 0 0 1 / 3EB 1 / 00", "3F3 0 1 0 0 1 / 3EB 1 / 00"),
     (
         "3F3 0 1 0 0 1 / 3EB 1 / 3EB 1 / 3F2",
