@@ -2,6 +2,7 @@
 
 mod loads;
 mod many;
+mod objects;
 mod rows;
 
 use crate::tests::asserts::assert_equal_at;

@@ -59,11 +59,12 @@ const ROWS: &[(&str, &str)] = &[
         "3F3 0 1 0 0 1 / 3EB 1 / 3EB 1 / 3F2",
         "3F3 0 1 0 0 1 / 3EB 1 / 3EB 1 / 3F2",
     ),
-    // No load file, and what comes after one.
+    // An object file, what is neither, and what comes after a load file.
     (
         "3E7 0 / 3E9 0 / 3FC 0000 0000 / 3F2",
-        "3E7 0 / 3E9 0 / 3FC 0000 0000 / 3F2",
+        "3E7 0 / 3E9 0 / 3EC 0 / 3F2",
     ),
+    ("3E9 0 / 3FC 0000 0000 / 3F2", "3E9 0 / 3FC 0000 0000 / 3F2"),
     (
         "3F3 0 1 0 0 0 / 3EB 0 / 3F2 / 3FC 0001 0000 / 3F3",
         "3F3 0 1 0 0 0 / 3EB 0 / 3F2 / 3FC 0001 0000 / 3F3",
