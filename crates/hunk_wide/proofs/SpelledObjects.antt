@@ -1,5 +1,5 @@
 -- A wide spelling of an object file is given out as its plain text.
-use Rattle.std.proofs.Common.{◌≡◌, ℕ, ◌/◌, ◌%◌, ◌^◌, false, eqb, List, [], ◌∷◌, ◌++◌, length, map, refl, sym, ap, ap₂, subst, ◌∙◌, append_assoc, append-nil, inl, inr, Some, None, arith}
+use Rattle.std.proofs.Common.{◌≡◌, Bool, get_or, ℕ, ◌/◌, ◌%◌, ◌^◌, false, eqb, List, [], ◌∷◌, ◌++◌, length, map, refl, sym, ap, ap₂, subst, ◌∙◌, append_assoc, append-nil, inl, inr, Some, None, arith}
 use Rattle.std.specs.{Prelude.is_some, List.{flat_map, AllByRecursion}, Int.{to_be_bytes, w32}}
 use Rattle.std.proofs.lemmas.Bool.{ne_eqb}
 use Rattle.hunk_words.specs.declared.block_word.Kind.{Kind}
@@ -20,7 +20,7 @@ use Rattle.hunk_grammar.specs.declared.object_position.WordPlace.TheVariants.{Be
 use Rattle.hunk_grammar.specs.ObjectPositions.{place_next, step, within}
 use Rattle.hunk_grammar.specs.ObjectRoles.{UnitName, WordAt, after_block, object_role_at, refuse_object, refuse_object_word}
 use Rattle.hunk_grammar.specs.Standings.{Relocating, standing_of_kind}
-use Rattle.hunk_files.specs.{Machines.{leads_to, refuse_in_object}, LoadFile.standing}
+use Rattle.hunk_files.specs.{Machines.{leads_to, refuse_in_object}, LoadFile.{LoadFileValue, standing}}
 use Rattle.hunk_files.specs.ObjectFile.{IsObjectFile, IsObjectHunk, IsUnit, ObjectFileValue, ObjectHunk, UnitValue, object_text, unit_header}
 use Rattle.hunk_files.specs.ObjectFault.{object_block_labelled, object_blocks_labelled, object_hunk_labelled, unit_header_labelled, unit_labelled, units_labelled}
 use Rattle.hunk_files.proofs.{cuts.UnitCutLaws.object_value, cuts.UnitReading.text_longs, object_walk.UnitFaults.units_words, walk.Machines.object_along}
@@ -29,7 +29,7 @@ use Rattle.hunk_wide.specs.declared.spot.Given.{Given}
 use Rattle.hunk_wide.specs.declared.spot.Given.TheVariants.{AsLong}
 use Rattle.hunk_wide.specs.Longwords.{after_object_short, behind_word, given_object, given_object_kind, go_on, long_word}
 use Rattle.hunk_wide.specs.Plain.{plain, plain_from}
-use Rattle.hunk_wide.specs.Wide.{IsShort}
+use Rattle.hunk_wide.specs.Wide.{IsShort, IsWide}
 use Rattle.hunk_wide.specs.WideObject.{IsObjectShort, IsWideObject, SpellsAll, SpellsObjectBlock, SpellsObjectHunk, SpellsUnit}
 use Rattle.hunk_wide.proofs.Objects.{ArePassed, ObjectAlong, ObjectGoes, ObjectLabelled, end_stays, first_unit, object_passed, object_plain}
 use Rattle.hunk_wide.proofs.{Short.{groups_fit, short_at, short_text, word_bits}, Steps.{goes_run, goes_split, groups_run, neither}}
@@ -181,3 +181,11 @@ pub one_object : (a b : ObjectFileValue) (bytes : List ℕ) → IsObjectFile a �
 one_object a b bytes is_a is_b wide_a wide_b =
     object_value a b is_a is_b
     (sym (text_longs (plain bytes) a is_a.units (object_wide a bytes is_a wide_a)) ∙ text_longs (plain bytes) b is_b.units (object_wide b bytes is_b wide_b))
+
+-- No input begins with a load file and is an object file.
+pub one_kind : (at_end : Bool) (v : LoadFileValue) (o : ObjectFileValue) (front rest : List ℕ) → IsWide at_end v front → IsObjectFile o → IsWideObject o (front ++ rest) → ⊥
+unfolding bytes_of
+one_kind at_end v [] front rest load is s = omega (arith, is.some)
+one_kind at_end v (u ∷ us) front rest load is s =
+    let fourth : 0xF3 ≡ 0xE7 = ap (λ (x : List ℕ). get_or x 3 0) (ap (λ (x : List ℕ). x ++ rest) (sym load.text) ∙ s.2 ∙ ap (λ (x : List ℕ). x ++ s.1) s.3.text) in
+    omega (arith, fourth)

@@ -12,8 +12,8 @@ ghost use Rattle.hunk_wide.specs.WideObject.{IsWideObject};
 ///
 /// A plain text is its own plain spelling, byte for byte, whatever follows it. Each wide spelling
 /// of a load file has that file's text as its plain spelling, and what follows it stays; where the
-/// END of the last hunk is left out, nothing may follow. The same holds of object files, which are
-/// all of the input.
+/// END of the last hunk is left out, nothing may follow. So it is of object files, which are all of
+/// the input.
 pub fn plain_spelling()
     ensures stays { (v : LoadFileValue) (rest : List ℕ) → IsLoadFile v →
         plain (bytes_of (text v) ++ rest) ≡ bytes_of (text v) ++ rest }
@@ -33,8 +33,10 @@ pub fn one_spelling()
         → (y ≡ true → rest2 ≡ []) → front ++ rest ≡ front2 ++ rest2 → a ≡ b }
 {}
 
-/// One input is a wide spelling of one object file alone.
+/// One input is a wide spelling of one object file alone, and then begins with none of a load file.
 pub fn one_object_spelling()
-    ensures { (a b : ObjectFileValue) (bytes : List ℕ) → IsObjectFile a → IsObjectFile b
+    ensures value { (a b : ObjectFileValue) (bytes : List ℕ) → IsObjectFile a → IsObjectFile b
         → IsWideObject a bytes → IsWideObject b bytes → a ≡ b }
+    ensures kind { (at_end : Bool) (a : LoadFileValue) (b : ObjectFileValue) (front rest : List ℕ)
+        → IsWide at_end a front → IsObjectFile b → IsWideObject b (front ++ rest) → ⊥ }
 {}

@@ -1,7 +1,8 @@
-//! Load files in their wide spelling, as real producers write them, read as the plain one.
+//! Load files and object files in their wide spelling, as real producers write them, read as the
+//! plain one.
 //!
-//! In a wide spelling blocks of relocations may have 16-bit words, and the END of a hunk may be
-//! left out. Nothing here takes memory.
+//! In a wide spelling blocks of relocations may have 16-bit words, and in a load file the END of a
+//! hunk may be left out. Nothing here takes memory.
 #![tactic(auto)]
 
 mod expander;

@@ -18,7 +18,7 @@ use hunk_words::{Failed, Source};
 ///
 /// No byte is pulled before it is asked for: at most the rest of the longword, or of the word of 16
 /// bits, that the next byte to be given out is made of, and of longwords that are given out as they
-/// are no more than fit. After the END of the last hunk all bytes pass.
+/// are no more than fit. After the END of the last hunk of a load file all bytes pass.
 #[derive(Drop)]
 pub struct Plain<R> {
     source: R,
@@ -43,7 +43,7 @@ impl<R: Source> Plain<R> {
 
     /// Whether nothing is held, and all bytes pass: what the source has left is what is left.
     ///
-    /// So it is where the file was read to its end.
+    /// So it is where a load file was read to its end. An object file ends with the input.
     pub fn is_passing(&self) -> bool
         ensures exact { IsTrue result
             ↔ ((self.now.held.ready ≡ []) × (wanted self.now.held ≡ 0)) }

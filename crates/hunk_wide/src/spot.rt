@@ -29,7 +29,7 @@ pub enum Spot {
     /// From here on all bytes pass as they are.
     Passing,
     /// A byte that is given out as it is, and `owed` more, and then a longword at this position:
-    /// content, a name, debug data, or offsets of 32 bits.
+    /// content, a name, debug data, offsets of 32 bits, or of an external entry.
     Straight {
         owed: u64,
         next: FilePosition,
@@ -71,7 +71,7 @@ impl Spot {
         }
     }
 
-    /// Behind a longword of a load file, or the first of any file.
+    /// After a longword of a load file, or the first of any file.
     #[inline(always)]
     fn behind_load(position: Position, word: u32) -> Spot
         ensures { result ≡ behind_load position word }
@@ -106,7 +106,7 @@ impl Spot {
         }
     }
 
-    /// After a longword that is no block word of a body.
+    /// After a longword of a load file that is no block word of a hunk, or the first of any file.
     #[inline(always)]
     fn behind_same(position: Position, word: u32) -> Spot
         ensures { result ≡ behind_same position word }
@@ -117,7 +117,8 @@ impl Spot {
         }
     }
 
-    /// After the first longword, which says of what kind the file is.
+    /// After the first longword, which says of what kind the file is. Of others than these two all
+    /// bytes pass.
     #[inline(always)]
     fn behind_first(word: u32) -> Spot
         ensures { result ≡ behind_first word }
@@ -131,7 +132,7 @@ impl Spot {
         }
     }
 
-    /// Behind a longword of an object file.
+    /// After a longword of an object file.
     #[inline(always)]
     fn behind_object(position: ObjectPosition, word: u32) -> Spot
         ensures { result ≡ behind_object position word }
@@ -144,7 +145,7 @@ impl Spot {
         }
     }
 
-    /// Behind the word of a block or of a unit of an object file.
+    /// After the word of a block or of a unit of an object file.
     #[inline(always)]
     fn behind_word(given: Given, place: WordPlace, word: u32) -> Spot
         ensures { result ≡ behind_word given place word }
@@ -159,7 +160,7 @@ impl Spot {
         }
     }
 
-    /// At this position. Behind a load file all bytes pass.
+    /// At this position. After a load file all bytes pass.
     #[inline(always)]
     fn at(position: FilePosition) -> Spot
         ensures { result ≡ go_on position }
