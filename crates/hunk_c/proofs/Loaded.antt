@@ -25,20 +25,27 @@ same_answer number h k p q m n e f g = λ i. record { number = number; hunk = e 
 no_reason : (bytes : List ℕ) (at : ℕ) (reason : Reason) → HasRefusal bytes at reason → reason ≡ reasons.Budget → ⊥
 no_reason bytes at reason h e = search rules
 
--- No header is in front.
-pub no_header : (base : Placing) (room : ℕ) (bytes : List ℕ) (answer : Answer) (f : Fault) → RefusesHeader (2 ^ 64 - 1) bytes f → (HasHeaderInFront bytes → f.reason ≡ reasons.Budget) → answer ≡ refused f → IsNotLoaded base room bytes answer
-no_header base room bytes answer f (inl h) k e = HasNoFile f (inl h) (λ t b. absurd (no_reason bytes f.place f.reason h (k (t, b)))) e
-no_header base room bytes answer f (inr (inl (b, p))) k e = absurd (never_passes bytes f.place p)
-no_header base room bytes answer f (inr (inr (c, cut, keeps))) k e = HasNoFile f (inr (c, cut)) (λ t b. absurd (both (k (t, b)))) e
+-- No header is in front, and the file has that fault.
+pub header_fault : (bytes : List ℕ) (f : Fault) → RefusesHeader (2 ^ 64 - 1) bytes f → (HasHeaderInFront bytes → f.reason ≡ reasons.Budget) → HasFault bytes f.place f.reason × (HasHeaderInFront bytes → ⊥)
+header_fault bytes f (inl h) k = (inl h, λ b. no_reason bytes f.place f.reason h (k b))
+header_fault bytes f (inr (inl (b, p))) k = absurd (never_passes bytes f.place p)
+header_fault bytes f (inr (inr (c, cut, keeps))) k = (inr (c, cut), λ b. both (k b))
   where
     both : f.reason ≡ reasons.Budget → ⊥
     both h = cc
+
+pub no_header : (base : Placing) (room : ℕ) (bytes : List ℕ) (answer : Answer) (f : Fault) → RefusesHeader (2 ^ 64 - 1) bytes f → (HasHeaderInFront bytes → f.reason ≡ reasons.Budget) → answer ≡ refused f → IsNotLoaded base room bytes answer
+no_header base room bytes answer f h k e = let none = header_fault bytes f h k in HasNoFile f none.0 (λ t b. absurd (none.1 (t, b))) e
 
 -- A hunk has no base.
 pub no_base_for : (base : Placing) (room : ℕ) (bytes : List ℕ) (answer : Answer) (size : HeaderSize) (s : HasHeaderSize (2 ^ 64 - 1) bytes size) (hunk : ℕ) → size.declared ≤ room → IsFirstUnplaced base s.table hunk →
     answer ≡ refused (record { place = size.bytes; reason = reasons.NoBase hunk }) → IsNotLoaded base room bytes answer
 no_base_for base room bytes answer size s hunk fits u e =
     HasNoBase s.table hunk s.header (omega (arith, fits, s.declared_are)) u (e ∙ ap (λ (n : ℕ). refused (record { place = n; reason = reasons.NoBase hunk })) s.bytes_are)
+
+-- Each hunk has one.
+pub have_bases : (base : Placing) (bytes bases : List ℕ) → AreBasesOf base bytes bases → (t : List TableEntry) → BeginsWithHeader bytes t → HasBases base t
+have_bases base bytes bases are t h i inside = let each = (are t h).each i inside in cc
 
 -- ---- the file after a header that was read
 
@@ -73,7 +80,5 @@ module _ (base : Placing) (bases bytes old : List ℕ) (size : HeaderSize) (s : 
       }
 
   pub not_whole : (f : Fault) → HasFault bytes f.place f.reason → answer ≡ refused f → IsNotLoaded base (length old) bytes answer
-  not_whole f h e = HasNoFile f h (λ t k. (omega (arith, fits, s.declared_are, ap declared_bytes (same_header bytes s.table t s.header k)), has t k)) e
-    where
-      has : (t : List TableEntry) → BeginsWithHeader bytes t → HasBases base t
-      has t k i inside = let each = (are t k).each i inside in cc
+  not_whole f h e =
+      HasNoFile f h (λ t k. (omega (arith, fits, s.declared_are, ap declared_bytes (same_header bytes s.table t s.header k)), have_bases base bytes bases are t k)) e

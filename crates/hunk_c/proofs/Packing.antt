@@ -17,7 +17,7 @@ use Rattle.hunk_c.proofs.{Succeeding.same_header, TableRows.{no_entry, stands_fi
 
 -- ---- a table, entry by entry
 
-declared_more : (t : List TableEntry) (i : ℕ) → i < length t → declared_bytes (take (i + 1) t) ≡ declared_bytes (take i t) + 4 * size_longs (get_or t i no_entry).word
+pub declared_more : (t : List TableEntry) (i : ℕ) → i < length t → declared_bytes (take (i + 1) t) ≡ declared_bytes (take i t) + 4 * size_longs (get_or t i no_entry).word
 declared_more t i inside =
     omega (arith, ap declared_bytes (take_more t i no_entry inside), declared-append (take i t) (get_or t i no_entry ∷ []), declared-cons (get_or t i no_entry) [])
 

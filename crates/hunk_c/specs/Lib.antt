@@ -8,6 +8,7 @@ pub mod Files
 pub mod Listing
 pub mod Loaders
 pub mod Loads
+pub mod LoadsAt
 pub mod Names
 pub mod Packs
 pub mod References

@@ -14,6 +14,7 @@ mod file;
 mod in_place;
 mod laws;
 mod load;
+mod load_at;
 mod loader;
 mod name;
 mod packed;
@@ -39,6 +40,7 @@ pub use crate::laws::{
     strange_after_no_begin,
 };
 pub use crate::load::{hunk_load, hunk_load_packed};
+pub use crate::load_at::hunk_load_at;
 pub use crate::loader::Loader;
 pub use crate::reason::{hunk_reason, hunk_reason_text};
 pub use crate::references::{ReferenceRow, hunk_references};

@@ -95,7 +95,7 @@ fn load_marked(
 }
 
 /// The answer where a hunk has no base.
-fn no_base(header: u64, hunk: u32) -> Answer
+pub(crate) fn no_base(header: u64, hunk: u32) -> Answer
     ensures { result ≡ refused (record { place = header; reason = reasons.NoBase hunk }) }
 {
     refused(Fault {

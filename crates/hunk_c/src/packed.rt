@@ -16,11 +16,11 @@ use std::marker::Model;
 
 /// Where a row of the table stands, and where its hunk begins.
 #[derive(Clone, Copy)]
-struct RowPlace {
+pub(crate) struct RowPlace {
     /// The longword of the header, counted from 0, at which the row stands.
-    longword: usize,
+    pub longword: usize,
     /// The address of the hunk's first byte; 2^32 where it lies after the address space.
-    base: u64,
+    pub base: u64,
 }
 
 /// The place of a row as it is kept: 8 bytes.
@@ -54,7 +54,7 @@ const HUNKS_NEAR: usize = 32;
 const NONE_NEAR: usize = MARKS * HUNKS_A_MARK / HUNKS_NEAR;
 
 /// The address space of 32 bits ends here.
-const END: u64 = 1 << 32;
+pub(crate) const END: u64 = 1 << 32;
 
 /// The bases of hunks one right after the other. Contracts see the list of them.
 ///
@@ -89,7 +89,7 @@ impl<'a> Model for PackedBases<'a> {
 }
 
 /// The place of the next row.
-fn next_row(bytes: &[u8], place: RowPlace) -> RowPlace
+pub(crate) fn next_row(bytes: &[u8], place: RowPlace) -> RowPlace
     requires { HasRow bytes.now place }
     ensures row { (t : List TableEntry) (h : BeginsWithHeader bytes.now t) (start i : ℕ)
         → i < length t → IsRow h start i place.longword place.base
