@@ -3,7 +3,7 @@ use Rattle.std.proofs.Common.{◌≡◌, ℕ, ◌+◌, ◌-◌, ◌*◌, ◌^◌
 use Rattle.std.proofs.lemmas.{Bool.Decides.nat_tests, List.{get_or-take, length-take-le}, Option.{get_or_from_slice_get, slice_get_within}}
 use Rattle.std.specs.Option.{is_some}
 use Rattle.hunk_words.specs.Bits.{size_longs}
-use Rattle.hunk_files.specs.{Image.declared_bytes, LoadFile.TableEntry}
+use Rattle.hunk_files.specs.{LoadFile.TableEntry}
 use Rattle.hunk_scatter.specs.HeaderBytes.{BeginsWithHeader}
 use Rattle.hunk_scatter.specs.Placing.{AreBases, IsFirstUnplaced, base_at}
 use Rattle.hunk_c.specs.{LoadsAt.{base_in, placed_in}, Packs.{HasRow, IsRow}}

@@ -4,7 +4,7 @@ use Rattle.std.proofs.lemmas.List.{length-take-le}
 use Rattle.hunk_words.specs.{Longs.bytes_of, declared.fault.Fault.Fault}
 use Rattle.hunk_words.specs.declared.reason.Reason.TheVariants as reasons
 use Rattle.hunk_files.specs.Fault.{BeginsWithLoadFile, HasFault}
-use Rattle.hunk_files.specs.{LoadFile.TableEntry, LoadText.{table, text}}
+use Rattle.hunk_files.specs.{LoadText.{table, text}}
 use Rattle.hunk_files.proofs.walk.Scan.{no_fault}
 use Rattle.hunk_scatter.specs.HeaderSizes.{HasHeaderInFront, HasHeaderSize, RefusesHeader}
 use Rattle.hunk_scatter.specs.Placing.{Placing, HasBases, IsFirstUnplaced}

@@ -1,5 +1,5 @@
 -- Load files, each hunk at its own place of one memory.
-use Rattle.std.specs.Prelude.{◌≡◌, ℕ, ◌+◌, ◌-◌, ◌*◌, ◌^◌, ◌<◌, List, ◌++◌, length, take, drop, get_or, slice_get, nat_le, ◌&&◌, if◌then◌else◌, Bool, Option, Some, None, ◌⊎◌}
+use Rattle.std.specs.Prelude.{◌≡◌, ℕ, ◌+◌, ◌*◌, ◌^◌, ◌<◌, List, ◌++◌, length, get_or, slice_get, nat_le, ◌&&◌, if◌then◌else◌, Bool, Option, Some, None, ◌⊎◌}
 use Rattle.hunk_words.specs.Longs.{bytes_of}
 use Rattle.hunk_words.specs.Bits.{size_longs}
 use Rattle.hunk_words.specs.declared.fault.Fault.{Fault}

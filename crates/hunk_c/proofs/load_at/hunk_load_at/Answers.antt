@@ -1,8 +1,6 @@
-use Rattle.std.proofs.Common.{length, refl, inl, inr}
+use Rattle.std.proofs.Common.{refl, inl, inr}
 use Rattle.hunk_files.specs.LoadText.{table}
 use Rattle.hunk_files.proofs.cuts.LoadCuts.{begins}
-use Rattle.hunk_scatter.specs.Placing.{Placing}
-use Rattle.hunk_c.specs.LoadsAt.{placed_in}
 use Rattle.hunk_c.proofs.LoadedAt.{loaded_at, no_base_at, no_header_at, not_whole_at, what_is_placed}
 use Rattle.hunk_c.proofs.Succeeding.{file_header}
 use Rattle.hunk_c.proofs.load_at.hunk_load_at.Goals as goal

@@ -1,4 +1,4 @@
-use Rattle.std.proofs.Common.{◌≡◌, ℕ, ◌∙◌, ◌+◌, ◌-◌, List, length, refl, sym, ap, subst, arith, get_or}
+use Rattle.std.proofs.Common.{ℕ, ◌∙◌, ◌+◌, ◌-◌, List, length, refl, sym, ap, subst, arith, get_or}
 use borrow.Rule.Slice.PartMut.{put_mid}
 use Rattle.hunk_blocks.specs.Placed.{Placed}
 use Rattle.hunk_files.specs.{Image.image, LoadFile.{HunkValue, IsHunk}, LoadHunks.hunk_seen}

@@ -1,4 +1,4 @@
-use Rattle.std.proofs.Common.{◌+◌, ◌*◌, ◌≡◌, length}
+use Rattle.std.proofs.Common.{◌≡◌}
 use Rattle.hunk_c.proofs.PlacedHunks.{PutSoFar}
 use Rattle.hunk_c.proofs.load_at.put_hunks.Given as goal
 
