@@ -20,6 +20,7 @@ use Rattle.hunk_c.specs.Answers.{is_answered, strange}
 use Rattle.hunk_c.specs.Loaders.{TellsAgain, TellsRefusal, TellsStrange, MayStand, MayStandAt, no_loader, loader_at, unrefused}
 use Rattle.hunk_c.specs.Loads as loads
 use Rattle.hunk_c.specs.Loads.{Loads, IsNotLoaded}
+use Rattle.hunk_c.specs.LoadsAt.{LoadsAt, IsNotLoadedAt, HasNoFileAt, HasNoBaseAt}
 use Rattle.hunk_c.specs.Names.{IsMeaningOf, IsNameOf, Means, Names, PutsText, HasText, HasNoText, OfReason, OfNoRoom, OfStrange, OfNone, MeansReason, MeansNoRoom, MeansStrange, MeansNothing}
 use Rattle.hunk_c.specs.Rows as lists
 use Rattle.hunk_c.specs.Rows.{Lists}
@@ -87,6 +88,14 @@ not_loaded base room bytes a (loads.HasNoBase t hunk h l u e) = told_by a _ e re
 pub load_told : (base : Placing) (bytes old new : List ℕ) (a : Answer) → Loads base bytes old new a → Told a
 load_told base bytes old new a (inl h) = told_by a _ h.answer_is refl
 load_told base bytes old new a (inr h) = not_loaded base (length old) bytes a h.0
+
+not_loaded_at : (base : Placing) (bytes : List ℕ) (a : Answer) → IsNotLoadedAt base bytes a → Told a
+not_loaded_at base bytes a (HasNoFileAt f h k e) = told_by a _ e (of_load bytes f.place f.reason h)
+not_loaded_at base bytes a (HasNoBaseAt t hunk h u e) = told_by a _ e refl
+
+pub load_at_told : (base : Placing) (start : ℕ) (bytes old new : List ℕ) (a : Answer) → LoadsAt base start bytes old new a → Told a
+load_at_told base start bytes old new a (inl h) = told_by a _ h.answer_is refl
+load_at_told base start bytes old new a (inr h) = not_loaded_at base bytes a h.0
 
 pub begin_told : (rows : List Row) (header : ℕ) (new : Loader) (memory after : List ℕ) (a : Answer) → Begins rows header new memory after a → Told a
 begin_told rows header new memory after a (HasBegun s h z r e) = told_by a _ e refl

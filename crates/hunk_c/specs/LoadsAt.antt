@@ -1,5 +1,5 @@
 -- Load files, each hunk at its own place of one memory.
-use Rattle.std.specs.Prelude.{◌≡◌, ℕ, ◌+◌, ◌*◌, ◌^◌, ◌<◌, List, ◌++◌, length, get_or, slice_get, nat_le, ◌&&◌, if◌then◌else◌, Bool, Option, Some, None, ◌⊎◌}
+use Rattle.std.specs.Prelude.{◌≡◌, ℕ, ◌+◌, ◌-◌, ◌*◌, ◌^◌, ◌<◌, List, ◌++◌, length, take, drop, get_or, slice_get, nat_le, ◌&&◌, if◌then◌else◌, Bool, Option, Some, None, ◌⊎◌}
 use Rattle.hunk_words.specs.Longs.{bytes_of}
 use Rattle.hunk_words.specs.Bits.{size_longs}
 use Rattle.hunk_words.specs.declared.fault.Fault.{Fault}
@@ -42,9 +42,19 @@ abbrev pub IsOwn : ℕ → List ℕ → LoadFileValue → ℕ → ℕ → Type 0
 IsOwn start bases hunks i byte = (j : ℕ) → HasByte start bases hunks j byte → j ≡ i
 
 -- Each byte that one hunk alone has is that of its image.
+abbrev pub HasOwnBytes : ℕ → List ℕ → LoadFileValue → List ℕ → Type 0
+HasOwnBytes start bases hunks memory =
+    (i byte : ℕ) (h : HasByte start bases hunks i byte) → IsOwn start bases hunks i byte → get_or memory byte 0 ≡ get_or (image bases h.hunk) h.offset 0
+
+-- The hunk of this number shares no byte with another.
+abbrev pub LiesApart : ℕ → List ℕ → LoadFileValue → ℕ → Type 0
+LiesApart start bases hunks i = (byte : ℕ) → HasByte start bases hunks i byte → IsOwn start bases hunks i byte
+
+-- Each hunk that shares no byte with another is its image.
 abbrev pub HasImages : ℕ → List ℕ → LoadFileValue → List ℕ → Type 0
 HasImages start bases hunks memory =
-    (i byte : ℕ) (h : HasByte start bases hunks i byte) → IsOwn start bases hunks i byte → get_or memory byte 0 ≡ get_or (image bases h.hunk) h.offset 0
+    (i : ℕ) (h : HunkValue) → slice_get hunks i ≡ Some h → LiesApart start bases hunks i
+    → take (4 * declared_longs h) (drop (get_or bases i 0 - start) memory) ≡ image bases h
 
 -- Each byte that no hunk has is as it was.
 abbrev pub KeepsOthers : ℕ → List ℕ → LoadFileValue → List ℕ → List ℕ → Type 0
@@ -54,11 +64,8 @@ KeepsOthers start bases hunks old new = (byte : ℕ) → ((i : ℕ) → HasByte 
 pub record HasHunks (start : ℕ) (bases : List ℕ) (hunks : LoadFileValue) (old new : List ℕ) : Type 0 where
   pub size : length new ≡ length old
   pub images : HasImages start bases hunks new
+  pub bytes : HasOwnBytes start bases hunks new
   pub outside : KeepsOthers start bases hunks old new
-
--- The hunk of this number shares no byte with another.
-abbrev pub LiesApart : ℕ → List ℕ → LoadFileValue → ℕ → Type 0
-LiesApart start bases hunks i = (byte : ℕ) → HasByte start bases hunks i byte → IsOwn start bases hunks i byte
 
 -- ---- loads
 

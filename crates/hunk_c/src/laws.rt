@@ -8,6 +8,7 @@ ghost use Rattle.hunk_c.specs.Answers.{AreAnswered, strange};
 ghost use Rattle.hunk_c.specs.Checks.{Checks};
 ghost use Rattle.hunk_c.specs.Loaders.{no_loader};
 ghost use Rattle.hunk_c.specs.Loads.{Loads};
+ghost use Rattle.hunk_c.specs.LoadsAt.{LoadsAt};
 ghost use Rattle.hunk_c.specs.Names.{Means, Names};
 ghost use Rattle.hunk_c.specs.Rows.{Tabulates};
 ghost use Rattle.hunk_c.specs.Streams.{Begins, Ends, Feeds, Wants};
@@ -24,6 +25,8 @@ pub fn answered_numbers()
         → AreAnswered (Tables budget bytes old new) }
     ensures load { (base : Placing) (bytes old new : List ℕ)
         → AreAnswered (Loads base bytes old new) }
+    ensures load_at { (base : Placing) (start : ℕ) (bytes old new : List ℕ)
+        → AreAnswered (LoadsAt base start bytes old new) }
     ensures begin { (rows : List Row) (header : ℕ) (new : Loader) (memory after : List ℕ)
         → AreAnswered (Begins rows header new memory after) }
     ensures feed { (rows : List Row) (old new : Loader) (memory after piece : List ℕ)

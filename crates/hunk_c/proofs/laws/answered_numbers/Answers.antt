@@ -1,4 +1,4 @@
-use Rattle.hunk_c.proofs.AnsweredNumbers.{begin_told, end_told, feed_told, list_told, load_told, table_told, want_told, words_told}
+use Rattle.hunk_c.proofs.AnsweredNumbers.{begin_told, end_told, feed_told, list_told, load_at_told, load_told, table_told, want_told, words_told}
 use Rattle.hunk_c.specs.{Checks.finding_rows, Strips.stripped_bytes}
 use Rattle.hunk_c.proofs.laws.answered_numbers.Goals as goal
 
@@ -6,6 +6,7 @@ pub returns : goal.returns
 returns c = record {
   table = table_told;
   load = load_told;
+  load_at = load_at_told;
   begin = begin_told;
   feed = feed_told;
   end = end_told;

@@ -3,7 +3,7 @@ use borrow.Rule.Slice.PartMut.{put_mid}
 use Rattle.hunk_blocks.specs.Placed.{Placed}
 use Rattle.hunk_files.specs.{Image.image, LoadFile.{HunkValue, IsHunk}, LoadHunks.hunk_seen}
 use Rattle.hunk_files.proofs.image.FillingLaws.{part_size}
-use Rattle.hunk_c.proofs.PlacedHunks.{PutSoFar, all_put, hunk_put, hunk_room, is_hunk, lies, none_put, number_inside}
+use Rattle.hunk_c.proofs.PlacedHunks.{PutSoFar, all_put, hunk_put, hunk_room, is_hunk, hunk_lies, none_put, number_inside}
 use Rattle.hunk_c.proofs.load_at.put_hunks.Goals as goal
 
 pub putting-init : goal.putting-init
@@ -22,7 +22,7 @@ bounds-bases-number c =
 pub overflow_sub-at : goal.overflow_sub-at
 overflow_sub-at c =
     let next = ap (λ (p : Placed (List HunkValue)). p.value) c.in-Some.ensures.steps.0 in
-    omega (arith, (lies c.putting.invariant.1 c.requires.bases.0 c.requires.bases.1 (hunk_seen c.in-Some.hunk) c.next.new.self.value next).from, ap (λ (b : List ℕ). get_or b c.putting.number 0) c.putting.invariant.0)
+    omega (arith, (hunk_lies c.putting.invariant.1 c.requires.bases.0 c.requires.bases.1 (hunk_seen c.in-Some.hunk) c.next.new.self.value next).from, ap (λ (b : List ℕ). get_or b c.putting.number 0) c.putting.invariant.0)
 
 pub slice_bounds-fill-end : goal.slice_bounds-fill-end
 slice_bounds-fill-end c =
