@@ -187,6 +187,34 @@ struct hunk_answer hunk_load(const uint8_t *bytes, size_t bytes_len, const uint3
 struct hunk_answer hunk_load_packed(const uint8_t *bytes, size_t bytes_len, uint32_t base,
                                     uint8_t *memory, size_t memory_len);
 
+/* The same for hunks that lie apart in one memory, each at its own address: a machine with chip and
+ * fast memory hands in what both lie in.
+ *
+ *   bases   the address of each hunk, in their order, at any byte; more than there are hunks may
+ *           be given
+ *   start   the address of the memory's first byte: hunk i is written from memory[bases[i] - start]
+ *           on, as hunk_load writes it
+ *
+ * HUNK_OK       as hunk_load. count: the bytes that the hunks have together.
+ * HUNK_NO_BASE  hunk: the first that has no base in the memory: it has none at all, or some byte of
+ *               it would lie before the memory, after it, or at 2^32 or more. A hunk of 0 bytes may
+ *               begin where the memory ends. place: the bytes of the header.
+ * Else as hunk_load, but never HUNK_NO_ROOM.
+ *
+ * HUNK_NO_BASE comes before the body is looked at. A file whose hunks all lie in the memory is
+ * loaded. It is read to its end before the first byte is written: memory that no hunk has, and at
+ * any answer but HUNK_OK all memory, is as it was. Whether hunks overlap is not checked: bytes that
+ * two have are unspecified, all others are as if they did not.
+ *
+ *   uint8_t ram[0x300];             (its first byte at 0x40000)
+ *   uint32_t bases[] = {0x40200, 0x40010};
+ *   hunk_load_at(file, len, bases, 2, 0x40000, ram, sizeof ram);
+ *                                   (hunk 0 from ram[0x200] on, hunk 1 from ram[0x10] on)
+ */
+struct hunk_answer hunk_load_at(const uint8_t *bytes, size_t bytes_len, const uint32_t *bases,
+                                size_t bases_len, uint32_t start, uint8_t *memory,
+                                size_t memory_len);
+
 /* ---- A load file that comes piece by piece, of which no copy is kept.
  *
  * hunk_table reads the header, which has to be in one piece, into the caller's rows. The four

@@ -111,6 +111,8 @@ export class Hunk {
   reasonText(number: number): string;
   table(bytes: Uint8Array, budget?: number): Table;
   load(bytes: Uint8Array, bases: ArrayLike<number>, budget?: number): Loaded;
+  /** `size`: the bytes of the hunks together. The memory is written, and where the call throws it is as it was. */
+  loadAt(bytes: Uint8Array, bases: ArrayLike<number>, start: number, memory: Uint8Array): FileAnswer & { size: number };
   loadPacked(bytes: Uint8Array, base: number, budget?: number): Loaded;
   begin(table: Table, bases: ArrayLike<number>): Loader;
   check(bytes: Uint8Array, most?: number): Listed<Finding>;

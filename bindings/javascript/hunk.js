@@ -183,6 +183,13 @@ function putPlaces(room, rows, bases) {
   return at;
 }
 
+function putBases(room, bases) {
+  const at = room.take(4 * bases.length);
+  const view = room.view();
+  for (let i = 0; i < bases.length; i++) view.setUint32(at + 4 * i, bases[i], true);
+  return [BigInt(at), BigInt(bases.length)];
+}
+
 /** A load file that comes piece by piece, in an instance of its own. Hunk.begin makes one. */
 export class Loader {
   #hunk;
@@ -333,12 +340,19 @@ export class Hunk {
 
   /** Loads a load file, each hunk for an address of its own. */
   load(bytes, bases, budget = BUDGET) {
-    return this.#load("hunk_load", bytes, budget, (room) => {
-      const at = room.take(4 * bases.length);
-      const view = room.view();
-      for (let i = 0; i < bases.length; i++) view.setUint32(at + 4 * i, bases[i], true);
-      return [BigInt(at), BigInt(bases.length)];
-    });
+    return this.#load("hunk_load", bytes, budget, (room) => putBases(room, bases));
+  }
+
+  /** Loads each hunk of a load file for its own address, and to there: `memory` begins at the address `start`. */
+  loadAt(bytes, bases, start, memory) {
+    const room = this.#room;
+    const file = this.#open(bytes);
+    const listed = putBases(room, bases);
+    const at = room.put(memory);
+    const words = [...file, ...listed, start | 0, BigInt(at), BigInt(memory.length)];
+    const answer = this.#answer(room.call("hunk_load_at", ...words));
+    memory.set(room.bytes(at, memory.length));
+    return { hunks: answer.hunk, bytes: answer.place, size: answer.count };
   }
 
   /** Loads a load file for the addresses from `base` on. */

@@ -221,6 +221,7 @@ _BYTES, _ROOM = (c_char_p, c_size_t), (c_void_p, c_size_t)
 _table = _call("hunk_table", *_BYTES, c_uint64, *_ROOM)
 _load = _call("hunk_load", *_BYTES, *_ROOM, *_ROOM)
 _load_packed = _call("hunk_load_packed", *_BYTES, c_uint32, *_ROOM)
+_load_at = _call("hunk_load_at", *_BYTES, *_ROOM, c_uint32, *_ROOM)
 _check = _call("hunk_check", *_BYTES, *_ROOM)
 _strip = _call("hunk_strip", *_BYTES, *_ROOM)
 _units, _blocks, _symbols, _relocations, _entries, _references = (
@@ -282,6 +283,10 @@ def _rows(call: _Call, layout: struct.Struct, data: bytes, *words: int, counted:
     return layout.iter_unpack(rows)
 
 
+def _bases(bases: Sequence[int]) -> Any:
+    return (c_uint32 * len(bases))(*(_number(it, 32, "base") for it in bases))
+
+
 def _segments(memory: Any, sizes: Sequence[int]) -> list[bytes]:
     ends = list(itertools.accumulate(sizes, initial=0))
     return [bytes(memoryview(memory)[start:end]) for start, end in zip(ends, ends[1:])]
@@ -303,9 +308,20 @@ def load(data: Data, base: Union[int, Sequence[int]] = 0x1000, budget: int = BUD
     if isinstance(base, int):
         _accepted(_load_packed(data, len(data), _number(base, 32, "base"), memory, len(memory)))
     else:
-        bases = (c_uint32 * len(base))(*(_number(it, 32, "base") for it in base))
+        bases = _bases(base)
         _accepted(_load(data, len(data), bases, len(bases), memory, len(memory)))
     return _segments(memory, sizes)
+
+
+def load_at(data: Data, bases: Sequence[int], start: int, memory: Union[bytearray, memoryview]) -> int:
+    """Loads the hunks of the load file at the front of the bytes into the memory, each for its own address and there.
+
+    `start` is the address of the first byte of `memory`. Answers how many bytes the hunks have together. Where one of them has no
+    base, or does not lie in the memory, that is NoBase, and the memory is as it was, as at each error."""
+    data = _bytes(data)
+    listed, room = _bases(bases), (c_uint8 * memoryview(memory).nbytes).from_buffer(memory)
+    answer = _load_at(data, len(data), listed, len(listed), _number(start, 32, "start"), room, len(room))
+    return int(_accepted(answer).count)
 
 
 def check(data: Data) -> list[Finding]:

@@ -180,6 +180,21 @@ pub fn load_into(data: &[u8], base: u32, memory: &mut [u8]) -> Result<usize, Err
     Ok(accepted(packed(data, base, memory))?.count as usize)
 }
 
+/// Loads each hunk for its own address, and to there: the memory begins at the address `start`, as that of a machine in which
+/// chip and fast memory lie. Answers how many bytes the hunks have together. Memory that no hunk has stays as it was; where
+/// two overlap, the bytes that both have are unspecified.
+///
+/// # Errors
+///
+/// An error where the bytes do not begin with a load file; `NoBase` where a hunk has no base, or does not lie in the memory
+/// there. The memory is as it was then.
+pub fn load_at(data: &[u8], bases: &[u32], start: u32, memory: &mut [u8]) -> Result<usize, Error> {
+    let (to, len) = (memory.as_mut_ptr(), memory.len());
+    // SAFETY: the pointers come with the lengths of what they point to.
+    let answer = unsafe { raw::hunk_load_at(data.as_ptr(), data.len(), bases.as_ptr(), bases.len(), start, to, len) };
+    Ok(accepted(answer)?.count as usize)
+}
+
 /// What is wrong with the offsets of an object file. A load file has no findings, or is refused.
 ///
 /// # Errors

@@ -125,6 +125,15 @@ extern "C" {
         memory: *mut u8,
         memory_len: usize,
     ) -> Answer;
+    pub fn hunk_load_at(
+        bytes: *const u8,
+        bytes_len: usize,
+        bases: *const u32,
+        bases_len: usize,
+        start: u32,
+        memory: *mut u8,
+        memory_len: usize,
+    ) -> Answer;
     pub fn hunk_load_packed(bytes: *const u8, bytes_len: usize, base: u32, memory: *mut u8, memory_len: usize) -> Answer;
     pub fn hunk_check(bytes: *const u8, bytes_len: usize, rows: *mut Finding, rows_len: usize) -> Answer;
     pub fn hunk_units(bytes: *const u8, bytes_len: usize, rows: *mut Unit, rows_len: usize) -> Answer;

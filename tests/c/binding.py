@@ -205,6 +205,16 @@ def raises_type_error(call, data):
     return False
 
 
+def placed(data, bases, start=0x10000, size=24):
+    """A memory into which the file was loaded, or where it was refused, what says so and the memory."""
+    memory = bytearray(b"\xaa" * size)
+    try:
+        hunk.load_at(data, bases, start, memory)
+    except hunk.HunkError as error:
+        return f"{error}: {memory.hex('-', 8)}"
+    return memory.hex("-", 8)
+
+
 def wrong_calls(texts):
     """What other calls, and the texts of errors, are not as they must be."""
     one, two, symbol = (bytes.fromhex(texts[it]) for it in ("one-hunk", "two-hunks", "symbol"))
@@ -214,6 +224,9 @@ def wrong_calls(texts):
         "refusal": (lambda: [line.split(": ")[0] for line in hex_lines(one[:9])], ["byte 8"]),
         "table": (lambda: hunk.table(one[:24]), [hunk.Hunk(4, "any", 0)]),
         "bases": (lambda: hunk.load(two, [0x10000, 0x20000])[0].hex(), "4ef9000200044e71"),
+        "places": (lambda: placed(two, [0x1000C, 0x10001]), "aa12345678aaaaaa-aaaaaaaa4ef90001-00054e71aaaaaaaa"),
+        "no place": (lambda: placed(two, [0x10011, 0x10000]), f"refused at byte 28: NoBase (29) hunk 0: {'-'.join(['aa' * 8] * 3)}"),
+        "placed bytes": (lambda: hunk.load_at(two, [0x10000, 0x10008], 0x10000, memoryview(bytearray(16))), 12),
         "memory": (lambda: hunk.load(memoryview(one)), [bytes.fromhex("4e754e71")]),
         "stream": (lambda: hunk_stream.load_from(io.BytesIO(one + one)), [bytes.fromhex("4e754e71")]),
         "file": (lambda: repr(hunk.read(one + one)), "<load file, 40 bytes, 1 hunks>"),

@@ -91,6 +91,8 @@ fn wrong_calls(load: &[Row], objects: &[Row]) -> Vec<String> {
     let text = |result: Result<usize, Error>| result.unwrap_err().to_string();
     // The offset is the third longword of the relocation block, which stands after a unit of 2 longwords and CODE of 3.
     let finding = |place, fault| Finding { place, unit: 0, hunk: 0, offset: 2, fault };
+    let mut apart = [0xAA; 24];
+    let places = hunk::load_at(&two, &[0x1000C, 0x10001], 0x10000, &mut apart);
     let row = Hunk { unit: 0, number: 0, size: 4, memory: Memory::Any, kind: None };
     let read = hunk::read(&one).unwrap();
     let object = bytes_of("000003e700000000400003eb00000002000003f2800003ea00000000000003f2");
@@ -112,6 +114,8 @@ fn wrong_calls(load: &[Row], objects: &[Row]) -> Vec<String> {
         ("into", load_ram(&symbol, 2, &mut ram, &mut names) == Ok(4)),
         ("names", names == [(0, &b"_m"[..])]),
         ("memory", ram[2..6] == code && ram[..2] == [0xAA; 2] && ram[6..] == [0xAA; 2]),
+        ("places", places == Ok(12) && apart[..] == bytes_of("aa12345678aaaaaaaaaaaaaa4ef9000100054e71aaaaaaaa")),
+        ("no place", text(hunk::load_at(&two, &[0x10011, 0x10000], 0x10000, &mut [0; 24])) == "refused at byte 28: NoBase (29) hunk 0"),
         ("findings", hunk::check(&findings) == Ok(vec![finding(32, Fault::BadTarget), finding(32, Fault::OutsideHunk)])),
     ];
     checks.iter().filter(|(_, holds)| !holds).map(|(name, _)| format!("{name}: another answer")).collect()

@@ -8,6 +8,8 @@ size_t next_piece(uint8_t *piece);
 void load_program(const uint8_t *file, size_t len, uint8_t *ram, size_t size, uint32_t base);
 void strip_file(const uint8_t *file, size_t len, uint8_t *text, FILE *out);
 struct hunk_answer load_pieces(const struct hunk_place *places, struct hunk_answer t, uint8_t *memory, uint8_t *piece);
+struct hunk_answer load_apart(const uint8_t *file, size_t len, struct hunk_answer t, const struct hunk_row *rows,
+                              uint32_t *bases, uint8_t *memory, size_t size);
 
 void load_program(const uint8_t *file, size_t len, uint8_t *ram, size_t size, uint32_t base)
 {
@@ -32,4 +34,16 @@ struct hunk_answer load_pieces(const struct hunk_place *places, struct hunk_answ
         hunk_feed(&loader, places, t.hunk, memory, t.count, piece, len);
     struct hunk_answer end = hunk_end(&loader);
     return end;
+}
+
+struct hunk_answer load_apart(const uint8_t *file, size_t len, struct hunk_answer t, const struct hunk_row *rows,
+                              uint32_t *bases, uint8_t *memory, size_t size)
+{
+    uint32_t chip = 0x1000, fast = 0x200000;
+    for (uint32_t h = 0; h < t.hunk; h++) {
+        uint32_t *next = rows[h].memory == 1 ? &chip : &fast;
+        bases[h] = *next;
+        *next += rows[h].bytes;
+    }
+    return hunk_load_at(file, len, bases, t.hunk, 0x1000, memory, size);
 }

@@ -67,6 +67,7 @@ static void put_many(void)
 static void nothing(void) { answer.number = HUNK_OK; }
 static void table(void) { answer = hunk_table(file, sizeof file, 12, rows, HUNKS); }
 static void load(void) { answer = hunk_load(file, sizeof file, bases, HUNKS, memory, 12); }
+static void load_at(void) { answer = hunk_load_at(file, sizeof file, bases, HUNKS, 0, memory, 12); }
 static void packed(void) { answer = hunk_load_packed(file, sizeof file, 0, memory, 12); }
 static void packed_many(void)
 {
@@ -101,6 +102,7 @@ static const struct {
 } calls[] = {
     {"hunk_table", table, ALL},
     {"hunk_load", load, ALL},
+    {"hunk_load_at", load_at, ALL},
     {"hunk_load_packed", packed, PACKED},
     {"hunk_load_packed of many hunks", packed_many, PACKED},
     {"hunk_begin", begin, ALL},

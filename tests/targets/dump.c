@@ -142,6 +142,16 @@ static void stream(struct hunk_answer table)
     printf("  wants %" PRIu32 "\n", wants);
 }
 
+/* Each hunk to its own place, the last first. */
+static void place(uint32_t hunks, size_t size)
+{
+    size_t at = 0;
+    for (uint32_t h = hunks; h-- > 0; at += rows[h].bytes)
+        bases[h] = BASE / 2 + (uint32_t)at;
+    struct hunk_answer a = hunk_load_at(bytes, len, bases, hunks, BASE / 2, memory, size);
+    say_loaded("at", a);
+}
+
 static void load_file(void)
 {
     struct hunk_answer table = read_table();
@@ -149,6 +159,7 @@ static void load_file(void)
         say_loaded("load", hunk_load(bytes, len, bases, table.hunk, memory, table.count));
         say_loaded("packed", hunk_load_packed(bytes, len, BASE, memory, table.count));
         stream(table);
+        place(table.hunk, table.count);
     }
     free(rows);
     free(places);

@@ -78,6 +78,20 @@ function stream(hunk, bytes, table, bases) {
   say(`  wants ${wants}`);
 }
 
+/** Each hunk to its own place, the last first. */
+function place(hunk, bytes, table) {
+  const bases = new Uint32Array(table.rows.length);
+  const start = Math.floor(BASE / 2);
+  let at = start;
+  for (let h = bases.length - 1; h >= 0; h--) {
+    bases[h] = at;
+    at += table.rows.get(h, "bytes");
+  }
+  const memory = new Uint8Array(table.size);
+  const placed = attempt("at", () => hunk.loadAt(bytes, bases, start, memory));
+  sayLoaded("at", placed && { ...placed, memory });
+}
+
 function loadFile(hunk, bytes) {
   const table = attempt("table", () => hunk.table(bytes, BUDGET));
   if (!table) return;
@@ -87,6 +101,7 @@ function loadFile(hunk, bytes) {
   sayLoaded("load", attempt("load", () => hunk.load(bytes, bases, BUDGET)));
   sayLoaded("packed", attempt("packed", () => hunk.loadPacked(bytes, BASE, BUDGET)));
   stream(hunk, bytes, table, bases);
+  place(hunk, bytes, table);
 }
 
 function stripFile(hunk, bytes) {
