@@ -196,15 +196,15 @@ struct hunk_answer hunk_load_packed(const uint8_t *bytes, size_t bytes_len, uint
  *           on, as hunk_load writes it
  *
  * HUNK_OK       as hunk_load. count: the bytes that the hunks have together.
- * HUNK_NO_BASE  hunk: the first that has no base in the memory: it has none at all, or some byte of
- *               it would lie before the memory, after it, or at 2^32 or more. A hunk of 0 bytes may
- *               begin where the memory ends. place: the bytes of the header.
+ * HUNK_NO_BASE  hunk: the first that has no base in the memory: it has none at all, or it would
+ *               begin before the memory, or pass its end or the address 2^32. place: the bytes of
+ *               the header.
  * Else as hunk_load, but never HUNK_NO_ROOM.
  *
  * HUNK_NO_BASE comes before the body is looked at. A file whose hunks all lie in the memory is
  * loaded. It is read to its end before the first byte is written: memory that no hunk has, and at
  * any answer but HUNK_OK all memory, is as it was. Whether hunks overlap is not checked: bytes that
- * two have are unspecified, all others are as if they did not.
+ * two of them have are unspecified, and all others are as if they did not.
  *
  *   uint8_t ram[0x300];             (its first byte at 0x40000)
  *   uint32_t bases[] = {0x40200, 0x40010};
