@@ -91,7 +91,7 @@ abbrev pub straight : ℕ → FilePosition → FilePosition → Spot
 straight zero here next = Long here
 straight (suc more) here next = Straight (4 * more + 3) next
 
--- After the file all bytes pass.
+-- After a load file all bytes pass.
 abbrev pub go_on : FilePosition → Spot
 go_on (files.Load positions.Done) = Passing
 go_on p = straight (straight_longs p) p (after_straight p)

@@ -117,8 +117,9 @@ impl Spot {
         }
     }
 
-    /// After the first longword, which says of what kind the file is. Of others than these two all
-    /// bytes pass.
+    /// After the first longword of a file, which says of what kind it is.
+    ///
+    /// Where it is of neither kind, all bytes pass.
     #[inline(always)]
     fn behind_first(word: u32) -> Spot
         ensures { result ≡ behind_first word }
