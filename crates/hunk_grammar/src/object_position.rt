@@ -12,7 +12,7 @@ use crate::refusal::refuse_place;
 use hunk_words::{BlockWord, Kind, NAME_LIMIT, Reason, UNIT_WORD};
 
 /// Where a block word stands.
-#[derive(Clone, Copy)]
+#[derive(Clone, Copy, Debug, PartialEq, Eq)]
 pub enum WordPlace {
     /// At the start of the file, where the first unit begins.
     BeforeUnits,
@@ -23,7 +23,7 @@ pub enum WordPlace {
 }
 
 /// What the next longword of an object file is for.
-#[derive(Clone, Copy)]
+#[derive(Clone, Copy, Debug, PartialEq, Eq)]
 pub enum ObjectPosition {
     /// The word of a block or of a unit.
     Word(WordPlace),

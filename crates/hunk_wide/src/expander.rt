@@ -26,7 +26,7 @@ use std::marker::Model;
 ///
 /// Contracts see what it holds: the bytes that are ready to be given out, what the next bytes are
 /// for, and which of these have come.
-#[derive(Drop)]
+#[derive(Debug, Drop)]
 pub struct Expander {
     ready: Ready,
     spot: Spot,

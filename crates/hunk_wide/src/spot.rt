@@ -24,7 +24,7 @@ pub enum ShortPart {
 }
 
 /// What the next bytes are for.
-#[derive(Clone, Copy)]
+#[derive(Clone, Copy, Debug, PartialEq, Eq)]
 pub enum Spot {
     /// From here on all bytes pass as they are.
     Passing,
