@@ -32,7 +32,25 @@ fn filled(
     Ok(memory)
 }
 
-/// Sees that the load file has this memory at these bases, both ways.
+/// The same of its hunks, each in memory of its own.
+fn filled_apart(
+    rt: &impl Abort,
+    alloc: Global,
+    bytes: &[u8],
+    mut bases: &[u32],
+) -> Result<Vec<u8>, AllocError> {
+    let file = load_view(rt, bytes);
+    assert!(rt; bases.len() == file.hunks() as usize);
+    let mut all = Vec::new(alloc);
+    'hunks: for hunk in file.iter() {
+        let mut memory = vec![in alloc; 0xA5; hunk.size.bytes() as usize]?;
+        hunk.fill(&mut memory, &mut bases);
+        all.extend_from_slice(&memory)?;
+    }
+    Ok(all)
+}
+
+/// Sees that the load file has this memory at these bases, each way.
 pub(in crate::tests) fn expect(
     rt: &impl Abort,
     alloc: Global,
@@ -41,6 +59,7 @@ pub(in crate::tests) fn expect(
     want: &[u8],
 ) -> Result<(), AllocError> {
     assert!(rt; filled(rt, alloc, bytes, bases)?.as_slice() == want);
+    assert!(rt; filled_apart(rt, alloc, bytes, bases)?.as_slice() == want);
     let image = image_of(rt, alloc, bytes, bases).expect(rt, "no image");
     assert!(rt; image.as_slice() == want);
     Ok(())
