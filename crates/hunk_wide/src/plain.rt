@@ -173,7 +173,7 @@ impl<R: Source> Source for Plain<R> {
         ensures fails { (R.supply self.new.source).failed
             ≡ ((R.supply self.old.source).failed || is_err result) }
 
-        // Of a file no more is taken than the bytes are for.
+        // Where a file is given out, no byte after it is taken.
         ensures file { MatchResult result
             (λ n. StaysInFile self.old.held (R.supply self.old.source).left
             self.new.held (R.supply self.new.source).left n)
