@@ -4,9 +4,6 @@ use Rattle.std.specs.Int.{from_be_bytes, w32}
 use Rattle.std.specs.{Io.ReadsAtMost, Io.KnownBytes.{Consumes, IsAtEnd, Keeps, ReadConsumes}, Prelude.MatchResult, Result.IsErr}
 use Rattle.std.proofs.lemmas.{Bool.{ltb-false, ltb-true}, List.{drop-append-le, length-take, take-append-drop, take-append-le}}
 use Rattle.std.proofs.Math.Seq.{drop-append_seam, take-append_seam}
-use Rattle.hunk_grammar.specs.declared.phase.Phase.TheVariants as phases
-use Rattle.hunk_grammar.specs.declared.position.Position.TheVariants as positions
-use Rattle.hunk_wide.specs.declared.position.FilePosition.TheVariants as files
 use Rattle.hunk_wide.specs.declared.spot.Spot.{Spot}
 use Rattle.hunk_wide.specs.declared.spot.Spot.TheVariants.{Passing, Straight, Long, Half, Filler}
 use Rattle.hunk_wide.specs.declared.spot.Given.{Given}
@@ -101,14 +98,13 @@ at_its_end (Straight (suc owed) next) (b ∷ rest) e none = absurd (omega (arith
 at_its_end (Long p) (a ∷ b ∷ c ∷ d ∷ rest) e none =
     let w : ℕ = from_be_bytes w32 (a ∷ b ∷ c ∷ d ∷ []) in
     absurd (omega (arith, long_some (given p w) a b c d w (plain_from (behind_long p w) rest), ap length none))
-at_its_end (Half after part odd) (a ∷ b ∷ rest) e none = absurd (omega (arith, ap length none))
-at_its_end (Filler after) (a ∷ b ∷ rest) e none = go (eqb (half_of a b) 0) (at_its_end (Long after) rest) e none
+at_its_end (Half o part odd) (a ∷ b ∷ rest) e none = absurd (omega (arith, ap length none))
+at_its_end (Filler o) (a ∷ b ∷ rest) e none = go (eqb (half_of a b) 0) _ (λ same. cc same) (at_its_end _ rest) e none
   where
-    go : (x : Bool) → (spot_after (Long after) rest ≡ Passing → plain_from (Long after) rest ≡ [] → Long after ≡ Passing)
-        → spot_after (cond x (Long after) Passing) rest ≡ Passing
-        → cond x [] (0 ∷ 0 ∷ 3 ∷ 252 ∷ a ∷ b ∷ []) ++ plain_from (cond x (Long after) Passing) rest ≡ [] → Filler after ≡ Passing
-    go true later e none = absurd (cc (later e none))
-    go false later e none = absurd (omega (arith, ap length none))
+    go : (x : Bool) (next : Spot) → (next ≡ Passing → ⊥) → (spot_after next rest ≡ Passing → plain_from next rest ≡ [] → next ≡ Passing)
+        → spot_after (cond x next Passing) rest ≡ Passing → cond x [] (0 ∷ 0 ∷ 3 ∷ 252 ∷ a ∷ b ∷ []) ++ plain_from (cond x next Passing) rest ≡ [] → Filler o ≡ Passing
+    go true next other later e none = absurd (other (later e none))
+    go false next other later e none = absurd (omega (arith, ap length none))
 at_its_end (Straight zero next) [] e none = absurd (cc e)
 at_its_end (Straight (suc owed) next) [] e none = absurd (cc e)
 at_its_end (Long p) [] e none = absurd (cc e)
