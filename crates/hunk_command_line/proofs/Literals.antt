@@ -12,7 +12,7 @@ stored_taken : takes hunkinfo (words_read []) ≡ true
 unfolding clap_on_literals
 stored_taken = refl
 
-stored_order : order_of [] ≡ Some (Relocate true 0 16777216 None)
+stored_order : order_of [] ≡ Some (Relocate true false 0 16777216 None)
 unfolding clap_on_literals
 stored_order = refl
 
@@ -23,12 +23,12 @@ show_taken : takes hunkinfo (words_read show_words) ≡ true
 unfolding clap_on_literals
 show_taken = refl
 
-show_order : order_of show_words ≡ Some (Show true (Some (codes "a")))
+show_order : order_of show_words ≡ Some (Show true false (Some (codes "a")))
 unfolding clap_on_literals
 show_order = refl
 
 -- the program's name may be any word
-rewrite_order : order_of (codes "x" ∷ codes "rewrite" ∷ codes "a" ∷ codes "--strip" ∷ codes "b" ∷ []) ≡ Some (Rewrite true (codes "a") (codes "b"))
+rewrite_order : order_of (codes "x" ∷ codes "rewrite" ∷ codes "a" ∷ codes "--strip" ∷ codes "b" ∷ codes "--wide" ∷ []) ≡ Some (Rewrite true true (codes "a") (codes "b"))
 unfolding clap_on_literals
 rewrite_order = refl
 

@@ -19,19 +19,26 @@ option name = record (new_rule name) { long = Some name; value_names = 1 }
 abbrev pub mandatory : Rule → Rule
 mandatory rule = record rule { required = true }
 
--- show [--hex] [FILE], and validate
+-- NAME [--hex] [--wide]
+abbrev pub reading_command : Text → App
+reading_command name = with_rule (with_rule (new_app name) (flag (codes "hex"))) (flag (codes "wide"))
+
+-- show [--hex] [--wide] [FILE], and validate
 abbrev pub plain_command : Text → App
-plain_command name = with_rule (with_rule (new_app name) (flag (codes "hex"))) (new_rule (codes "FILE"))
+plain_command name = with_rule (reading_command name) (new_rule (codes "FILE"))
 
--- relocate [--hex] --base HEX [--budget N] [FILE]
+-- relocate [--hex] [--wide] --base HEX [--budget N] [FILE]
 abbrev pub relocate_command : App
-relocate_command = with_rule (with_rule (with_rule (with_rule (new_app (codes "relocate"))
-    (flag (codes "hex"))) (mandatory (option (codes "base")))) (option (codes "budget"))) (new_rule (codes "FILE"))
+relocate_command = with_rule (with_rule (with_rule (reading_command (codes "relocate"))
+    (mandatory (option (codes "base")))) (option (codes "budget"))) (new_rule (codes "FILE"))
 
--- rewrite [--strip] IN OUT
+-- rewrite [--strip] [--wide]
+abbrev pub writing_command : App
+writing_command = with_rule (with_rule (new_app (codes "rewrite")) (flag (codes "strip"))) (flag (codes "wide"))
+
+-- rewrite [--strip] [--wide] IN OUT
 abbrev pub rewrite_command : App
-rewrite_command = with_rule (with_rule (with_rule (new_app (codes "rewrite")) (flag (codes "strip")))
-    (mandatory (new_rule (codes "IN")))) (mandatory (new_rule (codes "OUT")))
+rewrite_command = with_rule (with_rule writing_command (mandatory (new_rule (codes "IN")))) (mandatory (new_rule (codes "OUT")))
 
 -- the program, which has a version, and of which one subcommand has to be named
 abbrev pub program : App

@@ -42,20 +42,20 @@ budget_given (Some text) = budget_spelled text
 
 -- the orders of the four subcommands, by what was found for their arguments
 abbrev pub show_order : List Row → Option Order
-show_order found = Some (Show (is_set (codes "hex") found) (first_of (codes "FILE") found))
+show_order found = Some (Show (is_set (codes "hex") found) (is_set (codes "wide") found) (first_of (codes "FILE") found))
 
 abbrev pub validate_order : List Row → Option Order
-validate_order found = Some (Validate (is_set (codes "hex") found) (first_of (codes "FILE") found))
+validate_order found = Some (Validate (is_set (codes "hex") found) (is_set (codes "wide") found) (first_of (codes "FILE") found))
 
 abbrev pub relocate_order : List Row → Option Order
 relocate_order found =
-    option_and_then (λ base. option_map (λ budget. Relocate (is_set (codes "hex") found) base budget (first_of (codes "FILE") found))
+    option_and_then (λ base. option_map (λ budget. Relocate (is_set (codes "hex") found) (is_set (codes "wide") found) base budget (first_of (codes "FILE") found))
     (budget_given (first_of (codes "budget") found)))
     (option_and_then base_spelled (first_of (codes "base") found))
 
 abbrev pub rewrite_order : List Row → Option Order
 rewrite_order found =
-    option_and_then (λ input. option_map (λ output. Rewrite (is_set (codes "strip") found) input output)
+    option_and_then (λ input. option_map (λ output. Rewrite (is_set (codes "strip") found) (is_set (codes "wide") found) input output)
     (first_of (codes "OUT") found)) (first_of (codes "IN") found)
 
 abbrev pub named_order : Text → List Row → Option Order

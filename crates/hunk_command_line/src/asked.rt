@@ -46,13 +46,15 @@ impl FileName {
 }
 
 /// What the command line asks for. Where `file` is `None`, standard input is read; where `hex` is
-/// set, the input is hexadecimal text.
+/// set, the input is hexadecimal text; where `wide` is set, its plain spelling is taken for it.
 #[derive(Debug, Drop)]
 pub enum Order {
     /// `show`: lists a load file or an object file.
     Show {
         /// Whether the input is hexadecimal text.
         hex: bool,
+        /// Whether the plain spelling of the input is taken.
+        wide: bool,
         /// The file to read; standard input where there is none.
         file: Option<FileName>,
     },
@@ -60,6 +62,8 @@ pub enum Order {
     Validate {
         /// Whether the input is hexadecimal text.
         hex: bool,
+        /// Whether the plain spelling of the input is taken.
+        wide: bool,
         /// The file to read; standard input where there is none.
         file: Option<FileName>,
     },
@@ -68,6 +72,8 @@ pub enum Order {
     Relocate {
         /// Whether the input is hexadecimal text.
         hex: bool,
+        /// Whether the plain spelling of the input is taken.
+        wide: bool,
         /// The address of the first hunk.
         base: u32,
         /// The most bytes that all segments may have together.
@@ -80,6 +86,8 @@ pub enum Order {
     Rewrite {
         /// Whether what a loader does not need is left out.
         strip: bool,
+        /// Whether the plain spelling of the input is taken.
+        wide: bool,
         /// The file to read.
         input: FileName,
         /// The file to write.

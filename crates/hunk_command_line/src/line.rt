@@ -59,6 +59,7 @@ fn show_order(alloc: Global, found: &ArgMatches<'_>) -> Result<Order, OrderFault
 {
     Ok(Order::Show {
         hex: is_set(found, "hex"),
+        wide: is_set(found, "wide"),
         file: name_of(alloc, found, "FILE")?,
     })
 }
@@ -69,6 +70,7 @@ fn validate_order(alloc: Global, found: &ArgMatches<'_>) -> Result<Order, OrderF
 {
     Ok(Order::Validate {
         hex: is_set(found, "hex"),
+        wide: is_set(found, "wide"),
         file: name_of(alloc, found, "FILE")?,
     })
 }
@@ -94,6 +96,7 @@ fn relocate_order(alloc: Global, found: &ArgMatches<'_>) -> Result<Order, OrderF
     };
     Ok(Order::Relocate {
         hex: is_set(found, "hex"),
+        wide: is_set(found, "wide"),
         base,
         budget,
         file: name_of(alloc, found, "FILE")?,
@@ -112,6 +115,7 @@ fn rewrite_order(alloc: Global, found: &ArgMatches<'_>) -> Result<Order, OrderFa
     };
     Ok(Order::Rewrite {
         strip: is_set(found, "strip"),
+        wide: is_set(found, "wide"),
         input,
         output,
     })

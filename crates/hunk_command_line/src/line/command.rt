@@ -17,7 +17,12 @@ Examples:
   hunkinfo validate part.o
   hunkinfo relocate --base 00021000 --budget 65536 prog
   hunkinfo rewrite --strip prog prog.stripped
+  hunkinfo show --wide prog
   hunkinfo COMMAND --help
+
+With --wide a file is read as its plain spelling: blocks of relocations with
+16-bit words count as RELOC32, and an END that is left out before the next
+hunk, or at the end, is put in. Standard error says how much was spelled so.
 
 Limits:
   The input: fewer than 67108864 bytes (64 MiB); for relocate, and as text of
@@ -25,7 +30,9 @@ Limits:
   File names are UTF-8; `hunkinfo show < FILE` reads a file of any name.
   relocate holds the bytes that the hunks declare, and 12 for each hunk. The
   other commands hold the input, and nothing that grows with the number of its
-  parts. With --hex the bytes that the text spells are held in addition.
+  parts. With --hex the bytes that the text spells are held in addition. With
+  --wide each command holds the input, and its plain spelling where that is
+  another; both have fewer than 67108864 bytes.
 
 Exit status:
   0  done
@@ -39,6 +46,7 @@ const AFTER_SHOW: &str = "\
 Examples:
   hunkinfo show prog
   hunkinfo show < prog
+  hunkinfo show --wide prog
   xxd -p prog | hunkinfo show --hex";
 
 const AFTER_VALIDATE: &str = "\
@@ -51,6 +59,8 @@ const AFTER_RELOCATE: &str = "\
 The memory of all hunks is allocated at once, when the header has been read: a
 small file may take the whole budget.
 
+Of standard input no byte after the file is read, but with --hex or --wide all.
+
 Example, at the address 0x00021000 and in at most 65536 bytes:
   hunkinfo relocate --base 00021000 --budget 65536 prog";
 
@@ -59,6 +69,7 @@ OUT is overwritten, and left incomplete if writing fails. It must not be the
 file that standard output goes to. To replace a file, write a new one, and
 rename it if that succeeded:
   hunkinfo rewrite IN IN.new && mv IN.new IN
+With --wide the plain spelling is written.
 
 Example, without names, symbols and debug data:
   hunkinfo rewrite --strip prog prog.stripped";
@@ -105,6 +116,13 @@ fn hex_flag<'a>(alloc: Global) -> Arg<'a>
     flag(alloc, "hex", help)
 }
 
+fn wide_flag<'a>(alloc: Global) -> Arg<'a>
+    ensures { spec.IsArgument (spec.flag (codes "wide")) result }
+{
+    let help = "Read short relocations, and hunks whose END is left out, as their plain spelling";
+    flag(alloc, "wide", help)
+}
+
 fn file_positional<'a>(alloc: Global) -> Arg<'a>
     ensures { spec.IsArgument (new_rule (codes "FILE")) result }
 {
@@ -119,7 +137,21 @@ fn command<'a>(alloc: Global, name: &'a str, about: &'a str, after: &'a str) -> 
     Command::new(alloc, name).about(about).after_help(after)
 }
 
-/// A command that has no options of its own: NAME [--hex] [FILE].
+/// A command whose input may be text, or in a wide spelling: NAME [--hex] [--wide].
+fn reading_command<'a>(
+    alloc: Global,
+    name: &'a str,
+    about: &'a str,
+    after: &'a str,
+) -> Result<Command<'a>, AllocError>
+    ensures { IfOk result (spec.IsCommand (spec.reading_command name.entry.now)) }
+{
+    command(alloc, name, about, after)
+        .arg(hex_flag(alloc))?
+        .arg(wide_flag(alloc))
+}
+
+/// A command that has no options of its own: NAME [--hex] [--wide] [FILE].
 fn plain_command<'a>(
     alloc: Global,
     name: &'a str,
@@ -128,9 +160,7 @@ fn plain_command<'a>(
 ) -> Result<Command<'a>, AllocError>
     ensures { IfOk result (spec.IsCommand (spec.plain_command name.entry.now)) }
 {
-    command(alloc, name, about, after)
-        .arg(hex_flag(alloc))?
-        .arg(file_positional(alloc))
+    reading_command(alloc, name, about, after)?.arg(file_positional(alloc))
 }
 
 fn relocate<'a>(alloc: Global) -> Result<Command<'a>, AllocError>
@@ -139,21 +169,28 @@ fn relocate<'a>(alloc: Global) -> Result<Command<'a>, AllocError>
     let about = "Loads a load file at an address, and prints the bytes of its hunks";
     let base = "The address of the first hunk: exactly eight hexadecimal digits";
     let budget = "The most bytes that the hunks may have together, in decimal [default: 16777216]";
-    command(alloc, "relocate", about, AFTER_RELOCATE)
-        .arg(hex_flag(alloc))?
+    reading_command(alloc, "relocate", about, AFTER_RELOCATE)?
         .arg(mandatory(option(alloc, "base", "HEX", base)))?
         .arg(option(alloc, "budget", "N", budget))?
         .arg(file_positional(alloc))
 }
 
-fn rewrite<'a>(alloc: Global) -> Result<Command<'a>, AllocError>
-    ensures { IfOk result (spec.IsCommand spec.rewrite_command) }
+/// `rewrite`, without its files yet.
+fn writing_command<'a>(alloc: Global) -> Result<Command<'a>, AllocError>
+    ensures { IfOk result (spec.IsCommand spec.writing_command) }
 {
     let about = "Reads a load file or an object file, and writes it again";
     let strip = "Leave out names, symbols, debug data and advisory blocks";
-    let output = "The file to write; it is not touched where IN is refused";
     command(alloc, "rewrite", about, AFTER_REWRITE)
         .arg(flag(alloc, "strip", strip))?
+        .arg(wide_flag(alloc))
+}
+
+fn rewrite<'a>(alloc: Global) -> Result<Command<'a>, AllocError>
+    ensures { IfOk result (spec.IsCommand spec.rewrite_command) }
+{
+    let output = "The file to write; it is not touched where IN is refused";
+    writing_command(alloc)?
         .arg(mandatory(positional(alloc, "IN", "The file to read")))?
         .arg(mandatory(positional(alloc, "OUT", output)))
 }
