@@ -1,10 +1,10 @@
 //! A source read to its end.
-ghost use Rattle.std.specs.Prelude.{◌≡◌, ◌++◌, [], ℕ, List, OnOk};
+ghost use Rattle.std.specs.Prelude.{◌≡◌, ◌++◌, [], ℕ, List, IfOk, OnOk};
 ghost use Rattle.hunk_commands.specs.Inputs.{ReadsAtMost, ReadsWhole};
 
 use crate::fault::RunFault;
 use hunk_words::{Fault, Reason, Source};
-use std::alloc::AllocError;
+use std::alloc::{AllocError, Global};
 
 /// How many bytes are asked for at a time: 32 KiB.
 const PIECE: usize = 32_768;
@@ -79,4 +79,26 @@ pub(crate) fn read_all<S: Source, T: Taker>(
         place: most,
         reason: Reason::FileLimit,
     }))
+}
+
+/// All the bytes that the source has left, which are fewer than `most`.
+///
+/// # Errors
+///
+/// The places are in bytes from where the source stood before the call.
+///
+/// - `Refused` with `FileLimit`, at `most`, where that many bytes were given, before an end is
+///   looked for.
+/// - `Read` where the source failed, at the number of bytes given.
+/// - `Memory` where memory is refused.
+///
+/// What was read of the source stays read, at most `most` bytes.
+pub fn read_input<S: Source>(alloc: Global, source: &mut S, most: u64) -> Result<Vec<u8>, RunFault>
+    ensures reads { IfOk result
+        (λ bytes. ReadsWhole (S.supply source.old) (S.supply source.new) most bytes.items) }
+    ensures reads_at_most { ReadsAtMost (S.supply source.old) (S.supply source.new) most result }
+{
+    let mut input = Vec::new(alloc);
+    read_all(source, most, &mut input)?;
+    Ok(input)
 }

@@ -13,6 +13,7 @@ mod validating;
 
 pub use crate::fault::RunFault;
 pub use crate::hex_text::{read_hex, unhex};
+pub use crate::input::read_input;
 pub use crate::relocating::relocate;
 pub use crate::rewriting::{Rewritten, rewrite, rewrite_bytes};
 pub use crate::showing::{show, show_bytes};
