@@ -37,6 +37,17 @@ impl FileName {
         })
     }
 
+    /// The same name once more.
+    ///
+    /// # Errors
+    ///
+    /// Where memory is refused.
+    pub fn try_clone(&self, alloc: Global) -> Result<FileName, AllocError>
+        ensures { IfOk result (λ name. name ≡ self.now) }
+    {
+        FileName::new(alloc, self.as_str())
+    }
+
     /// The name's text.
     pub fn as_str(&self) -> &str
         ensures { result.now ≡ self.now }
