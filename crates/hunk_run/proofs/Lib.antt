@@ -1,3 +1,4 @@
 mod Noting
+mod Plainly
 mod Stopping
 mod Telling

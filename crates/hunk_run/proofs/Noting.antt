@@ -17,7 +17,7 @@ use Rattle.hunk_commands.specs.Output.{Takes}
 use Rattle.hunk_run.specs.declared.note.Ended.{Ended}
 use Rattle.hunk_run.specs.declared.note.Note.{Note}
 use Rattle.hunk_run.specs.declared.note.Note.TheVariants.{Fault, LeftOut, Line, NotText, Output}
-use Rattle.hunk_run.specs.Notes.{EndsByFault, EndsListing, EndsOrFails, EndsRewriting, NamesFiles, Notes, fault_ended, input_of, output_of, left_out_note, refusal_ended, refusal_text, rewritten_ended}
+use Rattle.hunk_run.specs.Notes.{EndsByFault, EndsListing, EndsOrFails, EndsRewriting, NamesFiles, Notes, fault_ended, input_of, is_wide, output_of, left_out_note, refusal_ended, refusal_text, rewritten_ended}
 use Rattle.hunk_run.specs.Orders.{RewritesInput, RewritesTo, SaysLeftOut}
 use Rattle.hunk_run.specs.Stores.{MadeFile}
 use Rattle.hunk_run.specs.Runs.{PrintsNoHelp}
@@ -30,7 +30,7 @@ tells_noted outlet old new status None (inl done) = inl done
 tells_noted outlet old new status None (inr found) = inr (inr (inr (inr found)))
 tells_noted outlet old new status (Some (Line why)) notes = inr (inl notes)
 tells_noted outlet old new status (Some NotText) notes = inr (inl notes)
-tells_noted outlet old new status (Some (Fault fault name cause untouched)) (is, takes) = inr (inr (inl (fault, is, takes)))
+tells_noted outlet old new status (Some (Fault fault name cause untouched wide)) (is, takes) = inr (inr (inl (fault, is, takes)))
 tells_noted outlet old new status (Some (Output cause)) notes = inr (inr (inr (inl notes)))
 tells_noted outlet old new status (Some (LeftOut name stripped rest)) notes = inl notes
 
@@ -49,7 +49,7 @@ bound_noted outlet old new status None (inl done) = omega (arith, done)
 bound_noted outlet old new status None (inr (bytes, text, is, found, takes)) = omega (arith, is)
 bound_noted outlet old new status (Some (Line why)) (is, takes) = omega (arith, is)
 bound_noted outlet old new status (Some NotText) (is, takes) = omega (arith, is)
-bound_noted outlet old new status (Some (Fault fault name cause untouched)) (is, takes) = omega (arith, (fault_status fault).1, is)
+bound_noted outlet old new status (Some (Fault fault name cause untouched wide)) (is, takes) = omega (arith, (fault_status fault).1, is)
 bound_noted outlet old new status (Some (Output cause)) (is, broken) = omega (arith, is)
 bound_noted outlet old new status (Some (LeftOut name stripped rest)) is = omega (arith, is)
 
@@ -72,27 +72,27 @@ module _ {W : Type 0} (outlet : W → Outlet) (old new : Writing W) where
   prints_ended text ended result (inl (is, takes)) = inl (ap (λ (e : Ended). e.status) is, takes)
   prints_ended text ended result (inr (is, broken)) = inr (ap (λ (e : Ended). e.status) is, broken)
 
-  pub notes_fault : (fault : RunFault) (name : Option (List ℕ)) (cause : Option Error) (untouched : Option (List ℕ)) (result : Ended) →
-      EndsByFault outlet old new fault name cause untouched result → Notes outlet old new result.status result.note
-  notes_fault fault name cause untouched result ends = notes_ended _ (fault_ended fault name cause untouched) result ends (λ takes. (refl, takes))
+  pub notes_fault : (fault : RunFault) (name : Option (List ℕ)) (cause : Option Error) (untouched : Option (List ℕ)) (wide : Bool) (result : Ended) →
+      EndsByFault outlet old new fault name cause untouched wide result → Notes outlet old new result.status result.note
+  notes_fault fault name cause untouched wide result ends = notes_ended _ (fault_ended fault name cause untouched wide) result ends (λ takes. (refl, takes))
 
   -- a fault that is none of the output
-  pub ends_listing : (fault : RunFault) (name : Option (List ℕ)) (cause : Option Error) (result : Ended) →
-      ((written : ℕ) → fault ≡ Write written → ⊥) → EndsByFault outlet old new fault name cause None result → EndsListing outlet old new (Err fault) name cause result
-  ends_listing Memory name cause result other ends = ends
-  ends_listing HexText name cause result other ends = ends
-  ends_listing (Read place) name cause result other ends = ends
-  ends_listing (Refused refusal) name cause result other ends = ends
-  ends_listing (RefusedIn refusal) name cause result other ends = ends
-  ends_listing (Write written) name cause result other ends = absurd (other written refl)
+  pub ends_listing : (fault : RunFault) (name : Option (List ℕ)) (cause : Option Error) (wide : Bool) (result : Ended) →
+      ((written : ℕ) → fault ≡ Write written → ⊥) → EndsByFault outlet old new fault name cause None wide result → EndsListing outlet old new (Err fault) name cause wide result
+  ends_listing Memory name cause wide result other ends = ends
+  ends_listing HexText name cause wide result other ends = ends
+  ends_listing (Read place) name cause wide result other ends = ends
+  ends_listing (Refused refusal) name cause wide result other ends = ends
+  ends_listing (RefusedIn refusal) name cause wide result other ends = ends
+  ends_listing (Write written) name cause wide result other ends = absurd (other written refl)
 
   some_ended : (text : List ℕ) (ended result : Ended) → EndsOrFails outlet old new text ended result → 0 < ended.status → result.status ≡ 0 → ⊥
   some_ended text ended result (inl (is, takes)) some none = let same = ap (λ (e : Ended). e.status) is in omega (arith, some, same, none)
   some_ended text ended result (inr (is, broken)) some none = let same = ap (λ (e : Ended). e.status) is in omega (arith, same, none)
 
-  pub not_done : (fault : RunFault) (name : Option (List ℕ)) (cause : Option Error) (untouched : Option (List ℕ)) (result : Ended) →
-      EndsByFault outlet old new fault name cause untouched result → result.status ≡ 0 → ⊥
-  not_done fault name cause untouched result ends = some_ended _ (fault_ended fault name cause untouched) result ends (fault_status fault).0
+  pub not_done : (fault : RunFault) (name : Option (List ℕ)) (cause : Option Error) (untouched : Option (List ℕ)) (wide : Bool) (result : Ended) →
+      EndsByFault outlet old new fault name cause untouched wide result → result.status ≡ 0 → ⊥
+  not_done fault name cause untouched wide result ends = some_ended _ (fault_ended fault name cause untouched wide) result ends (fault_status fault).0
 
   -- words that are no order
   pub notes_refusal : (fault : OrderFault) (result : Ended) → EndsOrFails outlet old new (refusal_text fault) (refusal_ended fault) result →
@@ -129,7 +129,7 @@ module _ {W : Type 0} (outlet : W → Outlet) (old new : Writing W) where
 
   pub noted_memory : (Holds : Option Note → Type 0) (wanted : Option Order) (order : Order) (fault : OrderFault) (result : Ended) → RefusesOrder wanted fault →
       wanted ≡ Some order → EndsOrFails outlet old new (refusal_text fault) (refusal_ended fault) result →
-      Holds (Some (Fault Memory None None None)) → Holds (Some (Output None)) → Holds result.note
+      Holds (Some (Fault Memory None None None false)) → Holds (Some (Output None)) → Holds result.note
   noted_memory Holds wanted order fault result refuses some ends memory failed =
       noted_ended Holds _ (refusal_ended words.Memory) result
       (subst (λ (f : OrderFault). EndsOrFails outlet old new (refusal_text f) (refusal_ended f) result) (memory_where wanted order fault refuses some) ends) memory failed
@@ -151,57 +151,57 @@ module _ {W : Type 0} (outlet : W → Outlet) (old new : Writing W) where
   prints_no_help wanted fault result (inr (is, none)) ends = inl (prints_line fault result is ends)
 
   -- a fault of a file of this name
-  pub names_fault : (order : Order) (fault : RunFault) (name : Option (List ℕ)) (cause : Option Error) (untouched : Option (List ℕ)) (result : Ended) →
-      EndsByFault outlet old new fault name cause untouched result → NamesFiles order (Some (Fault fault name cause untouched)) → NamesFiles order result.note
-  names_fault order fault name cause untouched result ends names = noted_ended (NamesFiles order) _ (fault_ended fault name cause untouched) result ends names tt
+  pub names_fault : (order : Order) (fault : RunFault) (name : Option (List ℕ)) (cause : Option Error) (untouched : Option (List ℕ)) (wide : Bool) (result : Ended) →
+      EndsByFault outlet old new fault name cause untouched wide result → NamesFiles order (Some (Fault fault name cause untouched wide)) → NamesFiles order result.note
+  names_fault order fault name cause untouched wide result ends names = noted_ended (NamesFiles order) _ (fault_ended fault name cause untouched wide) result ends names tt
 
   -- a run that was to rewrite a file: whose name is said, and which file was not touched
-  pub rewriting_fault : (strip : Bool) (fault : RunFault) (input output : List ℕ) (cause : Option Error) (result : Ended) →
-      EndsRewriting outlet old new (Err fault) input output cause result →
-      (name : Option (List ℕ)) × (untouched : Option (List ℕ)) × EndsByFault outlet old new fault name cause untouched result
-      × NamesFiles (orders.Rewrite strip input output) (Some (Fault fault name cause untouched))
-  rewriting_fault strip (Write written) input output cause result ends = (Some output, None, ends, (refl, refl))
-  rewriting_fault strip Memory input output cause result ends = (Some input, Some output, ends, refl)
-  rewriting_fault strip HexText input output cause result ends = (Some input, Some output, ends, (refl, refl))
-  rewriting_fault strip (Read place) input output cause result ends = (Some input, Some output, ends, (refl, refl))
-  rewriting_fault strip (Refused refusal) input output cause result ends = (Some input, Some output, ends, (refl, refl))
-  rewriting_fault strip (RefusedIn refusal) input output cause result ends = (Some input, Some output, ends, (refl, refl))
+  pub rewriting_fault : (strip wide : Bool) (fault : RunFault) (input output : List ℕ) (cause : Option Error) (result : Ended) →
+      EndsRewriting outlet old new (Err fault) input output cause wide result →
+      (name : Option (List ℕ)) × (untouched : Option (List ℕ)) × EndsByFault outlet old new fault name cause untouched wide result
+      × NamesFiles (orders.Rewrite strip wide input output) (Some (Fault fault name cause untouched wide))
+  rewriting_fault strip wide (Write written) input output cause result ends = (Some output, None, ends, (refl, refl, refl))
+  rewriting_fault strip wide Memory input output cause result ends = (Some input, Some output, ends, refl)
+  rewriting_fault strip wide HexText input output cause result ends = (Some input, Some output, ends, (refl, refl, refl))
+  rewriting_fault strip wide (Read place) input output cause result ends = (Some input, Some output, ends, (refl, refl, refl))
+  rewriting_fault strip wide (Refused refusal) input output cause result ends = (Some input, Some output, ends, (refl, refl, refl))
+  rewriting_fault strip wide (RefusedIn refusal) input output cause result ends = (Some input, Some output, ends, (refl, refl, refl))
 
-  pub names_rewriting : (strip : Bool) (answer : Result Rewritten RunFault) (input output : List ℕ) (cause : Option Error) (result : Ended) →
-      EndsRewriting outlet old new answer input output cause result → NamesFiles (orders.Rewrite strip input output) result.note
-  names_rewriting strip (Ok done) input output cause result ends =
-      noted_ended (NamesFiles (orders.Rewrite strip input output)) _ (rewritten_ended done input) result ends
-      (of_left_out (NamesFiles (orders.Rewrite strip input output)) (done.read - done.written) done.rest input tt (λ s r. refl)) tt
-  names_rewriting strip (Err fault) input output cause result ends =
-      let (name, untouched, by, names) = rewriting_fault strip fault input output cause result ends in
-      names_fault (orders.Rewrite strip input output) fault name cause untouched result by names
+  pub names_rewriting : (strip wide : Bool) (answer : Result Rewritten RunFault) (input output : List ℕ) (cause : Option Error) (result : Ended) →
+      EndsRewriting outlet old new answer input output cause wide result → NamesFiles (orders.Rewrite strip wide input output) result.note
+  names_rewriting strip wide (Ok done) input output cause result ends =
+      noted_ended (NamesFiles (orders.Rewrite strip wide input output)) _ (rewritten_ended done input) result ends
+      (of_left_out (NamesFiles (orders.Rewrite strip wide input output)) (done.read - done.written) done.rest input tt (λ s r. refl)) tt
+  names_rewriting strip wide (Err fault) input output cause result ends =
+      let (name, untouched, by, names) = rewriting_fault strip wide fault input output cause result ends in
+      names_fault (orders.Rewrite strip wide input output) fault name cause untouched wide result by names
 
-  pub notes_rewriting : (answer : Result Rewritten RunFault) (input output : List ℕ) (cause : Option Error) (result : Ended) →
-      EndsRewriting outlet old new answer input output cause result → Notes outlet old new result.status result.note
-  notes_rewriting (Ok done) input output cause result ends =
+  pub notes_rewriting : (wide : Bool) (answer : Result Rewritten RunFault) (input output : List ℕ) (cause : Option Error) (result : Ended) →
+      EndsRewriting outlet old new answer input output cause wide result → Notes outlet old new result.status result.note
+  notes_rewriting wide (Ok done) input output cause result ends =
       notes_ended _ (rewritten_ended done input) result ends (λ takes. of_left_out (Notes outlet old new 0) (done.read - done.written) done.rest input (inl refl) (λ s r. refl))
-  notes_rewriting (Err fault) input output cause result ends =
-      let (name, untouched, by, names) = rewriting_fault false fault input output cause result ends in notes_fault fault name cause untouched result by
+  notes_rewriting wide (Err fault) input output cause result ends =
+      let (name, untouched, by, names) = rewriting_fault false wide fault input output cause result ends in notes_fault fault name cause untouched wide result by
 
   -- where the status is 0 the file is rewritten, and what was left out is said
-  pub says_left_out : (first made : Option MadeFile) (most : ℕ) (known : Option (List ℕ)) (strip : Bool) (answer : Result Rewritten RunFault) (input output : List ℕ)
-      (cause : Option Error) (result : Ended) → IfOk answer (λ done. RewritesInput known (RewritesTo first made output strip done) most) →
-      EndsRewriting outlet old new answer input output cause result → result.status ≡ 0 →
-      SaysLeftOut outlet old new first made most known (orders.Rewrite strip input output) result.note
-  says_left_out first made most known strip (Ok done) input output cause result rewrites (inl (is, takes)) none =
+  pub says_left_out : (first made : Option MadeFile) (most : ℕ) (known : Option (List ℕ)) (strip wide : Bool) (answer : Result Rewritten RunFault) (input output : List ℕ)
+      (cause : Option Error) (result : Ended) → IfOk answer (λ done. RewritesInput known (RewritesTo first made output strip wide done) most) →
+      EndsRewriting outlet old new answer input output cause wide result → result.status ≡ 0 →
+      SaysLeftOut outlet old new first made most known (orders.Rewrite strip wide input output) result.note
+  says_left_out first made most known strip wide (Ok done) input output cause result rewrites (inl (is, takes)) none =
       (record { done = done; rewrites = rewrites; takes = takes }, ap (λ (e : Ended). e.note) is)
-  says_left_out first made most known strip (Ok done) input output cause result rewrites (inr (is, broken)) none =
+  says_left_out first made most known strip wide (Ok done) input output cause result rewrites (inr (is, broken)) none =
       absurd (let same = ap (λ (e : Ended). e.status) is in omega (arith, same, none))
-  says_left_out first made most known strip (Err fault) input output cause result rewrites ends none =
-      let (name, untouched, by, names) = rewriting_fault strip fault input output cause result ends in absurd (not_done fault name cause untouched result by none)
+  says_left_out first made most known strip wide (Err fault) input output cause result rewrites ends none =
+      let (name, untouched, by, names) = rewriting_fault strip wide fault input output cause result ends in absurd (not_done fault name cause untouched wide result by none)
 
 -- a run that was to list an input; the output is mid after what was listed
-module _ {W : Type 0} (outlet : W → Outlet) (old mid new : Writing W) (name : Option (List ℕ)) (cause : Option Error) (result : Ended) where
-  notes_since : (fault : RunFault) → mid ≡ old → EndsByFault outlet mid new fault name cause None result → Notes outlet old new result.status result.note
+module _ {W : Type 0} (outlet : W → Outlet) (old mid new : Writing W) (name : Option (List ℕ)) (cause : Option Error) (wide : Bool) (result : Ended) where
+  notes_since : (fault : RunFault) → mid ≡ old → EndsByFault outlet mid new fault name cause None wide result → Notes outlet old new result.status result.note
   notes_since fault same ends =
-      subst (λ (w : Writing W). Notes outlet w new result.status result.note) same (notes_fault outlet mid new fault name cause None result ends)
+      subst (λ (w : Writing W). Notes outlet w new result.status result.note) same (notes_fault outlet mid new fault name cause None wide result ends)
 
-  pub notes_listing : (answer : Result ℕ RunFault) → TellsOutcome outlet old mid answer → EndsListing outlet mid new answer name cause result →
+  pub notes_listing : (answer : Result ℕ RunFault) → TellsOutcome outlet old mid answer → EndsListing outlet mid new answer name cause wide result →
       Notes outlet old new result.status result.note
   notes_listing (Ok status) outcome (is, same) =
       subst (λ (e : Ended). Notes outlet old new e.status e.note) (sym is)
@@ -216,29 +216,29 @@ module _ {W : Type 0} (outlet : W → Outlet) (old mid new : Writing W) (name : 
   notes_listing (Err (RefusedIn refusal)) outcome ends = notes_since (RefusedIn refusal) (outcome.fails.untouched (λ is. is)) ends
 
   -- where the status is 0 no more was printed, and nothing is said
-  pub listing_done : (answer : Result ℕ RunFault) → EndsListing outlet mid new answer name cause result → result.status ≡ 0 →
+  pub listing_done : (answer : Result ℕ RunFault) → EndsListing outlet mid new answer name cause wide result → result.status ≡ 0 →
       (answer ≡ Ok 0) × (new ≡ mid) × (result.note ≡ None)
   listing_done (Ok status) (is, same) none = (ap Ok (sym (ap (λ (e : Ended). e.status) is) ∙ none), same, ap (λ (e : Ended). e.note) is)
   listing_done (Err (Write written)) (is, same) none = absurd (let status = ap (λ (e : Ended). e.status) is in omega (arith, status, none))
-  listing_done (Err Memory) ends none = absurd (not_done outlet mid new Memory name cause None result ends none)
-  listing_done (Err HexText) ends none = absurd (not_done outlet mid new HexText name cause None result ends none)
-  listing_done (Err (Read place)) ends none = absurd (not_done outlet mid new (Read place) name cause None result ends none)
-  listing_done (Err (Refused refusal)) ends none = absurd (not_done outlet mid new (Refused refusal) name cause None result ends none)
-  listing_done (Err (RefusedIn refusal)) ends none = absurd (not_done outlet mid new (RefusedIn refusal) name cause None result ends none)
+  listing_done (Err Memory) ends none = absurd (not_done outlet mid new Memory name cause None wide result ends none)
+  listing_done (Err HexText) ends none = absurd (not_done outlet mid new HexText name cause None wide result ends none)
+  listing_done (Err (Read place)) ends none = absurd (not_done outlet mid new (Read place) name cause None wide result ends none)
+  listing_done (Err (Refused refusal)) ends none = absurd (not_done outlet mid new (Refused refusal) name cause None wide result ends none)
+  listing_done (Err (RefusedIn refusal)) ends none = absurd (not_done outlet mid new (RefusedIn refusal) name cause None wide result ends none)
 
   pub done_where : (Done : Writing W → Type 0) (answer : Result ℕ RunFault) → IfOk answer (λ status. status ≡ 0 → Done mid) →
-      EndsListing outlet mid new answer name cause result → result.status ≡ 0 → Done new
+      EndsListing outlet mid new answer name cause wide result → result.status ≡ 0 → Done new
   done_where Done answer is ends none =
       let (done, same, quiet) = listing_done answer ends none in
       subst Done (sym same) (subst (λ (a : Result ℕ RunFault). IfOk a (λ status. status ≡ 0 → Done mid)) done is refl)
 
   -- a fault is one of the input
-  pub names_listing : (order : Order) (answer : Result ℕ RunFault) → EndsListing outlet mid new answer name cause result → name ≡ input_of order →
-      output_of order ≡ None → NamesFiles order result.note
-  names_listing order (Ok status) (is, same) names none = subst (λ (e : Ended). NamesFiles order e.note) (sym is) tt
-  names_listing order (Err (Write written)) (is, same) names none = subst (λ (e : Ended). NamesFiles order e.note) (sym is) tt
-  names_listing order (Err Memory) ends names none = names_fault outlet mid new order Memory name cause None result ends tt
-  names_listing order (Err HexText) ends names none = names_fault outlet mid new order HexText name cause None result ends (names, sym none)
-  names_listing order (Err (Read place)) ends names none = names_fault outlet mid new order (Read place) name cause None result ends (names, sym none)
-  names_listing order (Err (Refused refusal)) ends names none = names_fault outlet mid new order (Refused refusal) name cause None result ends (names, sym none)
-  names_listing order (Err (RefusedIn refusal)) ends names none = names_fault outlet mid new order (RefusedIn refusal) name cause None result ends (names, sym none)
+  pub names_listing : (order : Order) (answer : Result ℕ RunFault) → EndsListing outlet mid new answer name cause wide result → name ≡ input_of order →
+      output_of order ≡ None → wide ≡ is_wide order → NamesFiles order result.note
+  names_listing order (Ok status) (is, same) names none flag = subst (λ (e : Ended). NamesFiles order e.note) (sym is) tt
+  names_listing order (Err (Write written)) (is, same) names none flag = subst (λ (e : Ended). NamesFiles order e.note) (sym is) tt
+  names_listing order (Err Memory) ends names none flag = names_fault outlet mid new order Memory name cause None wide result ends tt
+  names_listing order (Err HexText) ends names none flag = names_fault outlet mid new order HexText name cause None wide result ends (names, sym none, flag)
+  names_listing order (Err (Read place)) ends names none flag = names_fault outlet mid new order (Read place) name cause None wide result ends (names, sym none, flag)
+  names_listing order (Err (Refused refusal)) ends names none flag = names_fault outlet mid new order (Refused refusal) name cause None wide result ends (names, sym none, flag)
+  names_listing order (Err (RefusedIn refusal)) ends names none flag = names_fault outlet mid new order (RefusedIn refusal) name cause None wide result ends (names, sym none, flag)

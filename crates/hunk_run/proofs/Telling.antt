@@ -11,6 +11,7 @@ use Rattle.hunk_commands.specs.Engine.{PutsAll, PutsFirst}
 use Rattle.hunk_commands.specs.Output.{Takes}
 use Rattle.hunk_run.specs.OutFile.{OutFile, file_outlet}
 use Rattle.hunk_run.specs.Orders.{RewritesTo}
+use Rattle.hunk_run.specs.Wide.{meant}
 use Rattle.hunk_run.specs.Stores.{MadeFile, MakesAtMost, MakesFirst, MakesWhole}
 use Rattle.hunk_commands.specs.Rewritten.{IsRewritten}
 use Rattle.hunk_commands.specs.declared.rewriting.Rewritten.{Rewritten}
@@ -22,7 +23,7 @@ use Rattle.hunk_commands.specs.Relocating.{IsListingOf, Relocates}
 use Rattle.hunk_run.specs.Runs.{IsListed, ListsSource, StopsReading}
 
 -- a text that was put whole
-takes_whole : {W : Type 0} (outlet : W → Outlet) (old new : Writing W) (Is : List ℕ → Type 0) (all : PutsAll outlet Is old new) → Takes outlet old new all.0.text
+pub takes_whole : {W : Type 0} (outlet : W → Outlet) (old new : Writing W) (Is : List ℕ → Type 0) (all : PutsAll outlet Is old new) → Takes outlet old new all.0.text
 takes_whole outlet old new Is all = subst (λ (xs : List ℕ). Takes outlet old new xs) (take_all all.0.puts.count all.0.text (omega (arith, all.0.puts.rose, all.1))) all.0.puts.gone
 
 -- an input that was read to its end
@@ -123,13 +124,13 @@ module _ (old new : Writing OutFile) (kept : OutFile) (first outset made : Optio
   }
 
   -- it has taken all of what a rewriting writes
-  pub rewrites_to : (strip : Bool) (done : Rewritten) (input : List ℕ) → done.written ≡ written → MakesWhole outset kept.made name kept.taken →
-      PutsAll file_outlet (IsRewritten strip done input) old new → RewritesTo first made output strip done input
-  rewrites_to strip done input count makes (puts, all) =
+  pub rewrites_to : (strip wide : Bool) (done : Rewritten) (input : List ℕ) → done.written ≡ written → MakesWhole outset kept.made name kept.taken →
+      PutsAll file_outlet (IsRewritten strip done (meant wide input)) old new → RewritesTo first made output strip wide done input
+  rewrites_to strip wide done input count makes (puts, all) =
       let whole : puts.puts.count ≡ length puts.text = omega (arith, puts.puts.rose, all) in
       record {
         text = puts.text;
         is_rewritten = puts.is_text;
         told = count ∙ told ∙ ap saturated (let bytes : new.written ≡ length puts.text = omega (arith, all, unwritten) in bytes);
-        makes = of_store MakesWhole puts.text (taken_of (IsRewritten strip done input) puts ∙ take_all puts.puts.count puts.text (omega (arith, whole))) makes;
+        makes = of_store MakesWhole puts.text (taken_of (IsRewritten strip done (meant wide input)) puts ∙ take_all puts.puts.count puts.text (omega (arith, whole))) makes;
       }

@@ -1,3 +1,4 @@
+pub mod Asked
 pub mod Hosts
 pub mod Inputs
 pub mod Notes
@@ -8,3 +9,4 @@ pub mod Runs
 pub mod Settling
 pub mod Status
 pub mod Stores
+pub mod Wide

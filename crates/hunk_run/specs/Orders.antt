@@ -3,36 +3,39 @@ use Rattle.std.specs.Prelude.{◌≡◌, ◌⊎◌, ◌↔◌, ⊤, ℕ, Bool, f
 use Rattle.hunk_words.specs.Carriers.{Outlet, Writing, saturated}
 use Rattle.hunk_command_line.specs.declared.asked.Order.{Order}
 use Rattle.hunk_command_line.specs.declared.asked.Order.TheVariants as orders
-use Rattle.hunk_commands.specs.Engine.{IsTextOfSome, ReadsNoFile}
-use Rattle.hunk_commands.specs.Inputs.{HasFile, ReadsInput}
+use Rattle.hunk_commands.specs.Engine.{IsTextOfSome}
+use Rattle.hunk_commands.specs.Inputs.{ReadsInput}
 use Rattle.hunk_commands.specs.Output.{Takes}
 use Rattle.hunk_commands.specs.Rewritten.{IsRewritten}
 use Rattle.hunk_commands.specs.declared.fault.RunFault.{RunFault}
 use Rattle.hunk_commands.specs.declared.fault.RunFault.TheVariants.{Memory, Write}
 use Rattle.hunk_commands.specs.declared.rewriting.Rewritten.{Rewritten}
-use Rattle.hunk_run.specs.Inputs.{HasInput, unread}
-use Rattle.hunk_run.specs.Notes.{NamesFiles, left_out_note, output_of}
-use Rattle.hunk_run.specs.Refusals.{FromInput, IsRead, StopsInput, StopsSource}
-use Rattle.hunk_run.specs.Runs.{ListsInput, rewritten_lines}
+use Rattle.hunk_run.specs.Asked.{HasAsked, HasRewriting, ListsInput, StopsAsked, StopsRewriting}
+use Rattle.hunk_run.specs.Inputs.{unread}
+use Rattle.hunk_run.specs.Notes.{NamesFiles, left_out_note, output_of, spelled_of}
+use Rattle.hunk_run.specs.Refusals.{FromInput, IsRead, StopsInput}
+use Rattle.hunk_run.specs.Runs.{rewritten_lines}
 use Rattle.hunk_run.specs.Stores.{MadeFile, MakesFile, MakesFirst, MakesWhole}
+use Rattle.hunk_run.specs.Wide.{IsUnread, ReadsBytes, meant}
 use Rattle.hunk_run.specs.declared.listing.Listing.TheVariants as listings
 use Rattle.hunk_run.specs.declared.note.Ended.{Ended}
 use Rattle.hunk_run.specs.declared.note.Note.{Note}
-use Rattle.hunk_run.specs.declared.note.Note.TheVariants.{Fault}
+use Rattle.hunk_run.specs.declared.spelled.Spelled.{Spelled}
+use Rattle.hunk_run.specs.declared.note.Note.TheVariants.{Fault, Output}
 
 -- ---- a rewriting
 
--- OUT has taken all that is written of the input, and this tells how many bytes these are.
-pub record RewritesTo (old new : Option MadeFile) (output : List ℕ) (strip : Bool) (done : Rewritten) (input : List ℕ) : Type 0 where
+-- OUT has taken all that is written of the input, or of its plain spelling, and this tells how many bytes these are.
+pub record RewritesTo (old new : Option MadeFile) (output : List ℕ) (strip wide : Bool) (done : Rewritten) (input : List ℕ) : Type 0 where
   pub text : List ℕ
-  pub is_rewritten : IsRewritten strip done input text
+  pub is_rewritten : IsRewritten strip done (meant wide input) text
   pub told : done.written ≡ saturated (length text)
   pub makes : MakesWhole old new output text
 
 -- OUT has taken as many of the first bytes of it.
-abbrev pub RewritesFirst : Option MadeFile → Option MadeFile → List ℕ → Bool → ℕ → List ℕ → Type 0
-RewritesFirst old new output strip written input =
-    MakesFirst (IsTextOfSome (λ (done : Rewritten). IsRewritten strip done input)) old new output written
+abbrev pub RewritesFirst : Option MadeFile → Option MadeFile → List ℕ → Bool → Bool → ℕ → List ℕ → Type 0
+RewritesFirst old new output strip wide written input =
+    MakesFirst (IsTextOfSome (λ (done : Rewritten). IsRewritten strip done (meant wide input))) old new output written
 
 -- That holds of an input of fewer than `most` bytes, which are these where they are known.
 abbrev pub RewritesInput : Option (List ℕ) → (List ℕ → Type 0) → ℕ → Type 0
@@ -42,41 +45,41 @@ RewritesInput known Holds most = FromInput known (λ before after. ReadsInput Ho
 
 -- The output has taken what is printed of a rewriting, and nothing else.
 pub record Rewrites {W : Type 0} (outlet : W → Outlet) (old new : Writing W) (first made : Option MadeFile) (most : ℕ) (known : Option (List ℕ))
-    (output : List ℕ) (strip : Bool) : Type 0 where
+    (output : List ℕ) (strip wide : Bool) : Type 0 where
   pub done : Rewritten
-  pub rewrites : RewritesInput known (RewritesTo first made output strip done) most
+  pub rewrites : RewritesInput known (RewritesTo first made output strip wide done) most
   pub takes : Takes outlet old new (rewritten_lines done)
 
 -- what it asks for is done
 abbrev pub IsOrderDone : {W : Type 0} → (W → Outlet) → Writing W → Writing W → Option MadeFile → Option MadeFile → ℕ → Option (List ℕ) → Order → Type 0
-IsOrderDone outlet old new first made most known (orders.Show hex file) = ListsInput outlet hex listings.Show known old new
-IsOrderDone outlet old new first made most known (orders.Validate hex file) = ListsInput outlet hex listings.Validate known old new
-IsOrderDone outlet old new first made most known (orders.Relocate hex base budget file) = ListsInput outlet hex (listings.Relocate base budget) known old new
-IsOrderDone outlet old new first made most known (orders.Rewrite strip input output) = Rewrites outlet old new first made most known output strip
+IsOrderDone outlet old new first made most known (orders.Show hex wide file) = ListsInput outlet hex wide listings.Show known old new
+IsOrderDone outlet old new first made most known (orders.Validate hex wide file) = ListsInput outlet hex wide listings.Validate known old new
+IsOrderDone outlet old new first made most known (orders.Relocate hex wide base budget file) = ListsInput outlet hex wide (listings.Relocate base budget) known old new
+IsOrderDone outlet old new first made most known (orders.Rewrite strip wide input output) = Rewrites outlet old new first made most known output strip wide
 
 -- Of an order that is done nothing is said, but what its rewriting has left out.
 abbrev pub SaysLeftOut : {W : Type 0} → (W → Outlet) → Writing W → Writing W → Option MadeFile → Option MadeFile → ℕ → Option (List ℕ) → Order → Option Note → Type 0
-SaysLeftOut outlet old new first made most known (orders.Rewrite strip input output) note =
-    (rewrites : Rewrites outlet old new first made most known output strip)
+SaysLeftOut outlet old new first made most known (orders.Rewrite strip wide input output) note =
+    (rewrites : Rewrites outlet old new first made most known output strip wide)
     × (note ≡ left_out_note (rewrites.done.read - rewrites.done.written) rewrites.done.rest input)
 SaysLeftOut outlet old new first made most known order note = note ≡ None
 
 -- why it is not, where the fault is none of writing
 abbrev pub StopsOrder : ℕ → Option (List ℕ) → Order → RunFault → Type 0
-StopsOrder most known (orders.Show hex file) = StopsInput known (λ before after. StopsSource hex listings.Show before after most)
-StopsOrder most known (orders.Validate hex file) = StopsInput known (λ before after. StopsSource hex listings.Validate before after most)
-StopsOrder most known (orders.Relocate hex base budget file) = StopsInput known (λ before after. StopsSource hex (listings.Relocate base budget) before after most)
-StopsOrder most known (orders.Rewrite strip input output) = StopsInput known (λ before after. ReadsNoFile before after most)
+StopsOrder most known (orders.Show hex wide file) = StopsInput known (λ before after. StopsAsked hex wide listings.Show before after most)
+StopsOrder most known (orders.Validate hex wide file) = StopsInput known (λ before after. StopsAsked hex wide listings.Validate before after most)
+StopsOrder most known (orders.Relocate hex wide base budget file) = StopsInput known (λ before after. StopsAsked hex wide (listings.Relocate base budget) before after most)
+StopsOrder most known (orders.Rewrite strip wide input output) = StopsInput known (λ before after. StopsRewriting wide before after most)
 
 -- where it is one: what OUT has taken
 abbrev pub StopsWriting : Option MadeFile → Option MadeFile → ℕ → Option (List ℕ) → Order → ℕ → Type 0
-StopsWriting first made most known (orders.Rewrite strip input output) written = RewritesInput known (RewritesFirst first made output strip written) most
+StopsWriting first made most known (orders.Rewrite strip wide input output) written = RewritesInput known (RewritesFirst first made output strip wide written) most
 StopsWriting first made most known order written = ⊥
 
 -- The fault that a note tells of is one of these, with what the system says where it is of reading or writing; where it tells that OUT was not touched, none was made.
 abbrev pub TellsFault : Option MadeFile → Option MadeFile → ℕ → Option (List ℕ) → Order → Option Note → Type 0
-TellsFault first made most known order (Some (Fault (Write written) name cause untouched)) = StopsWriting first made most known order written × (is_some cause ≡ true)
-TellsFault first made most known order (Some (Fault fault name cause untouched)) =
+TellsFault first made most known order (Some (Fault (Write written) name cause untouched wide)) = StopsWriting first made most known order written × (is_some cause ≡ true)
+TellsFault first made most known order (Some (Fault fault name cause untouched wide)) =
     StopsOrder most known order fault × (is_some cause ≡ true ↔ IsRead fault) × (made ≡ first)
 TellsFault first made most known order _ = ⊤
 
@@ -88,15 +91,35 @@ MakesOut first made wanted =
 
 -- its input is one of which it can be done
 abbrev pub HasOrdered : ℕ → Option (List ℕ) → Order → Type 0
-HasOrdered most known (orders.Show hex file) = HasInput hex listings.Show (unread known) most
-HasOrdered most known (orders.Validate hex file) = HasInput hex listings.Validate (unread known) most
-HasOrdered most known (orders.Relocate hex base budget file) = HasInput hex (listings.Relocate base budget) (unread known) most
-HasOrdered most known (orders.Rewrite strip input output) = HasFile (unread known) most
+HasOrdered most known (orders.Show hex wide file) = HasAsked hex wide listings.Show (unread known) most
+HasOrdered most known (orders.Validate hex wide file) = HasAsked hex wide listings.Validate (unread known) most
+HasOrdered most known (orders.Relocate hex wide base budget file) = HasAsked hex wide (listings.Relocate base budget) (unread known) most
+HasOrdered most known (orders.Rewrite strip wide input output) = HasRewriting wide (unread known) most
 
 -- A fault of which the system says nothing is want of memory.
 abbrev pub LacksMemory : Option Note → Type 0
-LacksMemory (Some (Fault fault name None untouched)) = fault ≡ Memory
+LacksMemory (Some (Fault fault name None untouched wide)) = fault ≡ Memory
 LacksMemory _ = ⊤
+
+-- ---- how its input is spelled
+
+-- The input was not read, as the note tells, or a standard output that failed leaves open.
+abbrev pub TellsUnread : Option Note → Type 0
+TellsUnread (Some (Fault fault name cause untouched wide)) = IsUnread fault
+TellsUnread (Some (Output cause)) = ⊤
+TellsUnread _ = ⊥
+
+-- Nothing is said of it without `--wide`, nor where it was not read; else it is by its name, where it is spelled otherwise.
+abbrev pub SaysInput : Bool → Bool → ℕ → Option (List ℕ) → Option (List ℕ) → Type 0 → Option Spelled → Type 0
+SaysInput hex wide most known name Unread said =
+    ((said ≡ None) × (wide ≡ true → Unread))
+    ⊎ ((wide ≡ true) × FromInput known (λ before after. (input : List ℕ) × ReadsBytes hex before after most input × (said ≡ spelled_of name input)))
+
+abbrev pub SaysSpelled : ℕ → Option (List ℕ) → Order → Type 0 → Option Spelled → Type 0
+SaysSpelled most known (orders.Show hex wide file) Unread said = SaysInput hex wide most known file Unread said
+SaysSpelled most known (orders.Validate hex wide file) Unread said = SaysInput hex wide most known file Unread said
+SaysSpelled most known (orders.Relocate hex wide base budget file) Unread said = SaysInput hex wide most known file Unread said
+SaysSpelled most known (orders.Rewrite strip wide input output) Unread said = SaysInput false wide most known (Some input) Unread said
 
 -- ---- how a run ends
 
@@ -106,5 +129,6 @@ pub record EndsOrder {W : Type 0} (outlet : W → Outlet) (old new : Writing W) 
   pub done : ended.status ≡ 0 → IsOrderDone outlet old new first made most known order
   pub left_out : ended.status ≡ 0 → SaysLeftOut outlet old new first made most known order ended.note
   pub names : NamesFiles order ended.note
+  pub spelled : SaysSpelled most known order (TellsUnread ended.note) ended.spelled
   pub stops : TellsFault first made most known order ended.note
   pub succeeds : HasOrdered most known order → (outlet old.sink).failed ≡ false → LacksMemory ended.note

@@ -63,14 +63,6 @@ pub record ListsSource {W : Type 0} (outlet : W → Outlet) (hex : Bool) (listin
   pub is_listed : IsListed listing input text
   pub takes : Takes outlet old new text
 
--- the same of the input that a reader gave, which had these bytes left
-abbrev pub ListsRead : {W : Type 0} → (W → Outlet) → Bool → Listing → Option (List ℕ) → Writing W → Writing W → Type 0
-ListsRead outlet hex listing left old new = (after : Supply) × ListsSource outlet hex listing (unread left) after old new
-
--- the same of an input of which these bytes are known
-abbrev pub ListsInput : {W : Type 0} → (W → Outlet) → Bool → Listing → Option (List ℕ) → Writing W → Writing W → Type 0
-ListsInput outlet hex listing known old new = (left : Option (List ℕ)) × Leaves known left × ListsRead outlet hex listing left old new
-
 -- why no bytes were read that a text of at most this many bytes spells
 abbrev pub ReadsNoText : RunFault → Supply → Supply → ℕ → Type 0
 ReadsNoText (faults.Refused refusal) before after most = (refusal.reason ≡ reasons.FileLimit) × (refusal.place ≡ most) × Gave before after (most + 1)

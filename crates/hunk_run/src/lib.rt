@@ -19,17 +19,22 @@ ghost use Rattle.hunk_run.specs.Stores.{bytes_of_input};
 
 mod host;
 mod listing;
+mod listing_plain;
 mod note;
+mod plain;
 mod rewriting;
+mod rewriting_plain;
+mod spelled;
 mod store;
 mod to_file;
 mod verdict;
 
 pub use crate::host::Host;
-use crate::listing::{Listing, list_file};
+use crate::listing::{Form, Listing, list_file};
 use crate::note::output_failed;
 pub use crate::note::{Ended, Note};
-use crate::rewriting::{rewrite_file, tell};
+use crate::rewriting::{Way, rewrite_file, tell};
+pub use crate::spelled::Spelled;
 pub use crate::store::Store;
 use hunk_command_line::{FileName, Order, OrderFault, VERSION_LINE, order};
 use hunk_commands::{Rewritten, RunFault};
@@ -102,26 +107,31 @@ pub fn run<S: Store, W: Sink>(
         Ok(order) => order,
         Err(fault) => return (refuse(fault, out), store),
     };
-    let (listing, hex, file) = match order {
-        Order::Show { hex, file } => (Listing::Show, hex, file),
-        Order::Validate { hex, file } => (Listing::Validate, hex, file),
+    let (listing, form, file) = match order {
+        Order::Show { hex, wide, file } => (Listing::Show, Form { hex, wide }, file),
+        Order::Validate { hex, wide, file } => (Listing::Validate, Form { hex, wide }, file),
         Order::Relocate {
             hex,
+            wide,
             base,
             budget,
             file,
-        } => (Listing::Relocate { base, budget }, hex, file),
+        } => (Listing::Relocate { base, budget }, Form { hex, wide }, file),
         Order::Rewrite {
             strip,
+            wide,
             input,
             output,
         } => {
-            let (store, answer, cause) = rewrite_file(store, alloc, &input, &output, strip);
-            return (end_rewriting(answer, (input, output), cause, out), store);
+            let way = Way { strip, wide };
+            let (store, answer, cause, spelled) = rewrite_file(store, alloc, &input, &output, way);
+            let ended = end_rewriting(answer, (input, output), cause, wide, out);
+            return (ended.with_spelled(spelled), store);
         }
     };
-    let (answer, cause) = list_file(&store, alloc, listing, &file, hex, out);
-    (end_listing(answer, file, cause, out), store)
+    let (answer, cause, spelled) = list_file(&store, alloc, listing, &file, form, out);
+    let ended = end_listing(answer, file, cause, form.wide, out);
+    (ended.with_spelled(spelled), store)
 }
 
 /// Prints why there is no order, and tells how the run ends.
@@ -134,7 +144,7 @@ pub fn refuse<W: Sink>(fault: OrderFault, out: &mut LongWriter<W>) -> Ended
         OrderFault::NotText => print(REFUSED_LINE, LINE_REFUSED, Some(Note::NotText), out),
         OrderFault::Help(text) => print(text.as_str(), DONE, None, out),
         OrderFault::Version => print(VERSION_LINE, DONE, None, out),
-        OrderFault::Memory => report(RunFault::Memory, None, None, None, out),
+        OrderFault::Memory => report(RunFault::Memory, (None, None), None, false, out),
     }
 }
 
@@ -143,14 +153,19 @@ fn end_listing<W: Sink>(
     answer: Result<u8, RunFault>,
     name: Option<FileName>,
     cause: Option<io::Error>,
+    wide: bool,
     out: &mut LongWriter<W>,
 ) -> Ended
-    ensures { EndsListing W.outlet out.old out.new answer name cause result }
+    ensures { EndsListing W.outlet out.old out.new answer name cause wide result }
 {
     match answer {
-        Ok(status) => Ended { status, note: None },
+        Ok(status) => Ended {
+            status,
+            spelled: None,
+            note: None,
+        },
         Err(RunFault::Write { .. }) => output_failed(),
-        Err(fault) => report(fault, name, cause, None, out),
+        Err(fault) => report(fault, (name, None), cause, wide, out),
     }
 }
 
@@ -159,41 +174,48 @@ fn end_rewriting<W: Sink>(
     answer: Result<Rewritten, RunFault>,
     names: (FileName, FileName),
     cause: Option<io::Error>,
+    wide: bool,
     out: &mut LongWriter<W>,
 ) -> Ended
-    ensures { EndsRewriting W.outlet out.old out.new answer names.0 names.1 cause result }
+    ensures { EndsRewriting W.outlet out.old out.new answer names.0 names.1 cause wide result }
 {
     let (input, output) = names;
     match answer {
         Ok(done) => tell(done, input, out),
-        Err(fault @ RunFault::Write { .. }) => report(fault, Some(output), cause, None, out),
-        Err(fault) => report(fault, Some(input), cause, Some(output), out),
+        Err(fault @ RunFault::Write { .. }) => {
+            report(fault, (Some(output), None), cause, wide, out)
+        }
+        Err(fault) => report(fault, (Some(input), Some(output)), cause, wide, out),
     }
 }
 
-/// Prints the fault's line, for which no memory is needed, and ends the run.
+/// Prints the fault's line, for which no memory is needed, and ends the run. The names are that of
+/// the file that it is of, and that of one that was not touched.
 fn report<W: Sink>(
     fault: RunFault,
-    name: Option<FileName>,
+    names: (Option<FileName>, Option<FileName>),
     cause: Option<io::Error>,
-    untouched: Option<FileName>,
+    wide: bool,
     out: &mut LongWriter<W>,
 ) -> Ended
-    ensures { EndsByFault W.outlet out.old out.new fault name cause untouched result }
+    ensures { EndsByFault W.outlet out.old out.new fault names.0 cause names.1 wide result }
 {
     let mut page = PagePrinter::<W, LINES>::new(out);
     fault.print(&mut page);
     let result = page.flush();
     let _out = page.into_inner();
+    let (name, untouched) = names;
     let note = Note::Fault {
         fault,
         name,
         cause,
         untouched,
+        wide,
     };
     match result {
         Ok(()) => Ended {
             status: fault.status(),
+            spelled: None,
             note: Some(note),
         },
         Err(_) => output_failed(),
@@ -203,10 +225,14 @@ fn report<W: Sink>(
 /// Prints the text, and ends the run with this status and note.
 fn print<W: Sink>(text: &str, status: u8, note: Option<Note>, out: &mut LongWriter<W>) -> Ended
     ensures { EndsOrFails W.outlet out.old out.new text.now
-        (record { status = status; note = note }) result }
+        (record { status = status; spelled = None; note = note }) result }
 {
     match out.put_bytes(text.as_bytes()) {
-        Ok(()) => Ended { status, note },
+        Ok(()) => Ended {
+            status,
+            spelled: None,
+            note,
+        },
         Err(_) => output_failed(),
     }
 }

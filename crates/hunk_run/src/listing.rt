@@ -5,24 +5,31 @@ ghost use Rattle.hunk_commands.specs.declared.fault.RunFault.TheVariants.{Memory
 ghost use Rattle.hunk_commands.specs.Faults.{IsWrite};
 ghost use Rattle.hunk_commands.specs.HexText.{ReadsHex};
 ghost use Rattle.hunk_commands.specs.Inputs.{TellsReading};
-ghost use Rattle.hunk_run.specs.Inputs.{HasInput, unread};
+ghost use Rattle.hunk_run.specs.Asked.{AsksListing, HasAsked, ListsInput, ListsRead, StopsAsked};
+ghost use Rattle.hunk_run.specs.Asked.{TellsSpelling};
+ghost use Rattle.hunk_run.specs.Inputs.{unread};
 ghost use Rattle.hunk_run.specs.Status.{TellsOutcome};
-ghost use Rattle.hunk_run.specs.Refusals.{FromReader, IsRead, ListsSupply, StopsInput, StopsSource};
-ghost use Rattle.hunk_run.specs.Runs.{ListsInput, ListsRead, ReadsNoText};
+ghost use Rattle.hunk_run.specs.Orders.{SaysInput};
+ghost use Rattle.hunk_run.specs.Refusals.{FromInput, FromReader, IsRead, ListsSupply, StopsInput};
+ghost use Rattle.hunk_run.specs.Runs.{ReadsNoText};
 ghost use Rattle.hunk_run.specs.Stores.{bytes_of_input};
+ghost use Rattle.hunk_run.specs.Wide.{IsUnread};
 
+use crate::listing_plain::list_wide;
+use crate::spelled::{Spelled, said_of};
 use crate::store::Store;
 use crate::{DONE, FILE_BYTES};
 use hunk_command_line::FileName;
 use hunk_commands::{RunFault, read_hex, relocate, show, validate};
 use hunk_scatter::Limits;
+use hunk_wide::Spelling;
 use hunk_words::{Fault, FromRead, FromSlice, LongWriter, Sink, Source};
 use std::alloc::{AllocError, Global};
 use std::io;
 use std::io::Read;
 
 /// The exit status where `validate` found something.
-const FOUND: u8 = 1;
+pub(crate) const FOUND: u8 = 1;
 
 /// What is printed of an input.
 #[derive(Clone, Copy, Debug)]
@@ -35,38 +42,98 @@ pub(crate) enum Listing {
     Relocate { base: u32, budget: u64 },
 }
 
+/// How an input is written.
+#[derive(Clone, Copy, Debug)]
+pub(crate) struct Form {
+    /// Whether it is hexadecimal text.
+    pub hex: bool,
+    /// Whether its plain spelling is taken.
+    pub wide: bool,
+}
+
 /// Prints it of the file, or of standard input, and gives the exit status, 1 where something was
-/// found, and what the system says of an input that can't be read.
+/// found, what the system says of an input that can't be read, and what is said of its spelling.
 pub(crate) fn list_file<S: Store, W: Sink>(
     store: &S,
     alloc: Global,
     listing: Listing,
     file: &Option<FileName>,
-    hex: bool,
+    form: Form,
     out: &mut LongWriter<W>,
-) -> (Result<u8, RunFault>, Option<io::Error>)
+) -> (Result<u8, RunFault>, Option<io::Error>, Option<Spelled>)
     ensures outcome { TellsOutcome W.outlet out.old out.new result.0 }
-    ensures done { IfOk result.0 (λ status. status ≡ 0 → ListsInput W.outlet hex listing
+    ensures done { IfOk result.0 (λ status. status ≡ 0
+        → ListsInput W.outlet form.hex form.wide listing
         (bytes_of_input (S.holdings store.now) (S.made store.now) file.now) out.old out.new) }
     ensures stops { IfErr result.0 (λ fault. ¬ IsWrite fault → StopsInput
         (bytes_of_input (S.holdings store.now) (S.made store.now) file.now)
-        (λ before after. StopsSource hex listing before after FILE_BYTES) fault) }
+        (λ before after. StopsAsked form.hex form.wide listing before after FILE_BYTES) fault) }
     ensures cause { is_some result.1 ≡ true ↔ IsErrAnd result.0 IsRead }
-    ensures succeeds { HasInput hex listing
+    ensures succeeds { HasAsked form.hex form.wide listing
         (unread (bytes_of_input (S.holdings store.now) (S.made store.now) file.now)) FILE_BYTES
         → result.1 ≡ None → (W.outlet out.new.sink).failed ≡ false
         → IfErr result.0 (λ fault. fault ≡ Memory) }
+    ensures spelled { SaysInput form.hex form.wide FILE_BYTES
+        (bytes_of_input (S.holdings store.now) (S.made store.now) file.now) file.now
+        (IsErrAnd result.0 IsUnread) result.2 }
+{
+    let name = match copied(alloc, file, form.wide) {
+        Ok(name) => name,
+        Err(_) => return (Err(RunFault::Memory), None, None),
+    };
+    let (answer, cause, spelling) = list_input(store, alloc, listing, file, form, out);
+    (answer, cause, said_of(name, spelling))
+}
+
+/// The file's name once more, for what is said of its spelling: it is wanted with `--wide` alone.
+fn copied(
+    alloc: Global,
+    file: &Option<FileName>,
+    wide: bool,
+) -> Result<Option<FileName>, AllocError>
+    ensures { IfOk result (λ name. wide ≡ true → name ≡ file.now) }
+{
+    match file {
+        Some(name) if wide => Ok(Some(name.try_clone(alloc)?)),
+        _ => Ok(None),
+    }
+}
+
+/// The same, and how the input is spelled where it was read and that was asked for.
+fn list_input<S: Store, W: Sink>(
+    store: &S,
+    alloc: Global,
+    listing: Listing,
+    file: &Option<FileName>,
+    form: Form,
+    out: &mut LongWriter<W>,
+) -> (Result<u8, RunFault>, Option<io::Error>, Option<Spelling>)
+    ensures outcome { TellsOutcome W.outlet out.old out.new result.0 }
+    ensures done { IfOk result.0 (λ status. status ≡ 0
+        → ListsInput W.outlet form.hex form.wide listing
+        (bytes_of_input (S.holdings store.now) (S.made store.now) file.now) out.old out.new) }
+    ensures stops { IfErr result.0 (λ fault. ¬ IsWrite fault → StopsInput
+        (bytes_of_input (S.holdings store.now) (S.made store.now) file.now)
+        (λ before after. StopsAsked form.hex form.wide listing before after FILE_BYTES) fault) }
+    ensures cause { is_some result.1 ≡ true ↔ IsErrAnd result.0 IsRead }
+    ensures succeeds { HasAsked form.hex form.wide listing
+        (unread (bytes_of_input (S.holdings store.now) (S.made store.now) file.now)) FILE_BYTES
+        → result.1 ≡ None → (W.outlet out.new.sink).failed ≡ false
+        → IfErr result.0 (λ fault. fault ≡ Memory) }
+    ensures spelled { TellsSpelling
+        (FromInput (bytes_of_input (S.holdings store.now) (S.made store.now) file.now))
+        form.hex form.wide FILE_BYTES result.0 result.2 }
 {
     let Some(name) = file else {
-        return list_reader(alloc, listing, FromRead::new(store.input()), hex, out);
+        return list_reader(alloc, listing, FromRead::new(store.input()), form, out);
     };
     let file = match store.open(name.as_str()) {
         Ok(file) => file,
-        Err(error) => return (Err(RunFault::Read { place: 0 }), Some(error)),
+        Err(error) => return (Err(RunFault::Read { place: 0 }), Some(error), None),
     };
-    match source_of(alloc, listing, file, hex) {
-        Ok(source) => list_reader(alloc, listing, source, hex, out),
-        Err(_) => (Err(RunFault::Memory), None),
+    match source_of(alloc, listing, file, form) {
+        Ok(source) => list_reader(alloc, listing, source, form, out),
+        Err(_) => (Err(RunFault::Memory), None, None),
     }
 }
 
@@ -76,13 +143,13 @@ fn source_of<R: Read + Drop>(
     alloc: Global,
     listing: Listing,
     file: R,
-    hex: bool,
+    form: Form,
 ) -> Result<FromRead<R>, AllocError>
     ensures holds { IfOk result (λ source. left_of R.remaining source.reader ≡ R.remaining file) }
     ensures fresh { IfOk result (λ source. source.error ≡ None) }
 {
     match listing {
-        Listing::Relocate { .. } if !hex => FromRead::buffered(alloc, file),
+        Listing::Relocate { .. } if !form.hex && !form.wide => FromRead::buffered(alloc, file),
         _ => Ok(FromRead::new(file)),
     }
 }
@@ -92,28 +159,51 @@ fn list_reader<R: Read + Drop, W: Sink>(
     alloc: Global,
     listing: Listing,
     source: FromRead<R>,
-    hex: bool,
+    form: Form,
     out: &mut LongWriter<W>,
-) -> (Result<u8, RunFault>, Option<io::Error>)
+) -> (Result<u8, RunFault>, Option<io::Error>, Option<Spelling>)
     requires fresh { source.error ≡ None }
     ensures outcome { TellsOutcome W.outlet out.old out.new result.0 }
     ensures done { IfOk result.0 (λ status. status ≡ 0
-        → ListsRead W.outlet hex listing (left_of R.remaining source.reader) out.old out.new) }
-    ensures succeeds { HasInput hex listing (unread (left_of R.remaining source.reader)) FILE_BYTES
+        → ListsRead W.outlet form.hex form.wide listing (left_of R.remaining source.reader)
+        out.old out.new) }
+    ensures succeeds { HasAsked form.hex form.wide listing
+        (unread (left_of R.remaining source.reader)) FILE_BYTES
         → result.1 ≡ None → (W.outlet out.new.sink).failed ≡ false
         → IfErr result.0 (λ fault. fault ≡ Memory) }
     ensures stops { IfErr result.0 (λ fault. ¬ IsWrite fault
         → FromReader (left_of R.remaining source.reader)
-        (λ before after. StopsSource hex listing before after FILE_BYTES fault)) }
+        (λ before after. StopsAsked form.hex form.wide listing before after FILE_BYTES fault)) }
     ensures cause { is_some result.1 ≡ true ↔ IsErrAnd result.0 IsRead }
+    ensures spelled { TellsSpelling (FromReader (left_of R.remaining source.reader))
+        form.hex form.wide FILE_BYTES result.0 result.2 }
 {
     let mut source = source;
-    let answer = list_source(alloc, listing, &mut source, hex, out);
+    let (answer, spelling) = list_asked(alloc, listing, &mut source, form, out);
     let cause = match answer {
         Ok(_) => None,
         Err(_) => source.error(),
     };
-    (answer, cause)
+    (answer, cause, spelling)
+}
+
+/// The same of the bytes that the source has, as they are or in their plain spelling, and how they
+/// are spelled where that was asked for.
+fn list_asked<R: Source, W: Sink>(
+    alloc: Global,
+    listing: Listing,
+    source: &mut R,
+    form: Form,
+    out: &mut LongWriter<W>,
+) -> (Result<u8, RunFault>, Option<Spelling>)
+    ensures { AsksListing W.outlet form.hex form.wide listing
+        (R.supply source.old) (R.supply source.new) FILE_BYTES out.old out.new result.0 result.1 }
+{
+    if form.wide {
+        list_wide(alloc, listing, source, form.hex, out)
+    } else {
+        (list_source(alloc, listing, source, form.hex, out), None)
+    }
 }
 
 /// The same of the bytes that the source has, or where `hex` is set of those that its text spells.
@@ -149,7 +239,7 @@ fn list_text<R: Source, W: Sink>(
 }
 
 /// The bytes that all of the source's text spells, which may have `FILE_BYTES` bytes and no more.
-fn spelled_bytes<R: Source>(alloc: Global, source: &mut R) -> Result<Vec<u8>, RunFault>
+pub(crate) fn spelled_bytes<R: Source>(alloc: Global, source: &mut R) -> Result<Vec<u8>, RunFault>
     ensures spelled { IfOk result
         (λ bytes. ReadsHex (R.supply source.old) (R.supply source.new)
         (FILE_BYTES + 1) bytes.items) }

@@ -1,10 +1,11 @@
 //! What a run says on standard error.
 ghost use Rattle.std.specs.Prelude.{◌≡◌, Some};
 ghost use Rattle.std.specs.Fmt.{DisplaysOnOk};
-ghost use Rattle.hunk_run.specs.Notes.{fault_note, note_text, output_failed, shown_name, note_with, untouched_end};
+ghost use Rattle.hunk_run.specs.Notes.{ended_with, fault_note, note_text, output_failed, shown_name, note_with, untouched_end};
 ghost use Rattle.hunk_run.specs.declared.note.Note.TheVariants.{LeftOut};
 
-use crate::verdict::Verdict;
+use crate::spelled::Spelled;
+use crate::verdict::{Verdict, hint};
 use hunk_command_line::FileName;
 use hunk_commands::RunFault;
 use std::error::Error;
@@ -41,6 +42,8 @@ pub enum Note {
         cause: Option<io::Error>,
         /// OUT of `rewrite`, where nothing of it was touched.
         untouched: Option<FileName>,
+        /// Whether the plain spelling was taken. Else a refusal may name `--wide`.
+        wide: bool,
     },
     /// Standard output failed.
     Output {
@@ -63,6 +66,8 @@ pub enum Note {
 pub struct Ended {
     /// The exit status.
     pub status: u8,
+    /// What it says of an input that is spelled otherwise than its plain spelling.
+    pub spelled: Option<Spelled>,
     /// What it says on standard error, if anything.
     pub note: Option<Note>,
 }
@@ -73,7 +78,26 @@ pub(crate) fn output_failed() -> Ended
 {
     Ended {
         status: 3,
+        spelled: None,
         note: Some(Note::Output { cause: None }),
+    }
+}
+
+impl Ended {
+    /// The same, with what is said of how the input is spelled.
+    pub(crate) fn with_spelled(self, spelled: Option<Spelled>) -> Ended
+        ensures { result ≡ ended_with spelled self }
+    {
+        let Ended {
+            status,
+            spelled: _,
+            note,
+        } = self;
+        Ended {
+            status,
+            spelled,
+            note,
+        }
     }
 }
 
@@ -90,7 +114,7 @@ impl Note {
 }
 
 /// The name to show of a file, or of a standard stream.
-fn shown<'a>(name: &'a Option<FileName>, stream: &'a str) -> &'a str
+pub(crate) fn shown<'a>(name: &'a Option<FileName>, stream: &'a str) -> &'a str
     ensures { result.now ≡ shown_name name.entry.now stream.entry.now }
 {
     match name {
@@ -111,7 +135,8 @@ impl fmt::Display for Note {
                 name,
                 cause,
                 untouched,
-            } => write_fault(f, *fault, name, cause, untouched),
+                wide,
+            } => write_fault(f, *fault, name, cause, untouched, *wide),
             Note::Output { cause: Some(error) } => {
                 write!(f, "hunkinfo: standard output: {error}\n")
             }
@@ -178,9 +203,10 @@ fn write_fault<W: fmt::Write>(
     name: &Option<FileName>,
     cause: &Option<io::Error>,
     untouched: &Option<FileName>,
+    wide: bool,
 ) -> fmt::Result
     ensures { DisplaysOnOk W.write_str_gives f.old result
-        (fault_note fault name.entry.now cause.entry.now untouched.entry.now) f.new }
+        (fault_note fault name.entry.now cause.entry.now untouched.entry.now wide) f.new }
 {
     let input = shown(name, "standard input");
     let end = Untouched { file: untouched };
@@ -199,7 +225,8 @@ fn write_fault<W: fmt::Write>(
                 refusal: refusal.fault,
                 part: Some(refusal.part),
             };
-            write!(f, "hunkinfo: {input}: {verdict}{end}\n")
+            let hint = hint(refusal, wide);
+            write!(f, "hunkinfo: {input}: {verdict}{hint}{end}\n")
         }
         (RunFault::Read { .. }, Some(error)) => write!(f, "hunkinfo: {input}: {error}{end}\n"),
         (RunFault::Read { .. }, None) => write!(f, "hunkinfo: {input}: reading failed{end}\n"),

@@ -1,27 +1,40 @@
 //! The command `rewrite`, from one file to another.
 ghost use Rattle.std.specs.Prelude.{◌≡◌, ◌↔◌, ◌-◌, ℕ, false, is_some, true, IfErr, IfOk, IsErrAnd, None, Some};
 ghost use Rattle.hunk_commands.specs.declared.fault.RunFault.TheVariants.{Memory, Write};
-ghost use Rattle.hunk_commands.specs.Engine.{ReadsNoFile};
 ghost use Rattle.hunk_commands.specs.Faults.{IsWrite};
-ghost use Rattle.hunk_commands.specs.Inputs.{HasFile, ReadsInput, TellsReading};
+ghost use Rattle.hunk_commands.specs.Inputs.{ReadsInput, TellsReading};
+ghost use Rattle.hunk_run.specs.Asked.{AsksRewriting, HasRewriting, StopsRewriting, TellsSpelling};
 ghost use Rattle.hunk_run.specs.Inputs.{unread};
 ghost use Rattle.hunk_run.specs.Notes.{EndsOrFails, left_out_note, rewritten_ended};
-ghost use Rattle.hunk_run.specs.Orders.{RewritesFirst, RewritesInput, RewritesTo};
-ghost use Rattle.hunk_run.specs.Refusals.{IsOfSystem, StopsInput};
+ghost use Rattle.hunk_run.specs.Orders.{RewritesFirst, RewritesInput, RewritesTo, SaysInput};
+ghost use Rattle.hunk_run.specs.Refusals.{FromInput, IsOfSystem, StopsInput};
 ghost use Rattle.hunk_run.specs.Runs.{rewritten_lines};
 ghost use Rattle.hunk_run.specs.Stores.{bytes_of_input};
+ghost use Rattle.hunk_run.specs.Wide.{IsUnread};
 
 use crate::note::{Ended, Note, output_failed};
+use crate::rewriting_plain::rewrite_wide;
+use crate::spelled::{Spelled, said_of};
 use crate::store::Store;
 use crate::to_file::{Outset, ToFile};
 use crate::{DONE, FILE_BYTES, LINES};
 use hunk_command_line::FileName;
 use hunk_commands::{Rewritten, RunFault, rewrite};
 use hunk_listing::print_rewriting;
+use hunk_wide::Spelling;
 use hunk_words::{Failed, FromRead, LongWriter, PagePrinter, Sink, Source};
-use std::alloc::Global;
+use std::alloc::{AllocError, Global};
 use std::io;
 use std::marker::Brand;
+
+/// How a file is rewritten.
+#[derive(Clone, Copy, Debug)]
+pub(crate) struct Way {
+    /// Whether what a loader does not need is left out.
+    pub strip: bool,
+    /// Whether the plain spelling is written.
+    pub wide: bool,
+}
 
 /// Writes the file `input` again, to `output`, and gives how much was written, and what the system
 /// says of a file that can't be read or written. The store is given back.
@@ -33,16 +46,23 @@ pub(crate) fn rewrite_file<S: Store>(
     alloc: Global,
     input: &FileName,
     output: &FileName,
-    strip: bool,
-) -> (S, Result<Rewritten, RunFault>, Option<io::Error>)
+    way: Way,
+) -> (
+    S,
+    Result<Rewritten, RunFault>,
+    Option<io::Error>,
+    Option<Spelled>,
+)
     // What OUT has taken: all of the file, or after a fault of writing the first bytes of it, and
     // after another one nothing.
     ensures rewrites { IfOk result.1 (λ done. RewritesInput
         (bytes_of_input (S.holdings store) (S.made store) (Some input.now))
-        (RewritesTo (S.made store) (S.made result.0) output.now strip done) FILE_BYTES) }
+        (RewritesTo (S.made store) (S.made result.0) output.now way.strip way.wide done)
+        FILE_BYTES) }
     ensures write { IfErr result.1 (λ fault. (written : ℕ) → fault ≡ Write written → RewritesInput
         (bytes_of_input (S.holdings store) (S.made store) (Some input.now))
-        (RewritesFirst (S.made store) (S.made result.0) output.now strip written) FILE_BYTES) }
+        (RewritesFirst (S.made store) (S.made result.0) output.now way.strip way.wide written)
+        FILE_BYTES) }
     ensures untouched { IfErr result.1 (λ fault. ¬ IsWrite fault
         → S.made result.0 ≡ S.made store) }
     ensures holds { S.holdings result.0 ≡ S.holdings store }
@@ -50,24 +70,81 @@ pub(crate) fn rewrite_file<S: Store>(
     // What was read, of whose failure the system tells, and when a file is written.
     ensures stops { IfErr result.1 (λ fault. ¬ IsWrite fault → StopsInput
         (bytes_of_input (S.holdings store) (S.made store) (Some input.now))
-        (λ before after. ReadsNoFile before after FILE_BYTES) fault) }
+        (λ before after. StopsRewriting way.wide before after FILE_BYTES) fault) }
     ensures cause { is_some result.2 ≡ true ↔ IsErrAnd result.1 IsOfSystem }
-    ensures succeeds { HasFile
+    ensures succeeds { HasRewriting way.wide
         (unread (bytes_of_input (S.holdings store) (S.made store) (Some input.now))) FILE_BYTES
         → result.2 ≡ None → IfErr result.1 (λ fault. fault ≡ Memory) }
+    ensures spelled { SaysInput false way.wide FILE_BYTES
+        (bytes_of_input (S.holdings store) (S.made store) (Some input.now)) (Some input.now)
+        (IsErrAnd result.1 IsUnread) result.3 }
+{
+    let name = match copied(alloc, input, way.wide) {
+        Ok(name) => name,
+        Err(_) => return (store, Err(RunFault::Memory), None, None),
+    };
+    let (store, answer, cause, spelling) = rewrite_input(store, alloc, input, output, way);
+    (store, answer, cause, said_of(name, spelling))
+}
+
+/// The file's name once more, for what is said of its spelling: it is wanted with `--wide` alone.
+fn copied(alloc: Global, file: &FileName, wide: bool) -> Result<Option<FileName>, AllocError>
+    ensures { IfOk result (λ name. wide ≡ true → name ≡ Some file.now) }
+{
+    if wide {
+        Ok(Some(file.try_clone(alloc)?))
+    } else {
+        Ok(None)
+    }
+}
+
+/// The same, and how the input is spelled where it was read and that was asked for.
+fn rewrite_input<S: Store>(
+    store: S,
+    alloc: Global,
+    input: &FileName,
+    output: &FileName,
+    way: Way,
+) -> (
+    S,
+    Result<Rewritten, RunFault>,
+    Option<io::Error>,
+    Option<Spelling>,
+)
+    ensures rewrites { IfOk result.1 (λ done. RewritesInput
+        (bytes_of_input (S.holdings store) (S.made store) (Some input.now))
+        (RewritesTo (S.made store) (S.made result.0) output.now way.strip way.wide done)
+        FILE_BYTES) }
+    ensures write { IfErr result.1 (λ fault. (written : ℕ) → fault ≡ Write written → RewritesInput
+        (bytes_of_input (S.holdings store) (S.made store) (Some input.now))
+        (RewritesFirst (S.made store) (S.made result.0) output.now way.strip way.wide written)
+        FILE_BYTES) }
+    ensures untouched { IfErr result.1 (λ fault. ¬ IsWrite fault
+        → S.made result.0 ≡ S.made store) }
+    ensures holds { S.holdings result.0 ≡ S.holdings store }
+    ensures stops { IfErr result.1 (λ fault. ¬ IsWrite fault → StopsInput
+        (bytes_of_input (S.holdings store) (S.made store) (Some input.now))
+        (λ before after. StopsRewriting way.wide before after FILE_BYTES) fault) }
+    ensures cause { is_some result.2 ≡ true ↔ IsErrAnd result.1 IsOfSystem }
+    ensures succeeds { HasRewriting way.wide
+        (unread (bytes_of_input (S.holdings store) (S.made store) (Some input.now))) FILE_BYTES
+        → result.2 ≡ None → IfErr result.1 (λ fault. fault ≡ Memory) }
+    ensures spelled { TellsSpelling
+        (FromInput (bytes_of_input (S.holdings store) (S.made store) (Some input.now)))
+        false way.wide FILE_BYTES result.1 result.3 }
 {
     let mut source = match store.open(input.as_str()) {
         Ok(file) => FromRead::new(file),
-        Err(error) => return (store, Err(RunFault::Read { place: 0 }), Some(error)),
+        Err(error) => return (store, Err(RunFault::Read { place: 0 }), Some(error), None),
     };
-    let (store, answer, error) = rewrite_to::<S, FromRead<S::File>, Brand>(
+    let (store, answer, error, spelling) = rewrite_to::<S, FromRead<S::File>, Brand>(
         store,
         alloc,
         &mut source,
         output,
-        strip,
+        way,
     );
-    (store, answer, error.or(source.error()))
+    (store, answer, error.or(source.error()), spelling)
 }
 
 /// Writes the file that the source gives again, to `output`, which is settled then. The store is
@@ -82,16 +159,21 @@ fn rewrite_to<S: Store, R: Source, K: Outset>(
     alloc: Global,
     source: &mut R,
     output: &FileName,
-    strip: bool,
-) -> (S, Result<Rewritten, RunFault>, Option<io::Error>)
+    way: Way,
+) -> (
+    S,
+    Result<Rewritten, RunFault>,
+    Option<io::Error>,
+    Option<Spelling>,
+)
     // It only names what is there.
     requires { (S.holdings store ≡ K.holdings) × (S.made store ≡ K.made)
         × (output.now ≡ K.name) }
     ensures rewrites { IfOk result.1 (λ done. ReadsInput
-        (RewritesTo (S.made store) (S.made result.0) output.now strip done)
+        (RewritesTo (S.made store) (S.made result.0) output.now way.strip way.wide done)
         (R.supply source.old) (R.supply source.new) FILE_BYTES) }
     ensures write { IfErr result.1 (λ fault. (written : ℕ) → fault ≡ Write written → ReadsInput
-        (RewritesFirst (S.made store) (S.made result.0) output.now strip written)
+        (RewritesFirst (S.made store) (S.made result.0) output.now way.strip way.wide written)
         (R.supply source.old) (R.supply source.new) FILE_BYTES) }
     ensures untouched { IfErr result.1 (λ fault. ¬ IsWrite fault
         → S.made result.0 ≡ S.made store) }
@@ -99,31 +181,52 @@ fn rewrite_to<S: Store, R: Source, K: Outset>(
     ensures error { is_some result.2 ≡ true ↔ IsErrAnd result.1 IsWrite }
 
     // What was read, and when a file is written.
-    ensures succeeds { HasFile (R.supply source.old) FILE_BYTES
+    ensures succeeds { HasRewriting way.wide (R.supply source.old) FILE_BYTES
         → (R.supply source.new).failed ≡ false → result.2 ≡ None
         → IfErr result.1 (λ fault. fault ≡ Memory) }
     ensures tells_read { TellsReading (R.supply source.old) (R.supply source.new) result.1 }
     ensures stops { IfErr result.1 (λ fault. ¬ IsWrite fault
-        → ReadsNoFile (R.supply source.old) (R.supply source.new) FILE_BYTES fault) }
+        → StopsRewriting way.wide (R.supply source.old) (R.supply source.new) FILE_BYTES fault) }
+    ensures spelled { TellsSpelling (λ Holds. Holds (R.supply source.old) (R.supply source.new))
+        false way.wide FILE_BYTES result.1 result.3 }
 {
     let mut writer = LongWriter::new(ToFile::<S, K>::new(store, output));
-    let answer = rewrite(alloc, source, &mut writer, FILE_BYTES, strip);
+    let (answer, spelling) = rewrite_asked(alloc, source, &mut writer, way);
     let mut out = writer.into_inner();
     let done = match answer {
         Ok(done) => done,
         Err(fault) => {
             let (store, error) = out.finish();
-            return (store, Err(fault), error);
+            return (store, Err(fault), error, spelling);
         }
     };
     let kept = out.sync();
     let (store, error) = out.finish();
     match kept {
-        Ok(()) => (store, Ok(done), error),
+        Ok(()) => (store, Ok(done), error, spelling),
         Err(Failed) => {
             let written = done.written;
-            (store, Err(RunFault::Write { written }), error)
+            (store, Err(RunFault::Write { written }), error, spelling)
         }
+    }
+}
+
+/// Writes the file that the source gives, as it is or in its plain spelling, and answers how it is
+/// spelled where that was asked for.
+fn rewrite_asked<R: Source, W: Sink>(
+    alloc: Global,
+    source: &mut R,
+    writer: &mut LongWriter<W>,
+    way: Way,
+) -> (Result<Rewritten, RunFault>, Option<Spelling>)
+    ensures { AsksRewriting W.outlet way.strip way.wide (R.supply source.old) (R.supply source.new)
+        FILE_BYTES writer.old writer.new result.0 result.1 }
+{
+    if way.wide {
+        rewrite_wide(alloc, source, writer, way.strip)
+    } else {
+        let answer = rewrite(alloc, source, writer, FILE_BYTES, way.strip);
+        (answer, None)
     }
 }
 
@@ -139,6 +242,7 @@ pub(crate) fn tell<W: Sink>(done: Rewritten, input: FileName, out: &mut LongWrit
     match result {
         Ok(()) => Ended {
             status: DONE,
+            spelled: None,
             note: left_out(input, done),
         },
         Err(_) => output_failed(),

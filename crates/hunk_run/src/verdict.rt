@@ -1,9 +1,9 @@
 //! What a run says of a refused file.
-ghost use Rattle.std.specs.Prelude.{Some};
-ghost use Rattle.hunk_run.specs.Notes.{verdict_line};
+ghost use Rattle.std.specs.Prelude.{◌≡◌, Some};
+ghost use Rattle.hunk_run.specs.Notes.{hint_of, verdict_line};
 
-use hunk_files::Part;
-use hunk_words::{Class, Fault};
+use hunk_files::{Part, Refusal};
+use hunk_words::{Class, Fault, Reason};
 use std::fmt;
 
 /// A refusal and the part of the file that it is in, where one is known.
@@ -29,5 +29,22 @@ impl fmt::Display for Verdict {
             (Class::NoHunkFile, _) | (_, None) => write!(f, "{class}: {meaning}"),
             (_, Some(part)) => write!(f, "{class} in {part}: {meaning}"),
         }
+    }
+}
+
+/// What `--wide` can do about a refusal in a hunk of a load file, where the order has no such flag.
+pub(crate) fn hint(refusal: Refusal, wide: bool) -> &'static str
+    ensures { result.now ≡ hint_of refusal wide }
+{
+    match (refusal.part, refusal.fault.reason) {
+        _ if wide => "",
+        (Part::Hunk { .. }, Reason::ShortReloc) => "; --wide reads such blocks",
+        (Part::Hunk { .. }, Reason::SecondContent) => {
+            "; --wide reads it, if only the END before it is missing"
+        }
+        (Part::Hunk { .. }, Reason::Truncated) => {
+            "; --wide reads it, if only the last END is missing"
+        }
+        _ => "",
     }
 }

@@ -1,19 +1,21 @@
 use Rattle.std.proofs.Common.{◌≡◌, ◌∙◌, ℕ, Bool, false, List, Option, Some, None, ap, inl, map, refl, subst, sym}
-use Rattle.std.specs.Prelude.{IfErr, IfOk}
+use Rattle.std.specs.Prelude.{IfErr, IfOk, IsErrAnd}
 use Rattle.std.specs.String.{string_bytes}
 use Rattle.hunk_command_line.specs.Line.{order_of}
 use Rattle.hunk_command_line.specs.declared.asked.Order.{Order}
 use Rattle.hunk_command_line.specs.declared.asked.Order.TheVariants.{Relocate, Rewrite, Show, Validate}
 use Rattle.hunk_commands.specs.Faults.{IsWrite}
 use Rattle.hunk_commands.specs.declared.fault.RunFault.TheVariants.{Memory}
-use Rattle.hunk_run.specs.Notes.{Notes, input_of, output_of}
-use Rattle.hunk_run.specs.Inputs.{HasInput, unread}
-use Rattle.hunk_run.specs.Orders.{EndsOrder, SaysLeftOut}
-use Rattle.hunk_run.specs.Refusals.{StopsInput, StopsSource}
-use Rattle.hunk_run.specs.Runs.{ListsInput}
+use Rattle.hunk_run.specs.Notes.{Notes, ended_with, input_of, is_wide, output_of}
+use Rattle.hunk_run.specs.Asked.{HasAsked, ListsInput, StopsAsked}
+use Rattle.hunk_run.specs.Inputs.{unread}
+use Rattle.hunk_run.specs.Orders.{EndsOrder, SaysInput, SaysLeftOut, SaysSpelled}
+use Rattle.hunk_run.specs.Refusals.{StopsInput}
 use Rattle.hunk_run.specs.Stores.{MadeFile, bytes_of_input}
 use Rattle.hunk_run.specs.declared.TheConstants.{FILE_BYTES}
-use Rattle.hunk_run.specs.declared.listing.Listing.{Listing}
+use Rattle.hunk_run.specs.Wide.{IsUnread}
+use Rattle.hunk_run.specs.declared.note.Ended.{Ended}
+use Rattle.hunk_run.specs.declared.listing.{Form.{Form}, Listing.{Listing}}
 use Rattle.hunk_run.proofs.Noting.{bound_noted, notes_listing, notes_refusal, notes_rewriting, prints_no_help, tells_noted, unheard}
 use Rattle.hunk_run.proofs.Stopping.{ListsOrder, listing_ends, makes_out, refusal_ends, rewriting_ends}
 use Rattle.hunk_run.proofs.run.Given.{Over}
@@ -22,7 +24,7 @@ use Rattle.hunk_run.proofs.run.Goals as goal
 
 -- the input is listed, as the order asks
 
-module _ (g : Over) (c : goal.After-end_listing g) where
+module _ (g : Over) (c : goal.After-with_spelled-2 g) where
   abbrev made : Option MadeFile
   made = g.S.Store.made c.args.store
 
@@ -31,46 +33,60 @@ module _ (g : Over) (c : goal.After-end_listing g) where
   known name = bytes_of_input (g.S.Store.holdings c.args.store) made name
 
   abbrev Ends : Order → Type 0
-  Ends order = EndsOrder g.W.Sink.outlet c.args.out.now c.end_listing.new.out made made FILE_BYTES (known (input_of order)) order c.end_listing.result
+  Ends order = EndsOrder g.W.Sink.outlet c.args.out.now c.end_listing-ended.new.out made made FILE_BYTES (known (input_of order)) order c.with_spelled-2.result
 
-  abbrev Lists : (Listing × Bool × Option (List ℕ)) → Type 0
+  abbrev Lists : (Listing × Form × Option (List ℕ)) → Type 0
   Lists asked =
-      (c.match-order-2.listing.2 ≡ asked.2)
-      × IfOk c.list_file-answer.result.0 (λ status. status ≡ 0 → ListsInput g.W.Sink.outlet asked.1 asked.0 (known asked.2) c.args.out.now c.list_file-answer.new.out)
-      × IfErr c.list_file-answer.result.0 (λ fault. ¬ IsWrite fault → StopsInput (known asked.2) (λ before after. StopsSource asked.1 asked.0 before after FILE_BYTES) fault)
-      × (HasInput asked.1 asked.0 (unread (known asked.2)) FILE_BYTES → c.list_file-answer.result.1 ≡ None → (g.W.Sink.outlet c.list_file-answer.new.out.sink).failed ≡ false →
+      ((c.match-order-2.listing.2 ≡ asked.2) × (c.match-order-2.listing.1 ≡ asked.1))
+      × IfOk c.list_file-answer.result.0 (λ status. status ≡ 0 → ListsInput g.W.Sink.outlet asked.1.hex asked.1.wide asked.0 (known asked.2) c.args.out.now c.list_file-answer.new.out)
+      × IfErr c.list_file-answer.result.0 (λ fault. ¬ IsWrite fault → StopsInput (known asked.2) (λ before after. StopsAsked asked.1.hex asked.1.wide asked.0 before after FILE_BYTES) fault)
+      × (HasAsked asked.1.hex asked.1.wide asked.0 (unread (known asked.2)) FILE_BYTES → c.list_file-answer.result.1 ≡ None → (g.W.Sink.outlet c.list_file-answer.new.out.sink).failed ≡ false →
       IfErr c.list_file-answer.result.0 (λ fault. fault ≡ Memory))
+      × SaysInput asked.1.hex asked.1.wide FILE_BYTES (known asked.2) asked.2 (IsErrAnd c.list_file-answer.result.0 IsUnread) c.list_file-answer.result.2
+
+  -- what is said of the spelling changes nothing else
+  and_said : (Holds : Ended → Type 0) → Holds (ended_with c.list_file-answer.result.2 c.end_listing-ended.result) → Holds c.with_spelled-2.result
+  and_said Holds holds = subst Holds (sym c.with_spelled-2.ensures) holds
 
   listed : Ends c.in-Ok.order
   listed =
-      let lists : Lists c.match-order-2.listing = (refl, c.list_file-answer.ensures.done, c.list_file-answer.ensures.stops, c.list_file-answer.ensures.succeeds) in
-      let for : (order : Order) → c.in-Ok.order ≡ order → output_of order ≡ None →
-      SaysLeftOut g.W.Sink.outlet c.args.out.now c.end_listing.new.out made made FILE_BYTES (known (input_of order)) order None →
+      let lists : Lists c.match-order-2.listing = ((refl, refl), c.list_file-answer.ensures.done, c.list_file-answer.ensures.stops, c.list_file-answer.ensures.succeeds, c.list_file-answer.ensures.spelled) in
+      let for : (order : Order) → c.in-Ok.order ≡ order → output_of order ≡ None → c.match-order-2.listing.1.wide ≡ is_wide order →
+      SaysLeftOut g.W.Sink.outlet c.args.out.now c.end_listing-ended.new.out made made FILE_BYTES (known (input_of order)) order None →
       ListsOrder g.W.Sink.outlet c.args.out.now c.list_file-answer.new.out made FILE_BYTES (known (input_of order)) order c.list_file-answer.result.0 c.match-order-2.listing.2
-      c.list_file-answer.result.1 → Ends c.in-Ok.order =
-      λ order is none unsaid all.
-      subst Ends (sym is)
-      (listing_ends g.W.Sink.outlet c.args.out.now c.list_file-answer.new.out c.end_listing.new.out made FILE_BYTES (known (input_of order)) order c.list_file-answer.result.0
-      c.match-order-2.listing.2 c.list_file-answer.result.1 c.end_listing.result c.list_file-answer.ensures.outcome c.end_listing.ensures c.list_file-answer.ensures.cause none unsaid all) in
+      c.list_file-answer.result.1 →
+      SaysSpelled FILE_BYTES (known (input_of order)) order (IsErrAnd c.list_file-answer.result.0 IsUnread) c.list_file-answer.result.2 → Ends c.in-Ok.order =
+      λ order is none flag unsaid all says.
+      subst Ends (sym is) (and_said (λ (e : Ended). EndsOrder g.W.Sink.outlet c.args.out.now c.end_listing-ended.new.out made made FILE_BYTES (known (input_of order)) order e)
+      (listing_ends g.W.Sink.outlet c.args.out.now c.list_file-answer.new.out c.end_listing-ended.new.out made FILE_BYTES (known (input_of order)) order c.list_file-answer.result.0
+      c.match-order-2.listing.2 c.list_file-answer.result.1 c.match-order-2.listing.1.wide c.end_listing-ended.result c.list_file-answer.result.2 c.list_file-answer.ensures.outcome
+      c.end_listing-ended.ensures c.list_file-answer.ensures.cause none flag unsaid all says)) in
       elim c.match-order-2.branch [
-        | in-Show w ↦ for (Show w.in-Show.hex w.in-Show.file) w.in-Show.is refl refl (subst Lists w.listing-is lists)
-        | in-Validate w ↦ for (Validate w.in-Validate.hex w.in-Validate.file) w.in-Validate.is refl refl (subst Lists w.listing-is lists)
-        | in-Relocate w ↦ for (Relocate w.in-Relocate.hex w.in-Relocate.base w.in-Relocate.budget w.in-Relocate.file) w.in-Relocate.is refl refl (subst Lists w.listing-is lists)
+        | in-Show w ↦
+            let (same, done, stops, memory, says) = subst Lists w.listing-is lists in
+            for (Show w.in-Show.hex w.in-Show.wide w.in-Show.file) w.in-Show.is refl (ap (λ (f : Form). f.wide) same.1) refl (same.0, done, stops, memory) says
+        | in-Validate w ↦
+            let (same, done, stops, memory, says) = subst Lists w.listing-is lists in
+            for (Validate w.in-Validate.hex w.in-Validate.wide w.in-Validate.file) w.in-Validate.is refl (ap (λ (f : Form). f.wide) same.1) refl (same.0, done, stops, memory) says
+        | in-Relocate w ↦
+            let (same, done, stops, memory, says) = subst Lists w.listing-is lists in
+            for (Relocate w.in-Relocate.hex w.in-Relocate.wide w.in-Relocate.base w.in-Relocate.budget w.in-Relocate.file) w.in-Relocate.is refl (ap (λ (f : Form). f.wide) same.1) refl (same.0, done, stops, memory) says
       ]
 
-  noted : Notes g.W.Sink.outlet c.args.out.now c.end_listing.new.out c.end_listing.result.status c.end_listing.result.note
-  noted =
-      notes_listing g.W.Sink.outlet c.args.out.now c.list_file-answer.new.out c.end_listing.new.out c.match-order-2.listing.2 c.list_file-answer.result.1 c.end_listing.result
-      c.list_file-answer.result.0 c.list_file-answer.ensures.outcome c.end_listing.ensures
+  noted : Notes g.W.Sink.outlet c.args.out.now c.end_listing-ended.new.out c.with_spelled-2.result.status c.with_spelled-2.result.note
+  noted = and_said (λ (e : Ended). Notes g.W.Sink.outlet c.args.out.now c.end_listing-ended.new.out e.status e.note)
+      (notes_listing g.W.Sink.outlet c.args.out.now c.list_file-answer.new.out c.end_listing-ended.new.out c.match-order-2.listing.2 c.list_file-answer.result.1 c.match-order-2.listing.1.wide
+      c.end_listing-ended.result
+      c.list_file-answer.result.0 c.list_file-answer.ensures.outcome c.end_listing-ended.ensures)
 
   asked : (order : Order) → order_of (map string_bytes c.args.words.now) ≡ Some order → c.in-Ok.order ≡ order
   asked order is = let own = c.in-Ok.ensures.order in cc
 
 pub returns-clause-bound : goal.returns-clause-bound
-returns-clause-bound g c = bound_noted g.W.Sink.outlet c.args.out.now c.end_listing.new.out _ _ (noted g c)
+returns-clause-bound g c = bound_noted g.W.Sink.outlet c.args.out.now c.end_listing-ended.new.out _ _ (noted g c)
 
 pub returns-clause-tells : goal.returns-clause-tells
-returns-clause-tells g c = tells_noted g.W.Sink.outlet c.args.out.now c.end_listing.new.out _ _ (noted g c)
+returns-clause-tells g c = tells_noted g.W.Sink.outlet c.args.out.now c.end_listing-ended.new.out _ _ (noted g c)
 
 pub returns-clause-ordered : goal.returns-clause-ordered
 returns-clause-ordered g c = λ order takes is. subst (Ends g c) (asked g c order is) (listed g c)
@@ -86,7 +102,7 @@ returns-clause-notes g c = noted g c
 
 -- the file is rewritten, as the order asks
 
-module _ (g : Over) (c : goal.After-end_rewriting g) where
+module _ (g : Over) (c : goal.After-with_spelled g) where
   abbrev then_made : Option MadeFile
   then_made = g.S.Store.made c.rewrite_file-store.result.0
 
@@ -94,29 +110,33 @@ module _ (g : Over) (c : goal.After-end_rewriting g) where
   known_of order = bytes_of_input (g.S.Store.holdings c.args.store) (g.S.Store.made c.args.store) (input_of order)
 
   abbrev EndsToo : Order → Type 0
-  EndsToo order = EndsOrder g.W.Sink.outlet c.args.out.now c.end_rewriting.new.out (g.S.Store.made c.args.store) then_made FILE_BYTES (known_of order) order c.end_rewriting.result
+  EndsToo order = EndsOrder g.W.Sink.outlet c.args.out.now c.end_rewriting-ended.new.out (g.S.Store.made c.args.store) then_made FILE_BYTES (known_of order) order c.with_spelled.result
 
   rewritten : EndsToo c.in-Ok.order
   rewritten =
       subst EndsToo (sym c.in-Rewrite.is)
-      (rewriting_ends g.W.Sink.outlet c.args.out.now c.end_rewriting.new.out (g.S.Store.made c.args.store) then_made FILE_BYTES
-      (known_of (Rewrite c.in-Rewrite.strip c.in-Rewrite.input c.in-Rewrite.output)) c.in-Rewrite.strip c.rewrite_file-store.result.1 c.in-Rewrite.input c.in-Rewrite.output
-      c.rewrite_file-store.result.2 c.end_rewriting.result c.end_rewriting.ensures c.rewrite_file-store.ensures.rewrites c.rewrite_file-store.ensures.write
-      c.rewrite_file-store.ensures.untouched c.rewrite_file-store.ensures.stops c.rewrite_file-store.ensures.cause c.rewrite_file-store.ensures.succeeds)
+      (subst (λ (e : Ended). EndsOrder g.W.Sink.outlet c.args.out.now c.end_rewriting-ended.new.out (g.S.Store.made c.args.store) then_made FILE_BYTES
+      (known_of (Rewrite c.in-Rewrite.strip c.in-Rewrite.wide c.in-Rewrite.input c.in-Rewrite.output))
+      (Rewrite c.in-Rewrite.strip c.in-Rewrite.wide c.in-Rewrite.input c.in-Rewrite.output) e) (sym c.with_spelled.ensures)
+      (rewriting_ends g.W.Sink.outlet c.args.out.now c.end_rewriting-ended.new.out (g.S.Store.made c.args.store) then_made FILE_BYTES
+      (known_of (Rewrite c.in-Rewrite.strip c.in-Rewrite.wide c.in-Rewrite.input c.in-Rewrite.output)) c.in-Rewrite.strip c.in-Rewrite.wide c.rewrite_file-store.result.1 c.in-Rewrite.input c.in-Rewrite.output
+      c.rewrite_file-store.result.2 c.end_rewriting-ended.result c.rewrite_file-store.result.3 c.end_rewriting-ended.ensures c.rewrite_file-store.ensures.rewrites c.rewrite_file-store.ensures.write
+      c.rewrite_file-store.ensures.untouched c.rewrite_file-store.ensures.stops c.rewrite_file-store.ensures.cause c.rewrite_file-store.ensures.succeeds c.rewrite_file-store.ensures.spelled))
 
-  rewriting_noted : Notes g.W.Sink.outlet c.args.out.now c.end_rewriting.new.out c.end_rewriting.result.status c.end_rewriting.result.note
+  rewriting_noted : Notes g.W.Sink.outlet c.args.out.now c.end_rewriting-ended.new.out c.with_spelled.result.status c.with_spelled.result.note
   rewriting_noted =
-      notes_rewriting g.W.Sink.outlet c.args.out.now c.end_rewriting.new.out c.rewrite_file-store.result.1 c.in-Rewrite.input c.in-Rewrite.output
-      c.rewrite_file-store.result.2 c.end_rewriting.result c.end_rewriting.ensures
+      subst (λ (e : Ended). Notes g.W.Sink.outlet c.args.out.now c.end_rewriting-ended.new.out e.status e.note) (sym c.with_spelled.ensures)
+      (notes_rewriting g.W.Sink.outlet c.args.out.now c.end_rewriting-ended.new.out c.in-Rewrite.wide c.rewrite_file-store.result.1 c.in-Rewrite.input c.in-Rewrite.output
+      c.rewrite_file-store.result.2 c.end_rewriting-ended.result c.end_rewriting-ended.ensures)
 
   rewriting_asked : (order : Order) → order_of (map string_bytes c.args.words.now) ≡ Some order → c.in-Ok.order ≡ order
   rewriting_asked order is = let own = c.in-Ok.ensures.order in cc
 
 pub returns-in-Rewrite-clause-bound : goal.returns-in-Rewrite-clause-bound
-returns-in-Rewrite-clause-bound g c = bound_noted g.W.Sink.outlet c.args.out.now c.end_rewriting.new.out _ _ (rewriting_noted g c)
+returns-in-Rewrite-clause-bound g c = bound_noted g.W.Sink.outlet c.args.out.now c.end_rewriting-ended.new.out _ _ (rewriting_noted g c)
 
 pub returns-in-Rewrite-clause-tells : goal.returns-in-Rewrite-clause-tells
-returns-in-Rewrite-clause-tells g c = tells_noted g.W.Sink.outlet c.args.out.now c.end_rewriting.new.out _ _ (rewriting_noted g c)
+returns-in-Rewrite-clause-tells g c = tells_noted g.W.Sink.outlet c.args.out.now c.end_rewriting-ended.new.out _ _ (rewriting_noted g c)
 
 pub returns-in-Rewrite-clause-ordered : goal.returns-in-Rewrite-clause-ordered
 returns-in-Rewrite-clause-ordered g c = λ order takes is. subst (EndsToo g c) (rewriting_asked g c order is) (rewritten g c)
@@ -126,7 +146,7 @@ returns-in-Rewrite-clause-heard g c = λ no_help no_version zero. (c.in-Ok.order
 
 pub returns-in-Rewrite-clause-makes : goal.returns-in-Rewrite-clause-makes
 returns-in-Rewrite-clause-makes g c =
-    makes_out (g.S.Store.made c.args.store) (then_made g c) FILE_BYTES (known_of g c (Rewrite c.in-Rewrite.strip c.in-Rewrite.input c.in-Rewrite.output)) c.in-Rewrite.strip
+    makes_out (g.S.Store.made c.args.store) (then_made g c) FILE_BYTES (known_of g c (Rewrite c.in-Rewrite.strip c.in-Rewrite.wide c.in-Rewrite.input c.in-Rewrite.output)) c.in-Rewrite.strip c.in-Rewrite.wide
     c.in-Rewrite.output _ c.in-Rewrite.input c.rewrite_file-store.result.1 (c.in-Ok.ensures.order ∙ ap Some c.in-Rewrite.is) c.rewrite_file-store.ensures.rewrites
     c.rewrite_file-store.ensures.write c.rewrite_file-store.ensures.untouched
 

@@ -1,14 +1,14 @@
 use Rattle.std.proofs.Common.{◌≡◌, ◌∙◌, ◌+◌, ℕ, false, true, List, Option, Some, Result, Ok, Err, inr, ap, refl, subst, sym, rules}
-use Rattle.std.specs.Prelude.{IfErr, IfOk, IfSome}
-use Rattle.std.proofs.KnownBytes.{Consumes-whole}
+use Rattle.std.specs.Prelude.{IfErr, IfOk}
 use Rattle.hunk_words.specs.Carriers.{Outlet, Supply, Writing}
 use Rattle.hunk_commands.specs.Faults.{IsWrite}
 use Rattle.hunk_commands.specs.declared.fault.RunFault.{RunFault}
 use Rattle.hunk_run.specs.declared.listing.Listing.{Listing}
-use Rattle.hunk_commands.specs.HexText.{ReadsHex, SpellsHex}
+use Rattle.hunk_commands.specs.HexText.{ReadsHex}
 use Rattle.hunk_run.specs.Inputs.{HasListed, slice}
 use Rattle.hunk_run.specs.Refusals.{StopsListing, StopsText}
 use Rattle.hunk_run.specs.Runs.{ListsSource}
+use Rattle.hunk_run.proofs.Plainly.{same_bytes}
 use Rattle.hunk_run.proofs.Telling.{lists_text}
 use Rattle.hunk_run.proofs.listing.list_text.Goals as goal
 
@@ -34,13 +34,6 @@ stops_where listing before after given rest bytes most (Err fault) read known st
       rest = rest;
       stops = subst (λ (xs : List ℕ). StopsListing listing (slice xs) (slice rest) most fault) known (stops other);
     })
-
--- a text that was read to its end spells no other bytes
-same_bytes : (before after : Supply) (most : ℕ) (text bytes items : List ℕ) → before.left ≡ Some text → SpellsHex text bytes → ReadsHex before after most items → bytes ≡ items
-same_bytes before after most text bytes items known spells read =
-    let whole = Consumes-whole before.left after.left read.input (λ xs. SpellsHex xs items) read.read.given read.read.at_end read.holds in
-    let also : SpellsHex text items = subst (λ (o : Option (List ℕ)). IfSome o (λ xs. SpellsHex xs items)) known whole in
-    cc
 
 pub returns : goal.returns
 returns g c =

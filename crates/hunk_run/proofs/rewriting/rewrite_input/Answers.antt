@@ -2,7 +2,7 @@ use Rattle.std.proofs.Common.{rules, ◌≡◌, ℕ, Result, Ok, Err}
 use Rattle.std.specs.Prelude.{IfErr}
 use Rattle.hunk_commands.specs.declared.fault.RunFault.{RunFault}
 use Rattle.hunk_commands.specs.declared.fault.RunFault.TheVariants.{Write}
-use Rattle.hunk_run.proofs.rewriting.rewrite_file.Goals as goal
+use Rattle.hunk_run.proofs.rewriting.rewrite_input.Goals as goal
 
 -- what is known after a fault of writing
 after_write : {T : Type 0} (answer : Result T RunFault) (Known Holds : ℕ → Type 0) → ((written : ℕ) → Known written → Holds written) →
