@@ -34,7 +34,12 @@ pub struct Seen {
 ///
 /// The words are others, the text spells no load file within the limits, or memory ran out.
 pub fn tour(alloc: Global, words: &[String], text: &str) -> anyhow::Result<Seen> {
-    let Order::Validate { hex: true, file: _ } = order(alloc, words)? else {
+    let Order::Validate {
+        hex: true,
+        wide: false,
+        file: _,
+    } = order(alloc, words)?
+    else {
         bail!("another order");
     };
     let bytes = unhex(alloc, text.as_bytes())?;

@@ -20,7 +20,11 @@ fn words_of(rt: &HostRuntime) -> Result<Vec<String>, OrderFault> {
 
 fn main(rt: HostRuntime) -> ExitCode {
     let mut out = LongWriter::new(FromWrite::new(io::writer(&rt)));
-    let Ended { status, note } = match words_of(&rt) {
+    let Ended {
+        status,
+        spelled,
+        note,
+    } = match words_of(&rt) {
         Ok(words) => {
             let store = Host::new(&rt);
             let (ended, _store) = hunk_run::run(store, rt.alloc(), words.as_slice(), &mut out);
@@ -28,11 +32,14 @@ fn main(rt: HostRuntime) -> ExitCode {
         }
         Err(fault) => hunk_run::refuse(fault, &mut out),
     };
+    // A standard error that fails changes nothing.
+    if let Some(spelled) = spelled {
+        let _ = eprint!(rt; "{spelled}");
+    }
     let Some(note) = note else {
         return ExitCode::from(status);
     };
     let note = note.with_cause(out.into_inner().error());
-    // A standard error that fails changes nothing.
     let _ = eprint!(rt; "{note}");
     ExitCode::from(status)
 }

@@ -234,6 +234,7 @@ fn asks_to_show(alloc: Global, words: &[String]) -> Result<bool, OrderFault> {
         asked,
         Order::Show {
             hex: false,
+            wide: false,
             file: None
         }
     ))

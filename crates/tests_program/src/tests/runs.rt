@@ -9,6 +9,7 @@ mod orders;
 mod printed;
 mod rewriting;
 mod stores;
+mod wide;
 
 use crate::tests::asserts::assert_equal_at;
 use crate::tests::line::split;
@@ -58,9 +59,13 @@ fn ran(alloc: Global, given: Given<'_>, room: usize, line: &str) -> Result<Outco
     };
     let mut out = LongWriter::new(Kept::new(alloc, room));
     let (ended, _store) = run(Host::new(&made), alloc, words.as_slice(), &mut out);
-    let said = match &ended.note {
-        Some(note) => format!(in alloc; "{note}")?,
+    let spelled = match &ended.spelled {
+        Some(spelled) => format!(in alloc; "{spelled}")?,
         None => String::new(alloc),
+    };
+    let said = match &ended.note {
+        Some(note) => format!(in alloc; "{spelled}{note}")?,
+        None => spelled,
     };
     Ok(Outcome {
         status: ended.status,

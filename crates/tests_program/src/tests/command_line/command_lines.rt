@@ -16,34 +16,36 @@ fn name_of(name: &Option<FileName>) -> &str {
 /// The order as a line of text.
 fn text_of(alloc: Global, asked: &Result<Order, OrderFault>) -> Result<String, AllocError> {
     match asked {
-        Ok(Order::Show { hex, file }) => {
+        Ok(Order::Show { hex, wide, file }) => {
             let file = name_of(file);
-            format!(in alloc; "show {hex} {file}")
+            format!(in alloc; "show {hex} {wide} {file}")
         }
-        Ok(Order::Validate { hex, file }) => {
+        Ok(Order::Validate { hex, wide, file }) => {
             let file = name_of(file);
-            format!(in alloc; "validate {hex} {file}")
+            format!(in alloc; "validate {hex} {wide} {file}")
         }
         Ok(
             Order::Relocate {
                 hex,
+                wide,
                 base,
                 budget,
                 file,
             },
         ) => {
             let file = name_of(file);
-            format!(in alloc; "relocate {hex} {base:08x} {budget} {file}")
+            format!(in alloc; "relocate {hex} {wide} {base:08x} {budget} {file}")
         }
         Ok(
             Order::Rewrite {
                 strip,
+                wide,
                 input,
                 output,
             },
         ) => {
             let (input, output) = (input.as_str(), output.as_str());
-            format!(in alloc; "rewrite {strip} {input} {output}")
+            format!(in alloc; "rewrite {strip} {wide} {input} {output}")
         }
         Err(OrderFault::Help(_)) => format!(in alloc; "help"),
         Err(OrderFault::Version) => format!(in alloc; "version"),
@@ -69,22 +71,25 @@ fn expect(rt: &impl Abort, alloc: Global, words: &[&str], want: &str) -> Result<
 }
 
 const ORDERS: &[(&[&str], &str)] = &[
-    (&["show"], "show false (standard input)"),
-    (&["show", "--hex", "a"], "show true a"),
-    (&["show", "a", "--hex"], "show true a"),
-    (&["show", "-"], "show false -"),
-    (&["show", "--", "--hex"], "show false --hex"),
-    (&["validate", "--hex"], "validate true (standard input)"),
-    (&["validate", "a b"], "validate false a b"),
+    (&["show"], "show false false (standard input)"),
+    (&["show", "--hex", "a"], "show true false a"),
+    (&["show", "a", "--hex"], "show true false a"),
+    (&["show", "-"], "show false false -"),
+    (&["show", "--", "--hex"], "show false false --hex"),
+    (
+        &["validate", "--hex"],
+        "validate true false (standard input)",
+    ),
+    (&["validate", "a b"], "validate false false a b"),
     (
         &["relocate", "--base", "00021000"],
-        "relocate false 00021000 16777216 (standard input)",
+        "relocate false false 00021000 16777216 (standard input)",
     ),
     (
         &[
             "relocate", "--hex", "--base", "fFfFfFfF", "--budget", "0004", "a",
         ],
-        "relocate true ffffffff 4 a",
+        "relocate true false ffffffff 4 a",
     ),
     (
         &[
@@ -93,7 +98,7 @@ const ORDERS: &[(&[&str], &str)] = &[
             "--budget=18446744073709551615",
             "--base=0009ABCD",
         ],
-        "relocate false 0009abcd 18446744073709551615 a",
+        "relocate false false 0009abcd 18446744073709551615 a",
     ),
     (
         &[
@@ -103,12 +108,26 @@ const ORDERS: &[(&[&str], &str)] = &[
             "--budget",
             "0000000000000000000000000",
         ],
-        "relocate false 00000000 0 (standard input)",
+        "relocate false false 00000000 0 (standard input)",
     ),
-    (&["rewrite", "a", "b"], "rewrite false a b"),
-    (&["rewrite", "--strip", "a", "b"], "rewrite true a b"),
-    (&["rewrite", "a", "b", "--strip"], "rewrite true a b"),
-    (&[], "relocate true 00000000 16777216 (standard input)"),
+    (&["rewrite", "a", "b"], "rewrite false false a b"),
+    (&["rewrite", "--strip", "a", "b"], "rewrite true false a b"),
+    (&["rewrite", "a", "b", "--strip"], "rewrite true false a b"),
+    (
+        &[],
+        "relocate true false 00000000 16777216 (standard input)",
+    ),
+    (&["show", "--wide"], "show false true (standard input)"),
+    (&["validate", "a", "--wide"], "validate false true a"),
+    (
+        &["relocate", "--wide", "--base", "00000000", "--hex"],
+        "relocate true true 00000000 16777216 (standard input)",
+    ),
+    (&["rewrite", "--wide", "a", "b"], "rewrite false true a b"),
+    (
+        &["rewrite", "a", "--strip", "b", "--wide"],
+        "rewrite true true a b",
+    ),
 ];
 
 #[test]

@@ -204,6 +204,7 @@ fn said_of(alloc: Global, fault: RunFault) -> Result<String, Fail> {
         name: None,
         cause: None,
         untouched: None,
+        wide: false,
     };
     Ok(format!(in alloc; "{note}")?)
 }

@@ -46,20 +46,23 @@ const HELP: &[(&str, &str)] = &[
     ),
     (
         "hunkinfo --help",
-        "show|validate|relocate|rewrite|Examples:|64 MiB|UTF-8|Exit status:|  0  |  1  |  2  |  3  |  4  ",
+        "show|validate|relocate|rewrite|--wide|Examples:|64 MiB|UTF-8|Exit status:|  0  |  1  |  2  |  3  |  4  ",
     ),
-    ("hunkinfo help show", "--hex|[FILE]|  hunkinfo show prog\n"),
+    (
+        "hunkinfo help show",
+        "--hex|--wide|[FILE]|  hunkinfo show prog\n|  hunkinfo show --wide prog\n",
+    ),
     (
         "hunkinfo help validate",
-        "--hex|[FILE]|  hunkinfo validate part.o",
+        "--hex|--wide|[FILE]|  hunkinfo validate part.o",
     ),
     (
         "hunkinfo help relocate",
-        "--hex|--base <HEX>|--budget <N>|16777216|[FILE]|  hunkinfo relocate --base 00021000 ",
+        "--hex|--wide|--base <HEX>|--budget <N>|16777216|[FILE]|  hunkinfo relocate --base 00021000 ",
     ),
     (
         "hunkinfo rewrite --help",
-        "--strip|<IN>|<OUT>|incomplete|mv IN.new IN|  hunkinfo rewrite --strip prog ",
+        "--strip|--wide|<IN>|<OUT>|incomplete|mv IN.new IN|  hunkinfo rewrite --strip prog ",
     ),
 ];
 
