@@ -22,6 +22,8 @@ use Rattle.hunk_c.specs.Loads as loads
 use Rattle.hunk_c.specs.Loads.{Loads, IsNotLoaded}
 use Rattle.hunk_c.specs.LoadsAt.{LoadsAt, IsNotLoadedAt, HasNoFileAt, HasNoBaseAt}
 use Rattle.hunk_c.specs.Names.{IsMeaningOf, IsNameOf, Means, Names, PutsText, HasText, HasNoText, OfReason, OfNoRoom, OfStrange, OfNone, MeansReason, MeansNoRoom, MeansStrange, MeansNothing}
+use Rattle.hunk_c.specs.Plains as plains
+use Rattle.hunk_c.specs.Plains.{Plains}
 use Rattle.hunk_c.specs.Rows as lists
 use Rattle.hunk_c.specs.Rows.{Lists}
 use Rattle.hunk_c.specs.Streams.{Begins, HasBegun, LacksRoom, FitsNot, Ends, IsWhole, IsCutShort, HasNoEnd, Feeds, HasTaken, HasRefused, HadRefused, IsStrange, Wants, HasWant, HasNoWant}
@@ -125,6 +127,10 @@ pub list_told : {A : Type 0} (rows : HunkFile → List A) (count : ℕ → ℕ) 
 list_told rows count bytes old new a (lists.HasRows file is fits n e) = told_by a _ e refl
 list_told rows count bytes old new a (lists.HasNoRoom file is less n e) = told_by a _ e refl
 list_told rows count bytes old new a (lists.HasNoFile f h n e) = told_by a _ e (of_refusal _ bytes f h.0)
+
+pub plain_told : (bytes old new : List ℕ) (a : Answer) → Plains bytes old new a → Told a
+plain_told bytes old new a (plains.IsWritten fits n e) = told_by a _ e refl
+plain_told bytes old new a (plains.HasNoRoom less n e) = told_by a _ e refl
 
 pub words_told : (words old new : List ℕ) (a : Answer) → PutsText words old new a → Told a
 words_told words old new a (HasText fits n e) = told_by a _ e refl

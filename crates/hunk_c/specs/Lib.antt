@@ -11,6 +11,7 @@ pub mod Loads
 pub mod LoadsAt
 pub mod Names
 pub mod Packs
+pub mod Plains
 pub mod References
 pub mod Relocations
 pub mod Rows

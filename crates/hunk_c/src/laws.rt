@@ -1,5 +1,5 @@
 //! Laws over what calls answer: each function does nothing, and its contract is the law.
-ghost use Rattle.std.specs.Prelude.{◌≡◌, ◌≤◌, ℕ, List, length};
+ghost use Rattle.std.specs.Prelude.{◌≡◌, ◌*◌, ◌≤◌, ℕ, List, length};
 ghost use Rattle.hunk_files.specs.HunkFile.{IsFileOf, file_bytes};
 ghost use Rattle.hunk_files.specs.declared.hunk_file.HunkFile.{HunkFile};
 ghost use Rattle.hunk_files.specs.declared.row.Row.{Row};
@@ -10,6 +10,7 @@ ghost use Rattle.hunk_c.specs.Loaders.{no_loader};
 ghost use Rattle.hunk_c.specs.Loads.{Loads};
 ghost use Rattle.hunk_c.specs.LoadsAt.{LoadsAt};
 ghost use Rattle.hunk_c.specs.Names.{Means, Names};
+ghost use Rattle.hunk_c.specs.Plains.{Plains};
 ghost use Rattle.hunk_c.specs.Rows.{Tabulates};
 ghost use Rattle.hunk_c.specs.Streams.{Begins, Ends, Feeds, Wants};
 ghost use Rattle.hunk_c.specs.Strips.{Strips};
@@ -36,6 +37,7 @@ pub fn answered_numbers()
     ensures check { (bytes : List ℕ) (old new : List FindingRow)
         → AreAnswered (Checks bytes old new) }
     ensures strip { (bytes old new : List ℕ) → AreAnswered (Strips bytes old new) }
+    ensures plain { (bytes old new : List ℕ) → AreAnswered (Plains bytes old new) }
     ensures name { (number : ℕ) (old new : List ℕ) → AreAnswered (Names number old new) }
     ensures meaning { (number : ℕ) (old new : List ℕ) → AreAnswered (Means number old new) }
 {}
@@ -51,6 +53,12 @@ pub fn room_for_stripped()
     ensures { (bytes old new : List ℕ) (answer : Answer) → Strips bytes old new answer
         → (file : HunkFile) → IsFileOf bytes file → length (file_bytes file) ≤ length old
         → answer.number ≡ 0 }
+{}
+
+/// Twice as many bytes as an input has are room for its plain spelling.
+pub fn room_for_plain()
+    ensures { (bytes old new : List ℕ) (answer : Answer) → Plains bytes old new answer
+        → 2 * length bytes ≤ length old → answer.number ≡ 0 }
 {}
 
 /// The longest name of a number, and the longest sentence of what one means.

@@ -20,6 +20,7 @@ mod name;
 mod packed;
 mod phases;
 mod places;
+mod plain;
 mod reason;
 mod references;
 mod relocations;
@@ -36,12 +37,13 @@ pub use crate::blocks::{BlockRow, hunk_blocks};
 pub use crate::check::{FindingRow, hunk_check};
 pub use crate::entries::{EntryRow, hunk_entries};
 pub use crate::laws::{
-    answered_numbers, answered_numbers_of_items, longest_words, room_for_stripped,
+    answered_numbers, answered_numbers_of_items, longest_words, room_for_plain, room_for_stripped,
     strange_after_no_begin,
 };
 pub use crate::load::{hunk_load, hunk_load_packed};
 pub use crate::load_at::hunk_load_at;
 pub use crate::loader::Loader;
+pub use crate::plain::{SpellingRow, hunk_input_place, hunk_plain, hunk_spelling_of};
 pub use crate::reason::{hunk_reason, hunk_reason_text};
 pub use crate::references::{ReferenceRow, hunk_references};
 pub use crate::relocations::{RelocationRow, hunk_relocations};
