@@ -1,8 +1,6 @@
 -- Load files in other spellings.
 use Rattle.std.specs.Prelude.{◌≡◌, ℕ, ◌<◌, ◌≤◌, List, ◌++◌, length, drop}
-use Rattle.hunk_grammar.specs.declared.position.Position.TheVariants.{FirstLong}
-use Rattle.hunk_wide.specs.declared.spot.Spot.TheVariants.{Long}
-use Rattle.hunk_wide.specs.Places.{place_from}
+use Rattle.hunk_wide.specs.Places.{place_of}
 use Rattle.hunk_wide.specs.Plain.{plain}
 use Rattle.hunk_wide.specs.Spellings.{ends_of, short_blocks_of}
 use Rattle.hunk_c.specs.declared.answer.Answer.{Answer}
@@ -19,7 +17,3 @@ pub data Plains (bytes old new : List ℕ) (answer : Answer) : Type 0 where
 -- how an input spells its file
 abbrev pub spelling : List ℕ → SpellingRow
 spelling bytes = record { bytes = length (plain bytes); short_blocks = short_blocks_of bytes; ends = ends_of bytes; reserved = 0 }
-
--- The byte of the input for which this byte of the plain spelling is given out.
-abbrev pub input_place : List ℕ → ℕ → ℕ
-input_place bytes place = place_from (Long FirstLong) bytes place

@@ -1,7 +1,8 @@
 //! Load files in other spellings: their plain spelling, and what they have otherwise.
 ghost use Rattle.std.specs.Prelude.{◌≡◌, ◌*◌, ◌≤◌, length};
 ghost use Rattle.hunk_wide.specs.Plain.{plain};
-ghost use Rattle.hunk_c.specs.Plains.{Plains, input_place, spelling};
+ghost use Rattle.hunk_wide.specs.Places.{place_of};
+ghost use Rattle.hunk_c.specs.Plains.{Plains, spelling};
 
 use crate::answer::{Answer, done, no_room};
 use hunk_wide::{NoRoom, place_in, spelling_of, write_plain};
@@ -48,7 +49,7 @@ pub extern "C" fn hunk_plain(bytes: &[u8], text: &mut [u8]) -> Answer
 /// Tells at which byte of the input a byte of its plain spelling stands.
 #[unsafe(no_mangle)]
 pub extern "C" fn hunk_input_place(bytes: &[u8], place: u64) -> u64
-    ensures value { result ≡ input_place bytes.now place }
+    ensures value { result ≡ place_of bytes.now place }
     ensures inside { result ≤ length bytes.now }
 {
     place_in(bytes, place)

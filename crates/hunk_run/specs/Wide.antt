@@ -4,15 +4,13 @@ use Rattle.std.specs.Io.KnownBytes.{Consumes, IsAtEnd}
 use Rattle.hunk_words.specs.Carriers.{Outlet, Supply, Writing, saturated}
 use Rattle.hunk_words.specs.declared.fault.Fault.{Fault}
 use Rattle.hunk_words.specs.declared.reason.Reason.TheVariants as reasons
-use Rattle.hunk_grammar.specs.declared.position.Position.TheVariants.{FirstLong}
 use Rattle.hunk_files.specs.HunkFile.{AreFile}
 use Rattle.hunk_scatter.specs.LoadOutcomes.{HasFileWithin}
 use Rattle.hunk_scatter.specs.Placing.{packed_from}
-use Rattle.hunk_wide.specs.Places.{place_from}
+use Rattle.hunk_wide.specs.Places.{place_of}
 use Rattle.hunk_wide.specs.Plain.{plain}
 use Rattle.hunk_wide.specs.Spellings.{ends_of, short_blocks_of}
 use Rattle.hunk_wide.specs.declared.spelling.Spelling.{Spelling}
-use Rattle.hunk_wide.specs.declared.spot.Spot.TheVariants.{Long}
 use Rattle.hunk_commands.specs.HexText.{ReadsHex, SpellsHex}
 use Rattle.hunk_commands.specs.Inputs.{ReadsInVain, ReadsWhole}
 use Rattle.hunk_commands.specs.Engine.{IsTextOfSome, PutsAll, PutsFirst, StopsAtWrite}
@@ -36,10 +34,6 @@ meant false input = input
 meant true input = plain input
 
 -- ---- the place of a fault
-
--- where in the input a byte of the plain spelling comes from
-abbrev pub place_of : List ℕ → ℕ → ℕ
-place_of input place = place_from (Long FirstLong) input place
 
 abbrev pub fault_at : List ℕ → Fault → Fault
 fault_at input fault = record { place = place_of input fault.place; reason = fault.reason }

@@ -1,6 +1,8 @@
 -- From which byte of a wide spelling a byte of the plain one comes.
 use Rattle.std.specs.Prelude.{◌≡◌, ℕ, zero, suc, ◌+◌, ◌-◌, ◌<◌, ◌≤◌, nat_lt, List, [], ◌∷◌, length, take, drop, min, if◌then◌else◌}
 use Rattle.std.specs.Int.{from_be_bytes, w32}
+use Rattle.hunk_grammar.specs.declared.position.Position.TheVariants as positions
+use Rattle.hunk_wide.specs.declared.position.FilePosition.TheVariants as files
 use Rattle.hunk_wide.specs.declared.spot.Spot.{Spot}
 use Rattle.hunk_wide.specs.declared.spot.Spot.TheVariants.{Passing, Straight, Long, Half, Filler}
 use Rattle.hunk_wide.specs.declared.spot.Given.{Given}
@@ -31,6 +33,10 @@ place_from (Long p) (a ∷ b ∷ c ∷ d ∷ rest) n =
 place_from (Half after part odd) (a ∷ b ∷ rest) n = here_or 2 4 n (place_from (behind_half after part odd (half_of a b)) rest (n - 4))
 place_from (Filler after) (a ∷ b ∷ rest) n = here_or 2 (length (out_filler a b)) n (place_from (behind_filler after a b) rest (n - length (out_filler a b)))
 place_from spot bytes n = 0
+
+-- Where in an input a byte of its plain spelling comes from.
+abbrev pub place_of : List ℕ → ℕ → ℕ
+place_of input place = place_from (Long (files.Load positions.FirstLong)) input place
 
 -- where no whole unit is left before it
 abbrev pub last_place : Spot → List ℕ → ℕ → ℕ

@@ -1,7 +1,7 @@
 //! Places of the plain spelling, and where they are in a wide one.
 ghost use Rattle.std.specs.Prelude.{◌≡◌, ◌+◌, ◌<◌, ◌≤◌, length, min, IfNone, IfSome};
 ghost use Rattle.hunk_grammar.specs.declared.position.Position.TheVariants.{FirstLong};
-ghost use Rattle.hunk_wide.specs.Places.{ComesFrom, count_long, last_place, GoesBy, place_from};
+ghost use Rattle.hunk_wide.specs.Places.{ComesFrom, count_long, last_place, GoesBy, place_from, place_of};
 ghost use Rattle.hunk_wide.specs.declared.position.FilePosition.TheVariants.{Load};
 ghost use Rattle.hunk_wide.specs.declared.spot.Spot.TheVariants.{Filler, Half, Long, Straight};
 
@@ -30,7 +30,7 @@ struct Unit {
 /// longword, or a word of 16 bits. So it is for the place of `Truncated`, which is after the last
 /// whole longword of the plain spelling.
 pub fn place_in(bytes: &[u8], place: u64) -> u64
-    ensures value { result ≡ place_from (Long (Load FirstLong)) bytes.now place }
+    ensures value { result ≡ place_of bytes.now place }
     ensures inside { result ≤ length bytes.now }
     ensures front { ComesFrom (Long (Load FirstLong)) bytes.now place result }
 {
