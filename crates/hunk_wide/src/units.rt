@@ -1,5 +1,5 @@
 //! Bytes of a wide spelling that lie in a piece, given out into a buffer.
-ghost use Rattle.std.specs.Prelude.{◌≡◌, ◌≤◌, ◌*◌, ◌/◌, length, take};
+ghost use Rattle.std.specs.Prelude.{◌≡◌, ◌<◌, ◌≤◌, ◌*◌, ◌/◌, length, take};
 ghost use Rattle.std.specs.Int.{from_be_bytes, w32};
 ghost use Rattle.hunk_wide.specs.Halves.{widened};
 ghost use Rattle.hunk_wide.specs.InFile.{LeadsTo};
@@ -30,6 +30,7 @@ pub(crate) fn expand(spot: Spot, piece: &[u8], buf: &mut [u8]) -> Stretch
     ensures gives { GivesFor spot (take result.taken piece.now) (take result.given buf.new)
         result.next }
     ensures leads { LeadsTo spot (take result.taken piece.now) result.next }
+    ensures some { 4 ≤ length piece.now → 8 ≤ length buf.new → 0 < result.taken }
 {
     let mut all = nothing(spot);
     'units: loop {
@@ -54,6 +55,7 @@ fn expand_unit(spot: Spot, piece: &[u8], buf: &mut [u8]) -> Stretch
     ensures gives { GivesFor spot (take result.taken piece.now) (take result.given buf.new)
         result.next }
     ensures leads { LeadsTo spot (take result.taken piece.now) result.next }
+    ensures some { 4 ≤ length piece.now → 8 ≤ length buf.new → 0 < result.taken }
 {
     match spot {
         Spot::Passing => expand_passing(piece, buf),
@@ -87,6 +89,7 @@ fn expand_passing(piece: &[u8], buf: &mut [u8]) -> Stretch
     ensures gives { GivesFor Passing (take result.taken piece.now) (take result.given buf.new)
         result.next }
     ensures leads { LeadsTo Passing (take result.taken piece.now) result.next }
+    ensures some { 4 ≤ length piece.now → 8 ≤ length buf.new → 0 < result.taken }
 {
     let count = piece.len().min(buf.len());
     buf[..count].copy_from_slice(&piece[..count]);
@@ -104,6 +107,7 @@ fn expand_straight(owed: u64, next: FilePosition, piece: &[u8], buf: &mut [u8]) 
     ensures gives { GivesFor (Straight owed next) (take result.taken piece.now)
         (take result.given buf.new) result.next }
     ensures leads { LeadsTo (Straight owed next) (take result.taken piece.now) result.next }
+    ensures some { 4 ≤ length piece.now → 8 ≤ length buf.new → 0 < result.taken }
 {
     let most = piece.len().min(buf.len()) as u64;
     let count = most.min(owed.saturating_add(1)) as usize;
@@ -122,6 +126,7 @@ fn expand_long(position: FilePosition, piece: &[u8], buf: &mut [u8]) -> Stretch
     ensures gives { GivesFor (Long position) (take result.taken piece.now)
         (take result.given buf.new) result.next }
     ensures leads { LeadsTo (Long position) (take result.taken piece.now) result.next }
+    ensures some { 4 ≤ length piece.now → 8 ≤ length buf.new → 0 < result.taken }
 {
     if piece.len() < 4 || buf.len() < 8 {
         return nothing(Spot::Long(position));
@@ -173,6 +178,7 @@ fn expand_half(
     ensures gives { GivesFor (Half after part is_odd) (take result.taken piece.now)
         (take result.given buf.new) result.next }
     ensures leads { LeadsTo (Half after part is_odd) (take result.taken piece.now) result.next }
+    ensures some { 4 ≤ length piece.now → 8 ≤ length buf.new → 0 < result.taken }
 {
     if piece.len() < 2 || buf.len() < 4 {
         return nothing(Spot::Half {
@@ -208,6 +214,7 @@ fn expand_offsets(
         (take result.given buf.new) result.next }
     ensures leads { LeadsTo (Half after (Offset owed) is_odd) (take result.taken piece.now)
         result.next }
+    ensures some { 4 ≤ length piece.now → 8 ≤ length buf.new → 0 < result.taken }
 {
     let most = (piece.len() / 2).min(buf.len() / 4);
     let count = most.min(owed as usize + 1);
@@ -238,6 +245,7 @@ fn expand_filler(after: FilePosition, piece: &[u8], buf: &mut [u8]) -> Stretch
     ensures gives { GivesFor (Filler after) (take result.taken piece.now)
         (take result.given buf.new) result.next }
     ensures leads { LeadsTo (Filler after) (take result.taken piece.now) result.next }
+    ensures some { 4 ≤ length piece.now → 8 ≤ length buf.new → 0 < result.taken }
 {
     if piece.len() < 2 || buf.len() < 6 {
         return nothing(Spot::Filler(after));

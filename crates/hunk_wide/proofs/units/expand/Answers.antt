@@ -35,4 +35,5 @@ units-preserved c =
       leads =
           more_lead c.args.spot c.units.all.next c.expand_unit-unit.result.next c.args.piece.now _ c.units.all.taken c.expand_unit-unit.result.taken
           c.units.invariant.leads c.expand_unit-unit.ensures.leads (take_rest c.args.piece.now c.units.all.taken);
+      none = λ e. absurd (omega (arith, e, c.if-unit-eq0.false));
     }

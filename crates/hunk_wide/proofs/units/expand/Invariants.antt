@@ -1,4 +1,4 @@
-use Rattle.std.proofs.Common.{◌-◌, ◌≤◌, length, take}
+use Rattle.std.proofs.Common.{◌≡◌, ◌-◌, ◌≤◌, length, take}
 use Rattle.hunk_wide.specs.{InFile.LeadsTo, Plain.GivesFor}
 use Rattle.hunk_wide.proofs.units.expand.Given as goal
 
@@ -8,6 +8,7 @@ invariant-units l = record {
   given : l.all.given ≤ length l.buf;
   gives : GivesFor l.fn.spot (take l.all.taken l.piece) (take l.all.given l.buf) l.all.next;
   leads : LeadsTo l.fn.spot (take l.all.taken l.piece) l.all.next;
+  none : l.all.taken ≡ 0 → l.all.given ≡ 0;
 }
 
 abbrev pub decreases-units : goal.decreases-units
