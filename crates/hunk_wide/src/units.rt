@@ -24,6 +24,7 @@ pub(crate) struct Stretch {
 
 /// Gives out what the first bytes of the piece are for, as far as whole units lie in it and their
 /// bytes fit.
+#[inline(never)]
 pub(crate) fn expand(spot: Spot, piece: &[u8], buf: &mut [u8]) -> Stretch
     ensures taken { result.taken ≤ length piece.now }
     ensures given { result.given ≤ length buf.new }

@@ -36,6 +36,7 @@ pub fn write_plain(bytes: &[u8], out: &mut [u8]) -> Result<usize, NoRoom>
 }
 
 /// Fills the buffer, which has just as many bytes, with the plain spelling.
+#[inline(never)]
 fn fill(bytes: &[u8], out: &mut [u8])
     requires { length out.old ≡ length (plain bytes.now) }
     ensures { out.new ≡ plain bytes.now }
@@ -46,6 +47,7 @@ fn fill(bytes: &[u8], out: &mut [u8])
 }
 
 /// The same, where this is held and these bytes are still to come. It goes a unit at a time.
+#[inline(never)]
 fn fill_rest(held: Expander, bytes: &[u8], out: &mut [u8])
     requires { length out.old ≡ length (left_of held bytes.now) }
     ensures { out.new ≡ left_of held bytes.now }
@@ -66,6 +68,7 @@ fn fill_rest(held: Expander, bytes: &[u8], out: &mut [u8])
 }
 
 /// The same, where all bytes pass, or no unit is whole.
+#[inline(never)]
 fn fill_last(held: Expander, bytes: &[u8], out: &mut [u8])
     requires ready { held.ready ≡ [] }
     requires few { (wanted held ≡ 0) ⊎ (length bytes.now < wanted held) }
