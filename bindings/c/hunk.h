@@ -491,6 +491,49 @@ struct hunk_answer hunk_references(const uint8_t *bytes, size_t bytes_len,
 struct hunk_answer hunk_strip(const uint8_t *bytes, size_t bytes_len, uint8_t *text,
                               size_t text_len);
 
+/* ---- Load files in other spellings.
+ *
+ * Linkers also write blocks of short relocations, whose words have 16 bits (3FC, or 3F7 as the
+ * LoadSeg of V37 took it), and leave out the END of a hunk before the next CODE, DATA or BSS block,
+ * or at the end of the file. No call above takes such a file. hunk_plain writes the plain spelling
+ * of it, which all of them take, and which stands for the same hunks.
+ *
+ * None of the three calls refuses any bytes. What they do not know is as it is in the plain
+ * spelling, and refused there; so no reason is lost.
+ */
+
+/* How an input spells its file: 32 bytes. Where short_blocks and ends are 0, the input is its own
+ * plain spelling, byte for byte. */
+struct hunk_spelling {
+    uint64_t bytes;        /* the bytes of the plain spelling */
+    uint64_t short_blocks; /* the blocks of short relocations that are RELOC32 there */
+    uint64_t ends;         /* the END that the input leaves out */
+    uint64_t reserved;     /* 0 */
+};
+
+/* Tells how the bytes spell their file, in one pass over them. */
+struct hunk_spelling hunk_spelling_of(const uint8_t *bytes, size_t bytes_len);
+
+/* Writes the plain spelling of the bytes to the text.
+ *
+ *   bytes   the input, whole; what follows the file stays after it
+ *   text    where the plain spelling goes: twice as many bytes as there are in are always enough
+ *
+ * HUNK_OK       place: the bytes that were read, all of them; count: the bytes that were written.
+ * HUNK_NO_ROOM  the text is too short. count: the bytes that are needed; place as at HUNK_OK. With
+ *               text_len 0 this asks for them.
+ *
+ * Text after what is written, and at HUNK_NO_ROOM all text, is as it was.
+ */
+struct hunk_answer hunk_plain(const uint8_t *bytes, size_t bytes_len, uint8_t *text,
+                              size_t text_len);
+
+/* The byte of the input at which a byte of its plain spelling stands, both counted from 0: where a
+ * refusal of the plain spelling is in the input, by its place. Of a short block it is the 16-bit
+ * word, of an END that is left out what comes in its place, and after the last byte the end of the
+ * input, or where its last longword begins that is not whole. At most bytes_len. */
+uint64_t hunk_input_place(const uint8_t *bytes, size_t bytes_len, uint64_t place);
+
 /* Writes the name of an answer's number to the text, with no zero after it.
  *
  * HUNK_OK       count: the bytes of the name, at most 17; none for 0 and above 33.

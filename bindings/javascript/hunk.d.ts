@@ -91,6 +91,10 @@ export interface Table { header: number; size: number; rows: Rows<TableRow> }
 /** The hunks, one right after the other. */
 export interface Loaded extends FileAnswer { memory: Uint8Array }
 
+/** How an input spells its file: the bytes of its plain spelling, the blocks of short relocations that are RELOC32 there, and
+ * the END that the input leaves out. */
+export interface Spelling { bytes: number; shortBlocks: number; ends: number }
+
 /** The bytes of a row's name, each as a character. */
 export function nameOf(bytes: Uint8Array, row: Named): string;
 
@@ -122,5 +126,9 @@ export class Hunk {
   relocations(bytes: Uint8Array, most?: number): Listed<Relocation>;
   entries(bytes: Uint8Array, most?: number): Listed<Entry>;
   references(bytes: Uint8Array, most?: number): Listed<Reference>;
+  spelling(bytes: Uint8Array): Spelling;
+  plain(bytes: Uint8Array): Uint8Array;
+  inputPlace(bytes: Uint8Array, place: number): number;
+  wide<Answer>(bytes: Uint8Array, call: (plain: Uint8Array) => Answer): Answer;
   strip(bytes: Uint8Array): FileAnswer & { text: Uint8Array };
 }

@@ -33,6 +33,7 @@ const STRUCTS = {
   relocation: "place 8 unit 8 hunk 8 kind 4 width 4 target 4 offset 4 reserved 8",
   entry: "place 8 unit 8 hunk 8 name 8 name_bytes 8 references 8 value 4 kind 4 reserved 8",
   reference: "entry 8 place 8 offset 4 width 4 reserved 8",
+  spelling: "bytes 8 short_blocks 8 ends 8 reserved 8",
 };
 
 /** What a struct is called in JavaScript: `name_bytes` is `nameBytes`. */
@@ -397,6 +398,43 @@ export class Hunk {
 
   references(bytes, most) {
     return this.#list("hunk_references", LAYOUTS.reference, bytes, most);
+  }
+
+  /** How the bytes spell their file: none are refused. */
+  spelling(bytes) {
+    const room = this.#room;
+    const file = this.#open(bytes);
+    const { size } = LAYOUTS.spelling;
+    const at = room.take(size);
+    room.exports.hunk_spelling_of(BigInt(at), ...file);
+    return new Rows(LAYOUTS.spelling, room.bytes(at, size)).at(0);
+  }
+
+  /** The plain spelling of a load file that has short relocations, or leaves END out. Other bytes are as they are. */
+  plain(bytes) {
+    const room = this.#room;
+    const length = this.spelling(bytes).bytes;
+    const file = this.#open(bytes);
+    const at = room.take(length);
+    this.#answer(room.call("hunk_plain", ...file, BigInt(at), BigInt(length)));
+    return room.bytes(at, length).slice();
+  }
+
+  /** The byte of the input at which a byte of its plain spelling stands. */
+  inputPlace(bytes, place) {
+    return Number(this.#room.exports.hunk_input_place(...this.#open(bytes), BigInt(place)));
+  }
+
+  /** What a call makes of the plain spelling of the bytes: wide(bytes, (plain) => hunk.check(plain)). A HunkError that it throws
+   * has its place in the bytes themselves. */
+  wide(bytes, call) {
+    const plain = this.plain(bytes);
+    try {
+      return call(plain);
+    } catch (error) {
+      if (error instanceof HunkError) throw this.error({ ...error, place: this.inputPlace(bytes, error.place) });
+      throw error;
+    }
   }
 
   /** The file without its names, symbols and debug data. */

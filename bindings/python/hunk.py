@@ -187,6 +187,20 @@ class Finding(NamedTuple):
     fault: str
 
 
+class Spelling(NamedTuple):
+    """How an input spells its file: the bytes of its plain spelling, and what the input has otherwise.
+
+    That has `short_blocks` blocks of short relocations as RELOC32, and `ends` END that the input leaves out."""
+
+    size: int
+    short_blocks: int
+    ends: int
+
+
+class _Spelling(ctypes.Structure):
+    _fields_ = [("size", c_uint64), ("short_blocks", c_uint64), ("ends", c_uint64), ("reserved", c_uint64)]
+
+
 class _Answer(ctypes.Structure):
     _fields_ = [("number", c_uint32), ("hunk", c_uint32), ("place", c_uint64), ("count", c_uint64)]
 
@@ -210,10 +224,10 @@ def _open() -> ctypes.CDLL:
 _library = _open()
 
 
-def _call(name: str, *types: Any) -> Any:
+def _call(name: str, *types: Any, answer: Any = _Answer) -> Any:
     """The call of the library that has this name."""
     call = getattr(_library, name)
-    call.argtypes, call.restype = types, _Answer
+    call.argtypes, call.restype = types, answer
     return call
 
 
@@ -228,6 +242,9 @@ _units, _blocks, _symbols, _relocations, _entries, _references = (
     _call(f"hunk_{it}", *_BYTES, *_ROOM)
     for it in ("units", "blocks", "symbols", "relocations", "entries", "references")
 )
+_spelling_of = _call("hunk_spelling_of", *_BYTES, answer=_Spelling)
+_plain = _call("hunk_plain", *_BYTES, *_ROOM)
+_input_place = _call("hunk_input_place", *_BYTES, c_uint64, answer=c_uint64)
 _reason = _call("hunk_reason", c_uint32, *_ROOM)
 _reason_text = _call("hunk_reason_text", c_uint32, *_ROOM)
 
@@ -298,10 +315,43 @@ def table(data: Data, budget: int = BUDGET) -> list[Hunk]:
     return [Hunk(size, _MEMORY[memory], extra, 0, i) for i, (_, extra, size, memory) in enumerate(rows)]
 
 
-def load(data: Data, base: Union[int, Sequence[int]] = 0x1000, budget: int = BUDGET) -> list[bytes]:
+def spelling(data: Data) -> Spelling:
+    """How the bytes spell their file. None are refused."""
+    data = _bytes(data)
+    spelled = _spelling_of(data, len(data))
+    return Spelling(spelled.size, spelled.short_blocks, spelled.ends)
+
+
+def plain(data: Data) -> bytes:
+    """The plain spelling of a load file with short relocations, or with END left out. Other bytes are as they are."""
+    data = _bytes(data)
+    text = (c_uint8 * spelling(data).size)()
+    _accepted(_plain(data, len(data), text, len(text)))
+    return bytes(text)
+
+
+def input_place(data: Data, place: int) -> int:
+    """The byte of the input `data` at which a byte of its plain spelling stands."""
+    data = _bytes(data)
+    return int(_input_place(data, len(data), _number(place, 64, "place")))
+
+
+def _by_plain(call: Callable[[bytes], Any], data: Data) -> Any:
+    """What the call makes of the plain spelling. A refusal has its place in the input."""
+    try:
+        return call(plain(data))
+    except HunkError as error:
+        place = input_place(data, error.place)
+        raise HunkError(error.reason, error.number, place, error.hunk, error.meaning) from None
+
+
+def load(data: Data, base: Union[int, Sequence[int]] = 0x1000, budget: int = BUDGET, wide: bool = False) -> list[bytes]:
     """The bytes of each hunk of the load file at the front of the bytes, relocated.
 
-    `base` is the address of the first hunk, and the others lie right after it; or a list with an address for each."""
+    `base` is the address of the first hunk, and the others lie right after it; or a list with an address for each. `wide` is
+    as in `read`."""
+    if wide:
+        return _by_plain(lambda text: load(text, base, budget), data)
     data = _bytes(data)
     sizes = [hunk.size for hunk in table(data, budget)]
     memory = (c_uint8 * sum(sizes))()
@@ -341,10 +391,12 @@ def strip(data: Data) -> bytes:
 class File:
     """What stands in a load file or an object file, in the order of the file. Each list is made when it is first asked for.
 
-    `place` of each item is the byte of `data` at which it begins. `size` is the bytes of the file, which others may follow."""
+    `place` of each item is the byte of `data` at which it begins. `size` is the bytes of the file, which others may follow.
+    `spelling` says how the input spelled it: `data` is its plain spelling."""
 
     def __init__(self, data: Data) -> None:
         self.data = _bytes(data)
+        self.spelling = Spelling(len(self.data), 0, 0)
         answer = _blocks(self.data, len(self.data), None, 0)
         if answer.number != _NO_ROOM:
             _accepted(answer)
@@ -407,9 +459,16 @@ class File:
         return check(self.data)
 
 
-def read(data: Data) -> File:
-    """What stands in the object file that the bytes are, or in the load file that they begin with."""
-    return File(data)
+def read(data: Data, wide: bool = False) -> File:
+    """What stands in the object file that the bytes are, or in the load file that they begin with.
+
+    With `wide`, a load file may have short relocations, and leave END out: its plain spelling is read. The HunkError of a
+    refusal has its place in `data`."""
+    if not wide:
+        return File(data)
+    file = _by_plain(File, data)
+    file.spelling = spelling(data)
+    return file
 
 
 def _main(words: Sequence[str]) -> None:

@@ -1,8 +1,8 @@
 //! Hunk files of AmigaDOS, by the C library libhunk: loads, checks and strips them, and reads what stands in them.
 //!
 //! For programs that rustc or cargo builds. `cargo add --path` takes this folder as a dependency; or copy `hunk.rs`,
-//! `hunk_file.rs` and `hunk_raw.rs` beside your own file. Where the library is in a folder that linkers do not search, name that
-//! in `LIBRARY_PATH`, or after `-L`.
+//! `hunk_file.rs`, `hunk_plain.rs` and `hunk_raw.rs` beside your own file. Where the library is in a folder that linkers do not
+//! search, name that in `LIBRARY_PATH`, or after `-L`.
 //!
 //! ```no_run
 //! # fn main() -> Result<(), hunk::Error> {
@@ -26,10 +26,13 @@
 
 #[path = "hunk_file.rs"]
 mod file;
+#[path = "hunk_plain.rs"]
+mod plain;
 #[path = "hunk_raw.rs"]
 mod raw;
 
 pub use file::{Block, Entry, EntryKind, File, Flags, Kind, Reference, Relocation, Symbol, Unit};
+pub use plain::{spelling, Plain, Spelling};
 use std::{error, fmt};
 
 /// The number of the interface that this module is written for.

@@ -113,6 +113,15 @@ pub struct Reference {
     pub reserved: u64,
 }
 
+#[repr(C)]
+#[derive(Clone, Default)]
+pub struct Spelling {
+    pub bytes: u64,
+    pub short_blocks: u64,
+    pub ends: u64,
+    pub reserved: u64,
+}
+
 #[link(name = "hunk")]
 extern "C" {
     pub fn hunk_abi() -> u32;
@@ -143,6 +152,9 @@ extern "C" {
     pub fn hunk_entries(bytes: *const u8, bytes_len: usize, rows: *mut Entry, rows_len: usize) -> Answer;
     pub fn hunk_references(bytes: *const u8, bytes_len: usize, rows: *mut Reference, rows_len: usize) -> Answer;
     pub fn hunk_strip(bytes: *const u8, bytes_len: usize, text: *mut u8, text_len: usize) -> Answer;
+    pub fn hunk_spelling_of(bytes: *const u8, bytes_len: usize) -> Spelling;
+    pub fn hunk_plain(bytes: *const u8, bytes_len: usize, text: *mut u8, text_len: usize) -> Answer;
+    pub fn hunk_input_place(bytes: *const u8, bytes_len: usize, place: u64) -> u64;
     pub fn hunk_reason(number: u32, text: *mut u8, text_len: usize) -> Answer;
     pub fn hunk_reason_text(number: u32, text: *mut u8, text_len: usize) -> Answer;
 }

@@ -22,6 +22,9 @@ WIDTHS = {
 }
 # A unit of a BSS in chip memory, of 8 bytes, and of DATA without bytes in fast memory.
 OBJECT = bytes.fromhex("000003e700000000" "400003eb00000002000003f2" "800003ea00000000000003f2")
+# A load file with a short block, whose offset is 0, and without END; and one whose target is no hunk.
+WIDE = bytes.fromhex("000003f3" "00000000" "00000001" "00000000" "00000000" "00000002" "000003e9" "00000002" "0000000000000000" "000003fc" "0001000000000000")
+BAD_WIDE = WIDE[:44] + bytes.fromhex("0001000500000000")
 
 
 # ---- The conformance suite.
@@ -237,6 +240,14 @@ def wrong_calls(texts):
             lambda: hunk.read(OBJECT).hunks,
             [hunk.Hunk(8, "chip", 0, 0, 0, hunk.Kind.BSS), hunk.Hunk(0, "fast", 0, 0, 1, hunk.Kind.DATA)],
         ),
+        "spelling": (lambda: hunk.spelling(WIDE), hunk.Spelling(64, 1, 1)),
+        "plain": (lambda: hunk.plain(WIDE)[40:].hex(), "000003ec0000000100000000" "0000000000000000" "000003f2"),
+        "plain of a plain file": (lambda: hunk.plain(memoryview(one + one)), one + one),
+        "wide": (lambda: (hunk.read(WIDE, wide=True).spelling, repr(hunk.read(WIDE, wide=True))), (hunk.Spelling(64, 1, 1), "<load file, 64 bytes, 1 hunks>")),
+        "wide relocations": (lambda: [it.offset for it in hunk.read(WIDE, wide=True).relocations], [0]),
+        "wide of a plain file": (lambda: hunk.read(one, wide=True).spelling, hunk.read(one).spelling),
+        "wide load": (lambda: hunk.load(WIDE, 0x21000, wide=True), [bytes.fromhex("0002100000000000")]),
+        "input place": (lambda: hunk.input_place(WIDE, 60), len(WIDE)),
     }
     for name, (call, wanted) in calls.items():
         if call() != wanted:
@@ -246,6 +257,8 @@ def wrong_calls(texts):
         "refused at byte 20: Budget (27)": lambda: hunk.load(one, budget=3),
         "refused at byte 28: NoBase (29) hunk 0": lambda: hunk_stream.load_from(io.BytesIO(two), 0xFFFFFFFC),
         "refused at byte 8: Truncated (26)": lambda: hunk.read(one[:9]),
+        "refused at byte 40: ShortReloc (13)": lambda: hunk.read(WIDE),
+        "refused at byte 46: BadTarget (23)": lambda: hunk.read(BAD_WIDE, wide=True),
         "base is no number of 32 bits: 4294967296": lambda: hunk.load(one, 1 << 32),
     }
     for wanted, call in errors.items():
@@ -256,7 +269,8 @@ def wrong_calls(texts):
                 yield f"{error} where the error is wanted: {wanted}"
             if isinstance(error, hunk.HunkError) and len(error.meaning) <= len(error.reason):
                 yield f"{error}: no sentence says what it means"
-    for call, data in itertools.product((hunk.table, hunk.load, hunk.check, hunk.strip, hunk.read), (5, list(one), "text")):
+    calls = (hunk.table, hunk.load, hunk.check, hunk.strip, hunk.read, hunk.spelling, hunk.plain)
+    for call, data in itertools.product(calls, (5, list(one), "text")):
         if not raises_type_error(call, data):
             yield f"{call.__name__} of {data}: no TypeError is raised"
 

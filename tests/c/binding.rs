@@ -7,7 +7,8 @@
 #[path = "../../bindings/rust/hunk.rs"]
 mod hunk;
 
-use hunk::{Block, Entry, EntryKind, Error, Fault, File, Finding, Hunk, Kind, Memory, Reference, Relocation, Symbol, BUDGET};
+use hunk::{Block, Entry, EntryKind, Error, Fault, File, Finding, Hunk, Kind, Memory, Plain, Reference, Relocation, Spelling, Symbol,
+    BUDGET};
 use std::process::ExitCode;
 use std::{env, fs};
 
@@ -78,6 +79,27 @@ fn load_ram<'a>(file: &'a [u8], base: u32, ram: &mut [u8], names: &mut Vec<(u32,
         names.push((symbol.value, symbol.name));
     }
     Ok(bytes)
+}
+
+/// What the calls for other spellings are not as they must be, of files without END, with a short block: one whose offset is 0, and
+/// one whose target is no hunk.
+fn wrong_spellings(one: &[u8]) -> Vec<String> {
+    let code = bytes_of("000003f30000000000000001000000000000000000000002000003e9000000020000000000000000");
+    let wide = [code, bytes_of("000003fc0001000000000000")].concat();
+    let bad = [&wide[..44], &bytes_of("0001000500000000")].concat();
+    let (plain, as_is) = (Plain::of(&wide), Plain::of(one));
+    let spelled = Spelling { bytes: 64, short_blocks: 1, ends: 1 };
+    let checks = [
+        ("spelling", hunk::spelling(&wide) == spelled && plain.spelling() == spelled && !spelled.is_plain()),
+        ("plain", plain.bytes()[40..] == bytes_of("000003ec00000001000000000000000000000000000003f2")),
+        ("plain of a plain file", as_is.bytes() == one && as_is.spelling().is_plain()),
+        ("wide", plain.read().unwrap().relocations()[0].offset == 0 && plain.read().unwrap().bytes().len() == 64),
+        ("wide load", plain.load_packed(0x21000, BUDGET) == Ok(vec![bytes_of("0002100000000000")])),
+        ("wide refusal", Plain::of(&bad).read().unwrap_err().to_string() == "refused at byte 46: BadTarget (23)"),
+        ("no wide load", Plain::of(&bad).load_packed(0, BUDGET).unwrap_err().place == 46),
+        ("input place", plain.input_place(60) == wide.len() as u64),
+    ];
+    checks.iter().filter(|(_, holds)| !holds).map(|(name, _)| format!("{name}: another answer")).collect()
 }
 
 /// What other calls, and the texts of errors, are not as they must be.
@@ -270,6 +292,7 @@ fn main() -> ExitCode {
     let (load, objects) = (rows_of(&paths[0]), rows_of(&paths[1]));
     let mut wrong = wrong_rows(&load, &objects);
     wrong.extend(wrong_calls(&load, &objects));
+    wrong.extend(wrong_spellings(&load.iter().find(|row| row.name == "one-hunk").unwrap().data));
     for line in &wrong {
         println!("{line}");
     }

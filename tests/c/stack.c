@@ -22,7 +22,12 @@ static const uint32_t object_longs[] = {
     0x3E7, 0, 0x3E9, 1, 0, 0x3EC, 1, 1, 0, 0, 0x3EF, 0x81000001, 0x73000000, 1, 4, 0,
     0x3F0, 1, 0x73000000, 0, 0, 0x3F1, 1, 0, 0x3F2};
 static const uint32_t hunk_longs[] = {0x3E9, 1, 0, 0x3EC, 1, 0, 0, 0, 0x3F2};
+/* The load file in another spelling: a short block, and no END. */
+static const uint32_t wide_longs[] = {
+    0x3F3, 0, HUNKS, 0, 1, 2, 1, 0x3E9, 2, 0, 0, 0x3FC, 0x10001, 0x40000,
+    0x3F0, 1, 0x73000000, 0, 0, 0x3F1, 1, 0, 0x3EB, 1};
 static uint8_t file[sizeof load_longs];
+static uint8_t wide[sizeof wide_longs];
 static uint8_t object[sizeof object_longs];
 static uint8_t many[4 * (TABLE_LONGS + MANY) + MANY * sizeof hunk_longs];
 
@@ -87,6 +92,17 @@ static void references(void) { answer = hunk_references(object, sizeof object, &
 static void units(void) { answer = hunk_units(object, sizeof object, &unit, 1); }
 static void strip(void) { answer = hunk_strip(object, sizeof object, text, sizeof text); }
 static void strip_load(void) { answer = hunk_strip(file, sizeof file, text, sizeof text); }
+static void plain(void) { answer = hunk_plain(wide, sizeof wide, text, sizeof text); }
+static void spelled(void)
+{
+    struct hunk_spelling s = hunk_spelling_of(wide, sizeof wide);
+    answer.number = s.bytes == sizeof file && s.short_blocks == 1 && s.ends == 2 ? HUNK_OK : 1;
+}
+static void input_place(void)
+{
+    uint64_t place = hunk_input_place(wide, sizeof wide, sizeof file - 1);
+    answer.number = place == sizeof wide ? HUNK_OK : 1;
+}
 static void reason(void) { answer = hunk_reason(HUNK_NOTHING_TO_RELOCATE, text, sizeof text); }
 static void meaning(void) { answer = hunk_reason_text(HUNK_MISPLACED, text, sizeof text); }
 
@@ -120,6 +136,9 @@ static const struct {
     {"hunk_units", units, ALL},
     {"hunk_strip", strip, ALL},
     {"hunk_strip of a load file", strip_load, ALL},
+    {"hunk_plain", plain, ALL},
+    {"hunk_spelling_of", spelled, ALL},
+    {"hunk_input_place", input_place, ALL},
     {"hunk_reason", reason, ALL},
     {"hunk_reason_text", meaning, ALL},
 };
@@ -149,6 +168,7 @@ static size_t stack_of(void (*make)(void))
 int main(void)
 {
     put_longs(file, load_longs, sizeof file);
+    put_longs(wide, wide_longs, sizeof wide);
     put_longs(object, object_longs, sizeof object);
     put_many();
     size_t none = stack_of(nothing);

@@ -174,6 +174,14 @@ static void strip_file(void)
         printf("  %08" PRIx32 "\n", sum(text, a.count));
 }
 
+static void plain_file(void)
+{
+    struct hunk_spelling s = hunk_spelling_of(bytes, len);
+    struct hunk_answer a = hunk_plain(bytes, len, text, MOST);
+    printf("plain %" PRIu64 " %" PRIu64 " %" PRIu64 "\n", s.bytes, s.short_blocks, s.ends);
+    printf("  %08" PRIx32 " %" PRIu64 "\n", sum(text, a.count), hunk_input_place(bytes, len, a.count));
+}
+
 static void say_reasons(void)
 {
     for (uint32_t number = 0; number < 40; number++) {
@@ -205,6 +213,7 @@ int main(void)
         entries_of_file();
         references_of_file();
         strip_file();
+        plain_file();
         load_file();
     }
     return 0;

@@ -111,6 +111,12 @@ function stripFile(hunk, bytes) {
   say(`  ${sum(stripped.text)}`);
 }
 
+function plainFile(hunk, bytes) {
+  const { bytes: length, shortBlocks, ends } = hunk.spelling(bytes);
+  say(`plain ${length} ${shortBlocks} ${ends}`);
+  say(`  ${sum(hunk.plain(bytes))} ${hunk.inputPlace(bytes, length)}`);
+}
+
 const hunk = await Hunk.open(readFileSync(process.argv[2]));
 say(`abi ${hunk.abi()}`);
 for (let number = 0; number < 40; number++) say(`${number} ${hunk.reason(number)}: ${hunk.reasonText(number)}`);
@@ -119,6 +125,7 @@ for (const name of readFileSync(0, "utf8").split("\n").filter(Boolean)) {
   say(`== ${name}`);
   for (const table of TABLES) list(hunk, table, bytes);
   stripFile(hunk, bytes);
+  plainFile(hunk, bytes);
   loadFile(hunk, bytes);
   if (lines.length > 100000) process.stdout.write(lines.splice(0).join("\n") + "\n");
 }

@@ -8,6 +8,7 @@ const BUDGET_NUMBER = 27;
 const BASE = 0x21000;
 
 const unhex = (text) => Uint8Array.from(text.match(/../g) ?? [], (digits) => parseInt(digits, 16));
+const hex = (bytes) => Array.from(bytes, (byte) => byte.toString(16).padStart(2, "0")).join("");
 const same = (one, other) => one.length === other.length && one.every((byte, i) => byte === other[i]);
 const isObject = (bytes) => bytes.length >= 4 && bytes[0] + bytes[1] === 0 && bytes[2] === 3 && bytes[3] === 0xe7;
 
@@ -79,5 +80,12 @@ for (const table of tables) {
     if (!isOf && !declaresTooMuch(hunk, bytes)) hold(`${what}, loaded`, wanted, told(() => loaded(hunk, bytes)));
   }
 }
+// A short block, and no END; then with a target that is no hunk, which is refused at its 16-bit word.
+const wide = unhex("000003f30000000000000001000000000000000000000002000003e900000002" + "0000000000000000000003fc0001000000000000");
+const bad = Uint8Array.from(wide).fill(5, 47, 48);
+const spelled = ({ bytes, shortBlocks, ends }) => `${bytes} ${shortBlocks} ${ends}`;
+hold("a wide spelling", "64 1 1", spelled(hunk.spelling(wide)));
+hold("loaded of it", "00021000", told(() => hunk.wide(wide, (plain) => hex(hunk.loadPacked(plain, BASE).memory.slice(0, 4)))));
+hold("refused of it", "refused 46 23", told(() => hunk.wide(bad, (plain) => hunk.check(plain))));
 console.log(`${compared} answers`);
 process.exit(failed > 0 ? 1 : 0);
