@@ -7,6 +7,7 @@ void refuse(struct hunk_answer a);
 size_t next_piece(uint8_t *piece);
 void load_program(const uint8_t *file, size_t len, uint8_t *ram, size_t size, uint32_t base);
 void strip_file(const uint8_t *file, size_t len, uint8_t *text, FILE *out);
+struct hunk_answer load_spelled(const uint8_t *input, size_t len, uint8_t *text, uint32_t base, uint8_t *memory, size_t size);
 struct hunk_answer load_pieces(const struct hunk_place *places, struct hunk_answer t, uint8_t *memory, uint8_t *piece);
 struct hunk_answer load_apart(const uint8_t *file, size_t len, struct hunk_answer t, const struct hunk_row *rows,
                               uint32_t *bases, uint8_t *memory, size_t size);
@@ -23,6 +24,15 @@ void strip_file(const uint8_t *file, size_t len, uint8_t *text, FILE *out)
     struct hunk_answer a = hunk_strip(file, len, text, len);
     if (a.number == HUNK_OK)
         fwrite(text, 1, a.count, out);
+}
+
+struct hunk_answer load_spelled(const uint8_t *input, size_t len, uint8_t *text, uint32_t base, uint8_t *memory, size_t size)
+{
+    struct hunk_answer p = hunk_plain(input, len, text, 2 * len);
+    struct hunk_answer a = hunk_load_packed(text, p.count, base, memory, size);
+    if (a.number != HUNK_OK)
+        a.place = hunk_input_place(input, len, a.place);
+    return a;
 }
 
 struct hunk_answer load_pieces(const struct hunk_place *places, struct hunk_answer t, uint8_t *memory, uint8_t *piece)
