@@ -19,6 +19,7 @@ use Rattle.hunk_c.specs.Answers.{refused, done}
 abbrev pub lies_in : ℕ → ℕ → ℕ → ℕ → Bool
 lies_in start room size base = nat_le start base && nat_le (base + size) (start + room) && nat_le (base + size) (2 ^ 32)
 
+-- a base, if there is one, and the hunk lies there
 abbrev pub base_in : ℕ → ℕ → ℕ → Option ℕ → Option ℕ
 base_in start room size None = None
 base_in start room size (Some base) = if lies_in start room size base then Some base else None
