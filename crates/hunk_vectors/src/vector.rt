@@ -19,6 +19,16 @@ pub enum ObjectWant {
     Refused { place: u64, number: u8 },
 }
 
+/// What a reader of wide spellings answers.
+#[derive(Clone, Copy, Debug, PartialEq, Eq)]
+pub enum WideWant {
+    /// The bytes begin with a wide spelling of a file, which has a plain spelling.
+    Accepted,
+    /// What begins at this byte of the wide spelling is refused, or the bytes end too soon, as in
+    /// `Want`.
+    Refused { place: u64, number: u8 },
+}
+
 /// A file as hexadecimal text, and its answer: a load file, where nothing else is said.
 #[derive(Clone, Copy, Debug, PartialEq, Eq)]
 pub struct Vector<W = Want> {
@@ -33,6 +43,25 @@ pub struct Vector<W = Want> {
 /// An object file and its answer.
 pub type ObjectVector = Vector<ObjectWant>;
 
+/// The answer to a wide spelling: of an object file, where its first longword is 3E7, and else of a
+/// load file.
+#[derive(Clone, Copy, Debug, PartialEq, Eq)]
+pub struct WideVector {
+    /// The number of the example that it is from.
+    pub row: u32,
+    /// What a reader has to answer.
+    pub want: WideWant,
+}
+
+/// A load file of the suite, whose hunks lie one after the other in memory.
+#[derive(Clone, Copy, Debug, PartialEq, Eq)]
+pub struct ImageVector {
+    /// The entry of `VECTORS` that is loaded.
+    pub file: usize,
+    /// The address of its first hunk.
+    pub base: u32,
+}
+
 /// The row of the table with this example, this text, and what a reader has to answer.
 macro_rules! row {
     ($row:literal, $text:ident => $want:ident::$answer:ident { $($field:ident: $number:literal),* }) => {
@@ -44,4 +73,24 @@ macro_rules! row {
     };
 }
 
-pub(crate) use row;
+/// The answer to a wide spelling of this example.
+macro_rules! wide {
+    ($row:literal => $($want:tt)+) => {
+        WideVector {
+            row: $row,
+            want: WideWant::$($want)+,
+        }
+    };
+}
+
+/// The load file of this number, and its base.
+macro_rules! image {
+    ($file:literal, $base:literal) => {
+        ImageVector {
+            file: $file,
+            base: $base,
+        }
+    };
+}
+
+pub(crate) use {image, row, wide};
