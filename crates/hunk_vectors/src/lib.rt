@@ -16,7 +16,9 @@ pub use crate::object_table::{OBJECT_TEXTS, OBJECTS};
 pub use crate::spelling::{
     bytes, memory_bytes, object_bytes, plain_bytes, wide_bytes, written_bytes,
 };
-pub use crate::vector::{ImageVector, ObjectVector, ObjectWant, Vector, Want, WideVector, WideWant};
+pub use crate::vector::{
+    ImageVector, ObjectVector, ObjectWant, Vector, Want, WideVector, WideWant,
+};
 pub use crate::wide_table::WIDE;
 pub use crate::wide_texts::{PLAIN_TEXTS, WIDE_TEXTS};
 pub use crate::write_table::{WRITE_TEXTS, WRITE_VALUES};

@@ -93,4 +93,6 @@ macro_rules! image {
     };
 }
 
-pub(crate) use {image, row, wide};
+pub(crate) use image;
+pub(crate) use row;
+pub(crate) use wide;
