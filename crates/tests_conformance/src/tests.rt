@@ -3,10 +3,12 @@
 mod asserts;
 mod changes;
 mod cuts;
+mod images;
 mod objects;
 mod readings;
 mod whole;
 mod wide;
+mod writes;
 
 use crate::tests::asserts::assert_equal;
 use std::process::Abort;

@@ -4,6 +4,7 @@ mod loads;
 mod many;
 mod objects;
 mod rows;
+mod suite;
 
 use crate::tests::asserts::assert_equal_at;
 use hunk_wide::{Expander, Plain};

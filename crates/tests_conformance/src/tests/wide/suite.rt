@@ -1,0 +1,118 @@
+//! The wide spellings of the suite.
+
+use crate::tests::asserts::{assert_equal, assert_equal_at};
+use crate::tests::wide::read_by;
+use hunk_files::ObjectFile;
+use hunk_scatter::{Image, Limits, Packed, load};
+use hunk_vectors::{PLAIN_TEXTS, WIDE, WIDE_TEXTS, WideWant, plain_bytes, wide_bytes};
+use hunk_wide::{Plain, place_in};
+use hunk_words::{FromSlice, LoadFault, Source};
+use std::alloc::{AllocError, Global};
+use std::process::Abort;
+use std::test::Fail;
+use test_helpers::{Fed, Then};
+
+const LIMITS: Limits = Limits {
+    budget: 100_000,
+    file_bytes: 100_000,
+};
+
+const START: Packed = Packed { start: 0x21000 };
+
+/// The first bytes of an object file.
+const UNIT: &[u8] = &[0, 0, 3, 0xE7];
+
+/// What `load` answers for this source. This promises none of what `load` does.
+fn loaded<R: Source + Drop>(alloc: Global, mut source: R) -> Result<Image, LoadFault> {
+    load(alloc, &mut source, LIMITS, &START)
+}
+
+/// The segments one after another, and whether each file is loaded at all.
+fn joined(alloc: Global, answer: Result<Image, LoadFault>) -> Result<Option<Vec<u8>>, AllocError> {
+    match answer {
+        Ok(image) => Ok(Some(image.joined().to_vec(alloc)?)),
+        Err(_) => Ok(None),
+    }
+}
+
+/// Sees that a load of a wide spelling, held whole or in pieces, is one of the plain spelling.
+fn expect_loads(
+    rt: &impl Abort,
+    alloc: Global,
+    wide: &[u8],
+    plain: &[u8],
+    i: usize,
+) -> Result<(), Fail> {
+    let want = joined(alloc, loaded(alloc, FromSlice::new(plain)))?;
+    assert!(rt; want.is_some(), "{i}");
+    let whole = joined(alloc, loaded(alloc, Plain::new(FromSlice::new(wide))))?;
+    assert_equal_at(rt, &whole, &want, i);
+    for most in [1, 3] {
+        let pieces = Plain::new(Fed::new(wide, most, Then::Ends));
+        let got = joined(alloc, loaded(alloc, pieces))?;
+        assert_equal_at(rt, &got, &want, (i, most));
+    }
+    Ok(())
+}
+
+/// All of the plain spelling, which has at most twice the bytes and four.
+fn plain_of(alloc: Global, wide: &[u8]) -> Result<Vec<u8>, Fail> {
+    let pulls = wide.len().saturating_mul(2).saturating_add(5);
+    read_by(alloc, Plain::new(FromSlice::new(wide)), pulls, 64)
+}
+
+/// The byte of the wide spelling at which it is refused, and the number of the reason.
+fn refusal(alloc: Global, wide: &[u8]) -> Result<Option<(u64, u8)>, Fail> {
+    let fault = if wide.starts_with(UNIT) {
+        let plain = plain_of(alloc, wide)?;
+        ObjectFile::decode(alloc, &plain).err()
+    } else {
+        loaded(alloc, Plain::new(FromSlice::new(wide))).err()
+    };
+    Ok(fault.map(|fault| (place_in(wide, fault.place), fault.reason.number())))
+}
+
+/// Sees that this entry is answered as it has to be.
+fn expect(rt: &impl Abort, alloc: Global, i: usize, wide: &[u8], plain: &[u8]) -> Result<(), Fail> {
+    let Some(row) = WIDE.get(i) else {
+        panic!(rt; "no {i}");
+    };
+    match row.want {
+        WideWant::Accepted => {
+            let got = plain_of(alloc, wide)?;
+            assert_equal_at(rt, got.get(..plain.len()), Some(plain), i);
+            if !wide.starts_with(UNIT) {
+                expect_loads(rt, alloc, wide, plain, i)?;
+            }
+            assert_equal_at(rt, refusal(alloc, wide)?, None, i);
+        }
+        WideWant::Refused { place, number } => {
+            assert_equal_at(rt, refusal(alloc, wide)?, Some((place, number)), i);
+        }
+    }
+    Ok(())
+}
+
+/// Sees that the entries of one kind of file are answered as they have to be.
+fn expect_kind(rt: &impl Abort, alloc: Global, is_object: bool) -> Result<(), Fail> {
+    assert_equal(rt, WIDE.len(), WIDE_TEXTS.len());
+    assert_equal(rt, PLAIN_TEXTS.len(), WIDE_TEXTS.len());
+    for i in 0..WIDE_TEXTS.len() {
+        let wide = wide_bytes(alloc, i)?;
+        let plain = plain_bytes(alloc, i)?;
+        if wide.starts_with(UNIT) == is_object {
+            expect(rt, alloc, i, &wide, &plain)?;
+        }
+    }
+    Ok(())
+}
+
+#[test]
+fn load_files(rt: HostRuntime) -> Result<(), Fail> {
+    expect_kind(&rt, rt.alloc(), false)
+}
+
+#[test]
+fn object_files(rt: HostRuntime) -> Result<(), Fail> {
+    expect_kind(&rt, rt.alloc(), true)
+}
