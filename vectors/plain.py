@@ -44,9 +44,14 @@ class Units:
         return half
 
     def run(self, count):
-        """The next longwords as they are, byte for byte."""
-        end = min(self.at + 4 * count, len(self.data))
-        for at in range(self.at, end):
+        """The next longwords as they are, byte for byte. Where there are fewer, what there is passes."""
+        if self.at + 4 * count > len(self.data):
+            raise Passes
+        self.same(4 * count)
+
+    def same(self, count):
+        """The next bytes as they are."""
+        for at in range(self.at, self.at + count):
             self.give(self.data[at : at + 1], 1)
 
 
@@ -152,7 +157,7 @@ def plain(data):
             give_object(units)
     except Passes:
         pass
-    units.run(len(data))
+    units.same(len(data) - units.at)
     return bytes(units.out), units.places + [len(data)]
 
 
