@@ -1,6 +1,6 @@
 -- What holds of an input that was read whole, by what holds of its plain spelling.
 use Rattle.std.proofs.Common.{◌≡◌, ◌∙◌, ◌+◌, ◌<◌, ℕ, length, Bool, false, true, true≢false, List, Option, Some, None, Result, Ok, Err, inr, refl, subst, sym}
-use Rattle.std.specs.Prelude.{IfErr, IfOk, IfSome}
+use Rattle.std.specs.Prelude.{IfOk, IfSome}
 use Rattle.std.proofs.KnownBytes.{Consumes-whole}
 use Rattle.std.proofs.lemmas.Result.{IfErr-weaker, IfOk-weaker}
 use Rattle.hunk_words.specs.Carriers.{Outlet, Supply, Writing, saturated}
@@ -8,7 +8,7 @@ use Rattle.hunk_wide.specs.Plain.{plain}
 use Rattle.hunk_wide.specs.declared.spelling.Spelling.{Spelling}
 use Rattle.hunk_commands.specs.Engine.{PutsOrRefuses, ReadsThenPuts}
 use Rattle.hunk_commands.specs.HexText.{ReadsHex, SpellsHex}
-use Rattle.hunk_commands.specs.Inputs.{ReadsInput, ReadsWhole, TellsReading}
+use Rattle.hunk_commands.specs.Inputs.{ReadsWhole, TellsReading}
 use Rattle.hunk_commands.specs.Rewritten.{IsRewritten}
 use Rattle.hunk_commands.specs.declared.fault.RunFault.{RunFault}
 use Rattle.hunk_commands.specs.declared.fault.RunFault.TheVariants.{HexText, Memory, Read, Refused, RefusedIn, Write}
@@ -16,7 +16,7 @@ use Rattle.hunk_commands.specs.declared.rewriting.Rewritten.{Rewritten}
 use Rattle.hunk_run.specs.Asked.{AsksListing, AsksRewriting, HasAsked}
 use Rattle.hunk_run.specs.Inputs.{HasListed, unread}
 use Rattle.hunk_run.specs.Stores.{Leaves}
-use Rattle.hunk_run.specs.Wide.{AreListed, HasBytes, HasWide, IsSpellingOf, ListsBytes, ListsPlain, ListsWide, ReadsBytes, RewritesPlain, placed}
+use Rattle.hunk_run.specs.Wide.{AreListed, HasBytes, IsSpellingOf, ListsBytes, ListsPlain, ListsWide, ReadsBytes, RewritesPlain, placed}
 use Rattle.hunk_run.specs.declared.listing.Listing.{Listing}
 use Rattle.hunk_run.specs.declared.listing.Listing.TheVariants as listings
 

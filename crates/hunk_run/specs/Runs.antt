@@ -1,5 +1,5 @@
 -- What a run has done: its output is a writer that is old before it and new after it.
-use Rattle.std.specs.Prelude.{◌≡◌, ◌⊎◌, ◌+◌, ◌++◌, ℕ, Bool, true, false, List, Option}
+use Rattle.std.specs.Prelude.{◌≡◌, ◌⊎◌, ◌+◌, ◌++◌, ℕ, Bool, true, false, List}
 use Rattle.std.specs.Io.KnownBytes.{Consumes, IsAtEnd}
 use Rattle.hunk_words.specs.Carriers.{Outlet, Supply, Writing}
 use Rattle.hunk_words.specs.Longs.{bytes_of}
@@ -20,9 +20,7 @@ use Rattle.hunk_commands.specs.Output.{Takes}
 use Rattle.hunk_commands.specs.Relocating.{IsRelocated}
 use Rattle.hunk_commands.specs.Validated.{IsValidated}
 use Rattle.hunk_listing.specs.RewritingLines.{left_out_line, wrote_line}
-use Rattle.hunk_run.specs.Inputs.{unread}
 use Rattle.hunk_run.specs.Status.{PrintsOrFails, with_newline}
-use Rattle.hunk_run.specs.Stores.{Leaves}
 
 -- what is printed of an input in which nothing is amiss
 abbrev pub IsListed : Listing → List ℕ → List ℕ → Type 0

@@ -1,5 +1,5 @@
 -- An input of which the plain spelling is taken: it is read whole, and what is done is done of its plain spelling.
-use Rattle.std.specs.Prelude.{◌≡◌, ◌⊎◌, ◌+◌, ◌<◌, ◌≤◌, ⊤, ℕ, Bool, true, false, List, Option, Some, None, Result, IfErr, IfOk, OnOk, length}
+use Rattle.std.specs.Prelude.{◌≡◌, ◌⊎◌, ◌+◌, ◌<◌, ◌≤◌, ⊤, ℕ, Bool, true, false, List, Some, Result, IfErr, IfOk, OnOk, length}
 use Rattle.std.specs.Io.KnownBytes.{Consumes, IsAtEnd}
 use Rattle.hunk_words.specs.Carriers.{Outlet, Supply, Writing, saturated}
 use Rattle.hunk_words.specs.declared.fault.Fault.{Fault}
@@ -20,7 +20,7 @@ use Rattle.hunk_commands.specs.Refusals.{RefusesBytes}
 use Rattle.hunk_commands.specs.Rewritten.{IsRewritten}
 use Rattle.hunk_commands.specs.declared.fault.RunFault.{RunFault}
 use Rattle.hunk_commands.specs.declared.rewriting.Rewritten.{Rewritten}
-use Rattle.hunk_commands.specs.declared.fault.RunFault.TheVariants.{Memory, Read, Refused, RefusedIn, Write}
+use Rattle.hunk_commands.specs.declared.fault.RunFault.TheVariants.{Memory, Refused, RefusedIn, Write}
 use Rattle.hunk_run.specs.Inputs.{slice}
 use Rattle.hunk_run.specs.Refusals.{StopsListing}
 use Rattle.hunk_run.specs.Runs.{IsInput, IsListed, ReadsNoText}

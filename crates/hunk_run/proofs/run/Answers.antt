@@ -1,4 +1,4 @@
-use Rattle.std.proofs.Common.{◌≡◌, ◌∙◌, ℕ, Bool, false, List, Option, Some, None, ap, inl, map, refl, subst, sym}
+use Rattle.std.proofs.Common.{◌≡◌, ◌∙◌, ℕ, false, List, Option, Some, None, ap, inl, map, refl, subst, sym}
 use Rattle.std.specs.Prelude.{IfErr, IfOk, IsErrAnd}
 use Rattle.std.specs.String.{string_bytes}
 use Rattle.hunk_command_line.specs.Line.{order_of}

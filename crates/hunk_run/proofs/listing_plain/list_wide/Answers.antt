@@ -1,5 +1,4 @@
 use Rattle.std.proofs.Common.{ℕ, List, subst}
-use Rattle.hunk_wide.specs.declared.spelling.Spelling.{Spelling}
 use Rattle.hunk_run.specs.Wide.{IsSpellingOf, ListsPlain}
 use Rattle.hunk_run.proofs.Plainly.{lists_wide}
 use Rattle.hunk_run.proofs.listing_plain.list_wide.Goals as goal

@@ -1,5 +1,5 @@
-use Rattle.std.proofs.Common.{rules, ◌≡◌, ◌∙◌, ◌↔◌, ℕ, Result, Ok, true, ap, refl, subst}
-use Rattle.std.specs.Prelude.{IfOk, OnOk, is_some}
+use Rattle.std.proofs.Common.{rules, ◌≡◌, ◌∙◌, ℕ, Result, Ok, ap, refl, subst}
+use Rattle.std.specs.Prelude.{IfOk, OnOk}
 use Rattle.hunk_commands.specs.Engine.{IsTextOfSome}
 use Rattle.hunk_commands.specs.Rewritten.{IsRewritten}
 use Rattle.hunk_commands.specs.declared.fault.RunFault.{RunFault}

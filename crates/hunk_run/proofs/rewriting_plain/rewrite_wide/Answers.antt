@@ -1,5 +1,4 @@
 use Rattle.std.proofs.Common.{ℕ, List, subst}
-use Rattle.hunk_wide.specs.declared.spelling.Spelling.{Spelling}
 use Rattle.hunk_run.specs.Wide.{IsSpellingOf, RewritesPlain}
 use Rattle.hunk_run.proofs.Plainly.{rewrites_wide}
 use Rattle.hunk_run.proofs.rewriting_plain.rewrite_wide.Goals as goal
