@@ -165,17 +165,17 @@ impl Expander {
     }
 
     /// Gives out into the buffer what the first bytes of the piece are for, as far as both go, and
-    /// how many bytes it took and gave out. It takes whole longwords, or words of 16 bits: some where
-    /// nothing is held, of a piece of 4 bytes or more and into a buffer of 8.
+    /// how many bytes it took and gave out. It takes whole longwords, or words of 16 bits. Where
+    /// nothing is held it takes some of a piece of 4 bytes or more, into a buffer of 8 or more.
     pub fn expand(&mut self, piece: &[u8], buf: &mut [u8]) -> (usize, usize)
         ensures taken { result.0 ≤ length piece.now }
         ensures given { result.1 ≤ length buf.new }
         ensures bare { 0 < result.1 → (self.new.ready ≡ []) × (self.new.begun ≡ []) }
+        ensures nothing_held { 0 < result.0 → (self.new.ready ≡ []) × (self.new.begun ≡ []) }
         ensures left { (more : List ℕ) → left_of self.old (take result.0 piece.now ++ more)
             ≡ take result.1 buf.new ++ left_of self.new more }
         ensures spot { (more : List ℕ) → spot_of self.old (take result.0 piece.now ++ more)
             ≡ spot_of self.new more }
-        ensures nothing_held { 0 < result.0 → (self.new.ready ≡ []) × (self.new.begun ≡ []) }
         ensures some { self.old.ready ≡ [] → self.old.begun ≡ [] → 4 ≤ length piece.now
             → 8 ≤ length buf.new → 0 < result.0 }
     {

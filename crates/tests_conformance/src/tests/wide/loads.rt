@@ -131,8 +131,8 @@ fn places(rt: HostRuntime) -> Result<(), Fail> {
     Ok(())
 }
 
-/// A wide spelling that is cut off, the place of `Truncated` in the plain one, and the place in it: its end, or where the
-/// last longword, or 16-bit word, begins that is not whole.
+/// A wide spelling that is cut off, the place of `Truncated` in the plain one, and the place in it: its end, or where
+/// the longword, or 16-bit word, begins that is cut.
 const CUT: &[(&str, u64, u64)] = &[
     // In a longword: of the header, a block word, and the block word of the next hunk, whose END is not put back.
     ("", 0, 0),
