@@ -1,6 +1,5 @@
 -- Load files in other spellings.
 use Rattle.std.specs.Prelude.{◌≡◌, ℕ, ◌<◌, ◌≤◌, List, ◌++◌, length, drop}
-use Rattle.hunk_wide.specs.Places.{place_of}
 use Rattle.hunk_wide.specs.Plain.{plain}
 use Rattle.hunk_wide.specs.Spellings.{ends_of, short_blocks_of}
 use Rattle.hunk_c.specs.declared.answer.Answer.{Answer}

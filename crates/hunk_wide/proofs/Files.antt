@@ -190,9 +190,6 @@ same_stay h None b k file rest i fits = absurd (cc i.source)
 same_stay h (Some xs) None k file rest i fits = absurd k
 same_stay h (Some xs) (Some ys) k file rest i fits = record { bytes = i.bytes; source = ap (λ (x : List ℕ). Some x) k ∙ i.source; ends = i.ends; gives = i.gives }
 
-pub not_pulled : (h k : Held) (a b c : Option (List ℕ)) → StaysInFile h a k b 0 → Keeps b c → StaysInFile h a k c 0
-not_pulled h k a b c first keeps = two_stay h k k a b c 0 first (same_stay k b c keeps)
-
 pub stays_first : {E : Type 0} (h k : Held) (a b c : Option (List ℕ)) (r : Result ℕ E) → StaysInFile h a k b 0 → MatchResult r (λ n. StaysInFile k b k c n) (λ e. StaysInFile k b k c 0)
     → MatchResult r (λ n. StaysInFile h a k c n) (λ e. StaysInFile h a k c 0)
 stays_first h k a b c (Ok n) first second = two_stay h k k a b c n first second

@@ -1,5 +1,5 @@
 //! The plain spelling of an input that is in hand whole, written at once.
-ghost use Rattle.std.specs.Prelude.{◌≡◌, ◌<◌, ◌≤◌, ◌++◌, ◌⊎◌, [], IfErr, IfOk, OnErr, length, drop};
+ghost use Rattle.std.specs.Prelude.{◌≡◌, ◌<◌, ◌++◌, ◌⊎◌, [], IfErr, IfOk, OnErr, length, drop};
 ghost use Rattle.hunk_wide.specs.Held.{left_of, wanted};
 ghost use Rattle.hunk_wide.specs.Plain.{plain};
 
