@@ -11,6 +11,9 @@ const OBJECT = 0x3e7;
 const LOAD = 0x3f3;
 const BUDGET = 27;
 
+/** What a load file may be refused for that is good in its plain spelling: ShortReloc, SecondContent and Truncated. */
+const OF_SPELLING = [13, 17, 26];
+
 /** What the call answers, or the HunkError that it throws. */
 function tried(call) {
   try {
@@ -36,18 +39,32 @@ export function summary(hunk, bytes) {
   return { kind, hunks, length, units: hunk.units(bytes, 0).count, findings: checked.count };
 }
 
+/** The plain spelling of bytes that are refused, and what that is, where it is accepted. */
+function inPlain(hunk, bytes, { refusal }) {
+  if (!OF_SPELLING.includes(refusal?.number)) return null;
+  const spelling = hunk.spelling(bytes);
+  if (spelling.shortBlocks + spelling.ends === 0) return null;
+  const plain = hunk.plain(bytes);
+  const about = summary(hunk, plain);
+  return about.refusal ? null : { plain, about: { ...about, spelling, strict: refusal } };
+}
+
 /** The bytes that a load file declares; there are 65,536 hunks at most. */
 function declared(hunk, bytes) {
   return hunk.table(bytes, Number.MAX_SAFE_INTEGER).size;
 }
 
-/** A file that is looked at. Its lists are read when they are first asked for. */
+/** A file that is looked at. Its lists are read when they are first asked for. Where only the plain spelling of the input is
+ * accepted, that is the file. */
 export class Examined {
-  constructor(hunk, bytes, name) {
+  constructor(hunk, input, name) {
+    const strict = summary(hunk, input);
+    const spelled = inPlain(hunk, input, strict);
     this.hunk = hunk;
-    this.bytes = bytes;
+    this.input = input;
+    this.bytes = spelled?.plain ?? input;
     this.name = name;
-    this.about = summary(hunk, bytes);
+    this.about = spelled?.about ?? strict;
     this.lists = {};
     if (this.about.refusal) return;
     this.table = null;

@@ -34,7 +34,17 @@ function refusalText({ kind, refusal }) {
   return `${what}: refused at byte ${refusal.place} (${hex(refusal.place)}), ${refusal.reason} (${refusal.number}).`;
 }
 
+/** Of a file that is shown in its plain spelling: what it has otherwise, and why it is refused as it is. */
+function spelledText({ hunks, declared, spelling, strict }) {
+  const short = spelling.shortBlocks > 0 ? [`${counted(spelling.shortBlocks, "block")} of short relocations`] : [];
+  const ends = spelling.ends > 0 ? [`${spelling.ends.toLocaleString("en")} END left out`] : [];
+  const what = `${counted(hunks, "hunk")}, ${counted(declared, "byte")} in memory`;
+  const found = `In another spelling, with ${[...short, ...ends].join(" and ")}, a load file: ${what}. Its plain spelling is shown.`;
+  return `${found} As it is, it is refused at byte ${strict.place} (${hex(strict.place)}), ${strict.reason} (${strict.number}).`;
+}
+
 function acceptedText(about) {
+  if (about.strict) return spelledText(about);
   const rest = about.length < file.bytes.length ? `; ${counted(file.bytes.length - about.length, "byte")} after it are not read` : "";
   if (about.hunks > 0) {
     return `A load file: ${counted(about.hunks, "hunk")}, ${counted(about.declared, "byte")} in memory${rest}.`;
@@ -46,8 +56,9 @@ function showVerdict() {
   const { about } = file;
   $("verdict").className = about.refusal ? "bad" : "good";
   $("verdict").textContent = about.refusal ? refusalText(about) : acceptedText(about);
-  $("why").textContent = about.refusal ? whyText(about.refusal) : "";
-  $("file-name").textContent = `${file.name}, ${counted(file.bytes.length, "byte")}`;
+  const refusal = about.refusal ?? about.strict;
+  $("why").textContent = refusal ? whyText(refusal) : "";
+  $("file-name").textContent = `${file.name}, ${counted(file.input.length, "byte")}`;
 }
 
 // ---- The file.
@@ -231,7 +242,7 @@ async function openModule() {
 function listen() {
   for (const id of ["pick", "pick-folder"]) $(id).addEventListener("change", () => openPicked($(id)));
   $("example").addEventListener("change", () => openExample($("example").value));
-  $("base").addEventListener("change", () => file && show(file.bytes, file.name));
+  $("base").addEventListener("change", () => file && show(file.input, file.name));
   $("save-stripped").addEventListener("click", saveStripped);
   $("save-memory").addEventListener("click", () => save(memory, `${file.name}.memory`));
   $("save-csv").addEventListener("click", () => save(many.csv(), "hunks.csv", "text/csv"));

@@ -138,7 +138,9 @@ async function compareRow(page, row) {
   hold(row.name, row.answer, await page.in(SHOWN));
   if (!row.answer.startsWith("accepted")) {
     const marked = await page.in(`return document.querySelectorAll("#file-hex .refused").length`);
-    hold(`${row.name}, the bytes that are marked`, 4, marked);
+    // Where the plain spelling is accepted, that is shown, and nothing in it is refused.
+    const isSpelled = await page.in(`return document.getElementById("verdict").textContent.startsWith("In another spelling")`);
+    hold(`${row.name}, the bytes that are marked`, isSpelled ? 0 : 4, marked);
     const why = await page.in(`return document.getElementById("why").textContent.split("\\n")[0].toLowerCase()`);
     hold(`${row.name}, why`, whyOf(row.answer).toLowerCase(), why);
     return;
