@@ -7,7 +7,7 @@ mod rows;
 mod suite;
 
 use crate::tests::asserts::assert_equal_at;
-use hunk_wide::{Expander, Plain};
+use hunk_wide::{Expander, Plain, spelling_of, write_plain};
 use hunk_words::{Failed, FromSlice, Source};
 use std::alloc::{AllocError, Global};
 use std::fmt::Debug;
@@ -83,7 +83,42 @@ fn expanded(alloc: Global, wide: &[u8]) -> Result<Vec<u8>, AllocError> {
     Ok(plain)
 }
 
-/// Sees that these bytes have that plain spelling: held whole, in pieces of 1 and of 7 bytes, and pushed.
+/// The plain spelling as it is written where there is room for so many bytes, or nothing for want of room. What follows
+/// it has to stay.
+fn written(alloc: Global, wide: &[u8], room: usize) -> Result<Option<Vec<u8>>, AllocError> {
+    let mut out = Vec::new(alloc);
+    for _ in 0..room {
+        out.push(0xA5)?;
+    }
+    let Ok(count) = write_plain(wide, &mut out) else {
+        return Ok(None);
+    };
+    for i in count..out.len() {
+        out[i] ^= 0xA5;
+    }
+    Ok(Some(out))
+}
+
+/// Sees that it is written where there is just room, and not where there is a byte less.
+fn expect_written<C: Copy + Debug + Drop>(
+    rt: &impl Abort,
+    alloc: Global,
+    wide: &[u8],
+    plain: &[u8],
+    case: C,
+) -> Result<(), Fail> {
+    let size = plain.len();
+    assert_equal_at(rt, spelling_of(wide).len, size as u64, (case, "length"));
+    let got = written(alloc, wide, size)?;
+    assert_equal_at(rt, got.as_deref(), Some(plain), (case, "written"));
+    if size > 0 {
+        let lacks = written(alloc, wide, size - 1)?;
+        assert_equal_at(rt, lacks.is_none(), true, (case, "no room"));
+    }
+    Ok(())
+}
+
+/// Sees that these bytes have that plain spelling: held whole, in pieces of 1 and of 7 bytes, pushed, and written.
 ///
 /// One more pull than there are bytes to come sees the end.
 fn expect_plain<C: Copy + Debug + Drop>(
@@ -103,5 +138,5 @@ fn expect_plain<C: Copy + Debug + Drop>(
     }
     let pushed = expanded(alloc, wide)?;
     assert_equal_at(rt, pushed.as_slice(), plain, (case, "pushed"));
-    Ok(())
+    expect_written(rt, alloc, wide, plain, case)
 }

@@ -3,7 +3,7 @@
 use crate::tests::asserts::assert_equal_at;
 use crate::tests::wide::digits;
 use hunk_scatter::{Image, Limits, Packed, load};
-use hunk_wide::{Plain, place_in};
+use hunk_wide::{Plain, place_in, spelling_of};
 use hunk_words::{FromSlice, LoadFault, Reason};
 use std::alloc::{AllocError, Global};
 use std::process::Abort;
@@ -176,6 +176,27 @@ fn cut_off(rt: HostRuntime) -> Result<(), Fail> {
         };
         assert_equal_at(&rt, loaded(rt.alloc(), &bytes).err(), Some(fault), wide);
         assert_equal_at(&rt, place_in(&bytes, *place), *from, wide);
+    }
+    Ok(())
+}
+
+/// Spellings, and how many short blocks and left out END they have.
+const SPELLED: &[(&str, u64, u64)] = &[
+    (SHORT, 1, 0),
+    (NO_ENDS, 0, 2),
+    ("3F3 0 1 0 0 1 / 3EB 1 / 3FC 0000 0001 / 3F2", 1, 0),
+    ("3F3 0 1 0 0 1 / 3EB 1 / 3F2 / 3FC 0000 0000", 0, 0),
+    ("3F3 0 1 0 0 1 / 3EB 1 / 00", 0, 0),
+    ("3E7 0 / 3E9 0 / 3F2", 0, 0),
+];
+
+#[test]
+fn spellings(rt: HostRuntime) -> Result<(), Fail> {
+    for (wide, short_blocks, ends) in SPELLED {
+        let bytes = digits(rt.alloc(), wide)?;
+        let spelling = spelling_of(&bytes);
+        let counts = (spelling.short_blocks, spelling.ends);
+        assert_equal_at(&rt, counts, (*short_blocks, *ends), wide);
     }
     Ok(())
 }
