@@ -4,12 +4,14 @@
 Load files: code, debug, offsets, hunks (65,536 of them from 2 MiB on), targets (hunks that are relocated to any other), symbols,
 blocks (DEBUG blocks of nothing), program (what a linker makes of some modules: 12 hunks, or 3 below 16 KiB).
 Object files: units, findings (relocations at no hunk, outside theirs).
+In other spellings, for --wide: short (one block of short relocations, in large groups), groups (the same, of 1 to 8 offsets), open
+(hunks of one longword, each END left out).
 For memory: entry, symbol, group (blocks with one of these), unit and hunk (the smallest ones)."""
 import array
 import random
 import sys
 
-UNIT, CODE, DATA, BSS, RELOC32, EXT = 0x3E7, 0x3E9, 0x3EA, 0x3EB, 0x3EC, 0x3EF
+UNIT, CODE, DATA, BSS, RELOC32, EXT, RELOC32SHORT = 0x3E7, 0x3E9, 0x3EA, 0x3EB, 0x3EC, 0x3EF, 0x3FC
 SYMBOL, DEBUG, END, HEADER = 0x3F0, 0x3F1, 0x3F2, 0x3F3
 
 # one hunk of one longword, open after its code
@@ -96,12 +98,42 @@ def findings(longs, content):
     yield [0, END]
 
 
+def halves(numbers):
+    """The longwords of these numbers of 16 bits, filled up with 0."""
+    filled = numbers + [0] * (len(numbers) % 2)
+    return [65536 * high + low for high, low in zip(filled[::2], filled[1::2])]
+
+
+def short(longs, content, counts=lambda at: 65535):
+    size = 16384
+    yield one_hunk_of(size)
+    yield content(size)
+    numbers = []
+    while len(numbers) < 2 * (longs - size):
+        count = counts(len(numbers))
+        numbers += [count, 0] + [4 * (at % size) for at in range(count)]
+    yield [RELOC32SHORT]
+    yield halves(numbers + [0])
+    yield [END]
+
+
+def groups(longs, content):
+    yield from short(longs, content, lambda at: 1 + at % 8)
+
+
+def open_hunks(longs, _):
+    count = min(65536, longs // 3)
+    yield [HEADER, 0, count, 0, count - 1] + [1] * count
+    yield [CODE, 1, 0x4E754E71] * count
+
+
 def repeated(front, part, back):
     """The kind of a file with this part over and over."""
     return lambda longs, _: iter([front, part * (longs // len(part)), back])
 
 
-KINDS = {make.__name__: make for make in (code, debug, offsets, hunks, targets, symbols, blocks, program, units, findings)} | {
+KINDS = {make.__name__: make for make in (code, debug, offsets, hunks, targets, symbols, blocks, program, units, findings, short, groups)} | {
+    "open": open_hunks,
     "entry": repeated([UNIT, 0, CODE, 1, 0], [EXT, 0x01000000, 0, 0], [END]),
     "symbol": repeated(ONE_HUNK, [SYMBOL, 1, 0x61000000, 0, 0], [END]),
     "group": repeated(ONE_HUNK, [RELOC32, 1, 0, 0, 0], [END]),
