@@ -141,7 +141,7 @@ fn orders(rt: HostRuntime) -> Result<(), Fail> {
 #[test]
 fn no_word_at_all(rt: HostRuntime) -> Result<(), Fail> {
     let got = told(rt.alloc(), &[])?;
-    let want = "relocate true 00000000 16777216 (standard input)";
+    let want = "relocate true false 00000000 16777216 (standard input)";
     assert_equal(&rt, got.as_str(), want);
     Ok(())
 }
