@@ -6,6 +6,7 @@ pub mod Objects
 pub mod Files
 pub mod Leads
 pub mod Offsets
+pub mod AsIs
 pub mod Placing
 pub mod Straight
 pub mod Stretches

@@ -3,6 +3,7 @@ pub mod Halves
 pub mod Held
 pub mod InFile
 pub mod Longwords
+pub mod Parts
 pub mod Places
 pub mod Plain
 pub mod Spellings

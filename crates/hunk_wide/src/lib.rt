@@ -7,6 +7,7 @@
 
 mod expander;
 mod laws;
+mod parts;
 mod place;
 mod plain;
 mod position;

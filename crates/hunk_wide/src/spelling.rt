@@ -7,6 +7,7 @@ ghost use Rattle.hunk_wide.specs.declared.spot.ShortPart.TheVariants.{Offset};
 ghost use Rattle.hunk_wide.specs.declared.spot.Spot.TheVariants.{Filler, Half, Long, Straight};
 
 use crate::expander::is_last;
+use crate::parts::part_at;
 use crate::place::given_len;
 use crate::position::FilePosition;
 use crate::spot::{Given, ShortPart, Spot};
@@ -141,6 +142,15 @@ fn long_at(position: FilePosition, rest: &[u8]) -> Option<Units>
 {
     if rest.len() < 4 {
         return None;
+    }
+    let part = part_at(position, rest);
+    if part.size > 0 {
+        return Some(Units {
+            size: part.size,
+            given: part.size as u64,
+            put_in: Given::Same,
+            next: Spot::Long(part.next),
+        });
     }
     let word = u32::from_be_bytes([rest[0], rest[1], rest[2], rest[3]]);
     let put_in = Given::of(position, word);

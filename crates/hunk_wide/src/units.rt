@@ -8,6 +8,7 @@ ghost use Rattle.hunk_wide.specs.declared.spot.ShortPart.TheVariants.{Offset};
 ghost use Rattle.hunk_wide.specs.Plain.{GivesFor};
 ghost use Rattle.hunk_wide.specs.declared.spot.Spot.TheVariants.{Filler, Half, Long, Passing, Straight};
 
+use crate::parts::{Part, part_at};
 use crate::position::FilePosition;
 use crate::spot::{Given, ShortPart, Spot, long_word};
 
@@ -132,12 +133,35 @@ fn expand_long(position: FilePosition, piece: &[u8], buf: &mut [u8]) -> Stretch
     if piece.len() < 4 || buf.len() < 8 {
         return nothing(Spot::Long(position));
     }
+    let room = piece.len().min(buf.len());
+    let part = part_at(position, &piece[..room]);
+    if part.size > 0 {
+        return copy_part(part, piece, buf);
+    }
     let cells = [piece[0], piece[1], piece[2], piece[3]];
     let word = u32::from_be_bytes(cells);
     Stretch {
         taken: 4,
         given: put_long(Given::of(position, word), cells, buf),
         next: Spot::behind_long(position, word),
+    }
+}
+
+/// Copies the bytes that are given out as they are.
+#[inline(always)]
+fn copy_part(part: Part, piece: &[u8], buf: &mut [u8]) -> Stretch
+    requires piece { part.size ≤ length piece.now }
+    requires room { part.size ≤ length buf.old }
+    ensures taken { result.taken ≡ part.size }
+    ensures given { result.given ≡ part.size }
+    ensures bytes { take part.size buf.new ≡ take part.size piece.now }
+    ensures next { result.next ≡ Long part.next }
+{
+    buf[..part.size].copy_from_slice(&piece[..part.size]);
+    Stretch {
+        taken: part.size,
+        given: part.size,
+        next: Spot::Long(part.next),
     }
 }
 

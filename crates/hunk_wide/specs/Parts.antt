@@ -1,0 +1,69 @@
+-- Parts of a file that are given out as they are, passed over at once.
+use Rattle.std.specs.Prelude.{◌≡◌, ℕ, suc, ◌≤◌, Bool, true, false, ◌||◌, List, [], ◌∷◌, ◌++◌, length, take, slice_index_or}
+use Rattle.std.specs.Int.{from_be_bytes, w32}
+use Rattle.hunk_words.specs.Bits.{has_both_bits}
+use Rattle.hunk_grammar.specs.declared.phase.Phase.{Phase}
+use Rattle.hunk_grammar.specs.declared.phase.Phase.TheVariants as phases
+use Rattle.hunk_grammar.specs.declared.position.OpenHunk.{OpenHunk}
+use Rattle.hunk_grammar.specs.declared.position.Position.{Position}
+use Rattle.hunk_grammar.specs.declared.position.Position.TheVariants as positions
+use Rattle.hunk_grammar.specs.PhaseSteps.{longest_run}
+use Rattle.hunk_wide.specs.declared.position.FilePosition.TheVariants as files
+use Rattle.hunk_wide.specs.declared.spot.Spot.{Spot}
+use Rattle.hunk_wide.specs.declared.spot.Spot.TheVariants.{Long}
+use Rattle.hunk_wide.specs.InFile.{LeadsTo}
+use Rattle.hunk_wide.specs.Plain.{GivesFor}
+use Rattle.hunk_wide.specs.Spellings.{ends_from, short_blocks_from}
+
+-- These bytes are given out as they are, whatever follows them, and what follows is for this. None of them is counted.
+pub record AsIs (s : Spot) (bytes : List ℕ) (next : Spot) : Type 0 where
+  pub gives : GivesFor s bytes bytes next
+  pub leads : LeadsTo s bytes next
+  pub short_blocks : (more : List ℕ) → short_blocks_from s (bytes ++ more) ≡ short_blocks_from next more
+  pub ends : (more : List ℕ) → ends_from s (bytes ++ more) ≡ ends_from next more
+
+-- a longword of a load file at this position
+abbrev pub load_at : Position → Spot
+load_at p = Long (files.Load p)
+
+-- where a block word of the hunk stands, the first or a further one
+abbrev pub word_at : OpenHunk → Bool → Position
+word_at o true = positions.Body o phases.FirstBlock
+word_at o false = positions.Body o phases.BlockWord
+
+-- the longword that the bytes begin with
+abbrev pub front_word : List ℕ → ℕ
+front_word bytes = from_be_bytes w32 (slice_index_or bytes 0 0 ∷ slice_index_or bytes 1 0 ∷ slice_index_or bytes 2 0 ∷ slice_index_or bytes 3 0 ∷ [])
+
+-- a size word that no attributes follow
+pub record IsRow (bytes : List ℕ) : Type 0 where
+  pub whole : 4 ≤ length bytes
+  pub bare : has_both_bits (front_word bytes) ≡ false
+
+-- the hunk after one that others follow
+pub record IsNext (hunk next : OpenHunk) : Type 0 where
+  pub hunks : next.hunks ≡ hunk.hunks
+  pub ahead : hunk.ahead ≡ suc next.ahead
+  pub bare : next.has_content ≡ false
+
+-- the block has the content of its hunk
+abbrev pub is_content : Phase → Bool
+is_content phases.ContentSize = true
+is_content phases.BssSize = true
+is_content _ = false
+
+-- the hunk after a block of it
+abbrev pub past : OpenHunk → Phase → OpenHunk
+past o phase = record { hunks = o.hunks; ahead = o.ahead; has_content = is_content phase || o.has_content }
+
+-- So many bytes are those of a block after its word, which leads to this phase.
+pub record IsBody (phase : Phase) (bytes : List ℕ) (size : ℕ) : Type 0 where
+  pub whole : size ≤ length bytes
+  pub begins : longest_run phase ≡ 0
+  pub as_is : (o : OpenHunk) → AsIs (load_at (positions.Body o phase)) (take size bytes) (load_at (positions.Body (past o phase) phases.BlockWord))
+
+-- So many bytes are those of a block of the hunk, or of its END, after which this one stands so.
+pub record IsBlock (o : OpenHunk) (bytes : List ℕ) (size : ℕ) (is_end : Bool) (next : OpenHunk) : Type 0 where
+  pub word : 4 ≤ size
+  pub whole : size ≤ length bytes
+  pub as_is : AsIs (load_at (word_at o false)) (take size bytes) (load_at (word_at next is_end))

@@ -1,0 +1,277 @@
+//! Parts of a file that are given out as they are, and are passed over at once.
+ghost use Rattle.std.specs.Prelude.{◌≡◌, ◌+◌, ◌*◌, ◌≤◌, ◌||◌, IfNone, IfSome, IsTrue, length, take};
+ghost use Rattle.hunk_words.specs.Bits.{kind};
+ghost use Rattle.hunk_grammar.specs.declared.phase.Phase.TheVariants as phases;
+ghost use Rattle.hunk_grammar.specs.declared.position.OpenHunk.{OpenHunk};
+ghost use Rattle.hunk_grammar.specs.declared.position.Position.TheVariants as positions;
+ghost use Rattle.hunk_grammar.specs.PhaseSteps.{begin};
+ghost use Rattle.hunk_wide.specs.Parts.{AsIs, IsBlock, IsBody, IsNext, IsRow};
+ghost use Rattle.hunk_wide.specs.Parts.{front_word, is_content, load_at, word_at};
+ghost use Rattle.hunk_wide.specs.declared.spot.Spot.TheVariants.{Long};
+
+use crate::position::FilePosition;
+use crate::spot::Given;
+use hunk_grammar::{OpenHunk, Phase, Position};
+use hunk_words::{BlockWord, CONTENT_LIMIT, NAME_LIMIT, SizeWord};
+
+/// The first bytes of a wide spelling, given out as they are.
+#[derive(Clone, Copy)]
+pub(crate) struct Part {
+    /// The number of the bytes.
+    pub(crate) size: usize,
+    /// What the longword after them is for.
+    pub(crate) next: FilePosition,
+}
+
+/// A block that was passed over.
+#[derive(Clone, Copy)]
+struct Block {
+    /// The number of its bytes.
+    size: usize,
+    /// Whether it is the END of a hunk, after which the next begins.
+    is_end: bool,
+}
+
+/// The rows of the table, or the blocks, that the bytes begin with, where a longword stands at this
+/// position. It may be none of them, also where some are whole, and in an object file it is none.
+#[inline(always)]
+pub(crate) fn part_at(position: FilePosition, bytes: &[u8]) -> Part
+    ensures inside { result.size ≤ length bytes.now }
+    ensures as_is { AsIs (Long position) (take result.size bytes.now) (Long result.next) }
+{
+    match position {
+        FilePosition::Load(position) => load_part_at(position, bytes),
+        FilePosition::Object(_) => nothing(position),
+    }
+}
+
+/// The same in a load file.
+#[inline(always)]
+fn load_part_at(position: Position, bytes: &[u8]) -> Part
+    ensures inside { result.size ≤ length bytes.now }
+    ensures as_is { AsIs (load_at position) (take result.size bytes.now) (Long result.next) }
+{
+    match position {
+        Position::SizeWord { hunks, owed } => rows_at(hunks, owed, bytes),
+        Position::Body(hunk, phase) => match phase {
+            Phase::FirstBlock => blocks_at(hunk, true, bytes),
+            Phase::BlockWord => blocks_at(hunk, false, bytes),
+            _ => nothing(FilePosition::Load(position)),
+        },
+        _ => nothing(FilePosition::Load(position)),
+    }
+}
+
+/// No bytes.
+#[inline(always)]
+fn nothing(position: FilePosition) -> Part
+    ensures { result ≡ record { size = 0; next = position } }
+{
+    Part {
+        size: 0,
+        next: position,
+    }
+}
+
+/// Rows of the table, up to its last.
+#[inline(never)]
+fn rows_at(hunks: u32, owed: u32, bytes: &[u8]) -> Part
+    ensures inside { result.size ≤ length bytes.now }
+    ensures as_is { AsIs (load_at (positions.SizeWord hunks owed)) (take result.size bytes.now)
+        (Long result.next) }
+{
+    let mut left = owed;
+    let mut at = 0;
+    'rows: while left > 0 {
+        if !is_row(&bytes[at..]) {
+            break 'rows;
+        }
+        left -= 1;
+        at += 4;
+    }
+    Part {
+        size: at,
+        next: FilePosition::Load(Position::SizeWord { hunks, owed: left }),
+    }
+}
+
+/// Whether the bytes begin with a size word that no attributes follow.
+#[inline(always)]
+fn is_row(bytes: &[u8]) -> bool
+    ensures { IsTrue result → IsRow bytes.now }
+{
+    bytes.len() >= 4 && !SizeWord::has_extra(front_word(bytes))
+}
+
+/// The longword that the bytes begin with.
+#[inline(always)]
+fn front_word(bytes: &[u8]) -> u32
+    requires { 4 ≤ length bytes.now }
+    ensures { result ≡ front_word bytes.now }
+{
+    u32::from_be_bytes([bytes[0], bytes[1], bytes[2], bytes[3]])
+}
+
+/// Blocks, and the ends of hunks with others ahead. The first may be the first of its hunk.
+#[inline(never)]
+fn blocks_at(hunk: OpenHunk, is_first: bool, bytes: &[u8]) -> Part
+    ensures inside { result.size ≤ length bytes.now }
+    ensures as_is { AsIs (load_at (word_at hunk is_first)) (take result.size bytes.now)
+        (Long result.next) }
+{
+    let mut hunk = hunk;
+    let mut is_first = is_first;
+    let mut at = 0;
+    'blocks: while let Some(block) = pass_block(&mut hunk, &bytes[at..]) {
+        at += block.size;
+        is_first = block.is_end;
+    }
+    Part {
+        size: at,
+        next: FilePosition::Load(word_at(hunk, is_first)),
+    }
+}
+
+/// The place of a block word of the hunk.
+#[inline(always)]
+fn word_at(hunk: OpenHunk, is_first: bool) -> Position
+    ensures { result ≡ word_at hunk is_first }
+{
+    if is_first {
+        Position::Body(hunk, Phase::FirstBlock)
+    } else {
+        Position::Body(hunk, Phase::BlockWord)
+    }
+}
+
+/// The block that the bytes begin with, and goes on to the hunk as it is after it. `None` leaves
+/// that as it was.
+#[inline(always)]
+fn pass_block(hunk: &mut OpenHunk, bytes: &[u8]) -> Option<Block>
+    ensures some { IfSome result (λ b. IsBlock hunk.old bytes.now b.size b.is_end hunk.new) }
+    ensures none { IfNone result (hunk.new ≡ hunk.old) }
+{
+    if bytes.len() < 8 {
+        return None;
+    }
+    let word = front_word(bytes);
+    match Given::of(FilePosition::Load(word_at(*hunk, false)), word) {
+        Given::Same => (),
+        _ => return None,
+    }
+    let Some(phase) = begun_by(word) else {
+        let size = pass_end(hunk)?;
+        let is_end = true;
+        return Some(Block { size, is_end });
+    };
+    let size = body_size(phase, &bytes[4..])?;
+    hunk.has_content = has_content_after(phase, hunk.has_content);
+    Some(Block {
+        size: 4 + size,
+        is_end: false,
+    })
+}
+
+/// Goes on to the hunk after the END of this one. `None` where it is the last.
+#[inline(always)]
+fn pass_end(hunk: &mut OpenHunk) -> Option<usize>
+    ensures some { IfSome result (λ size. (size ≡ 4) × IsNext hunk.old hunk.new) }
+    ensures none { IfNone result (hunk.new ≡ hunk.old) }
+{
+    if hunk.ahead == 0 {
+        return None;
+    }
+    hunk.ahead -= 1;
+    hunk.has_content = false;
+    Some(4)
+}
+
+/// What follows this block word: `None` where it ends its block.
+#[inline(always)]
+fn begun_by(word: u32) -> Option<Phase>
+    ensures { result ≡ begin (kind word) }
+{
+    Phase::begin(BlockWord::of(word).kind())
+}
+
+/// Whether the hunk has its content after the block, where it has it before or not.
+#[inline(always)]
+fn has_content_after(phase: Phase, has_content: bool) -> bool
+    ensures { result ≡ (is_content phase || has_content) }
+{
+    match phase {
+        Phase::ContentSize | Phase::BssSize => true,
+        _ => has_content,
+    }
+}
+
+/// How many bytes come after the word of a block, where they are all there.
+#[inline(always)]
+fn body_size(phase: Phase, bytes: &[u8]) -> Option<usize>
+    requires { 4 ≤ length bytes.now }
+    ensures { IfSome result (λ size. IsBody phase bytes.now size) }
+{
+    match phase {
+        Phase::ContentSize => counted_size(front_word(bytes) % CONTENT_LIMIT, bytes),
+        Phase::BssSize => Some(4),
+        Phase::NameCount => counted_size(front_word(bytes), bytes),
+        Phase::LongCount => counted_size(front_word(bytes), bytes),
+        Phase::EntryWord => symbols_size(bytes),
+        Phase::GroupCount => groups_size(bytes),
+        _ => None,
+    }
+}
+
+/// The size of a count, and of so many longwords, where they are all there.
+#[inline(always)]
+fn counted_size(longs: u32, bytes: &[u8]) -> Option<usize>
+    ensures { IfSome result (λ size. (size ≡ 4 + 4 * longs) × (size ≤ length bytes.now)) }
+{
+    let size = 4 + 4 * longs as usize;
+    if bytes.len() < size {
+        return None;
+    }
+    Some(size)
+}
+
+/// The size of the symbols up to the 0 that ends them.
+#[inline(never)]
+fn symbols_size(bytes: &[u8]) -> Option<usize>
+    ensures { IfSome result (λ size. IsBody phases.EntryWord bytes.now size) }
+{
+    let mut at = 0;
+    'symbols: while bytes.len() - at >= 4 {
+        let word = front_word(&bytes[at..]);
+        if word == 0 {
+            return Some(at + 4);
+        }
+        // The word, the name, and the value.
+        let size = 8 + 4 * (word % NAME_LIMIT) as usize;
+        if bytes.len() - at < size {
+            break 'symbols;
+        }
+        at += size;
+    }
+    None
+}
+
+/// The size of the groups of 32-bit offsets up to the 0 that ends them.
+#[inline(never)]
+fn groups_size(bytes: &[u8]) -> Option<usize>
+    ensures { IfSome result (λ size. IsBody phases.GroupCount bytes.now size) }
+{
+    let mut at = 0;
+    'groups: while bytes.len() - at >= 4 {
+        let count = front_word(&bytes[at..]);
+        if count == 0 {
+            return Some(at + 4);
+        }
+        // The count, the target, and the offsets.
+        let size = 8 + 4 * count as usize;
+        if bytes.len() - at < size {
+            break 'groups;
+        }
+        at += size;
+    }
+    None
+}
