@@ -1,7 +1,7 @@
 -- What a wide spelling has otherwise than the plain one, in numbers.
-use Rattle.std.proofs.Common.{◌≡◌, ℕ, zero, suc, ◌+◌, ◌*◌, ◌==◌, ◌<◌, ◌≤◌, Bool, true, false, cond, not, List, [], ◌∷◌, ◌++◌, length, drop, get_or, length-append, refl, sym, ap, ap₂, subst, ◌∙◌, arith}
+use Rattle.std.proofs.Common.{◌≡◌, ℕ, zero, suc, ◌+◌, ◌*◌, ◌==◌, ◌<◌, ◌≤◌, Bool, true, false, cond, List, [], ◌∷◌, ◌++◌, length, take, drop, get_or, length-append, refl, sym, ap, ap₂, subst, ◌∙◌, arith}
 use Rattle.std.specs.Int.{from_be_bytes, to_be_bytes, w32}
-use Rattle.std.proofs.lemmas.Bool.{eq-eqb, ne_eqb, true≢false}
+use Rattle.std.proofs.lemmas.{Bool.{eq-eqb, ne_eqb, true≢false}, List.{length-take, take-append-drop}}
 use Rattle.hunk_words.specs.Bits.{end_word, header_word, unit_word}
 use Rattle.hunk_grammar.specs.declared.phase.Phase.{Phase}
 use Rattle.hunk_grammar.specs.declared.phase.Phase.TheVariants as phases
@@ -15,18 +15,17 @@ use Rattle.hunk_grammar.specs.Positions.{close, step}
 use Rattle.hunk_wide.specs.declared.position.FilePosition.{FilePosition}
 use Rattle.hunk_wide.specs.declared.position.FilePosition.TheVariants as files
 use Rattle.hunk_wide.specs.declared.spot.ShortPart.{ShortPart}
-use Rattle.hunk_wide.specs.declared.spot.ShortPart.TheVariants.{Offset}
 use Rattle.hunk_wide.specs.declared.spot.Spot.{Spot}
 use Rattle.hunk_wide.specs.declared.spot.Spot.TheVariants.{Passing, Straight, Long, Half, Filler}
 use Rattle.hunk_wide.specs.declared.spot.Given.{Given}
 use Rattle.hunk_wide.specs.declared.spot.Given.TheVariants.{Same, BehindEnd, AsLong}
 use Rattle.hunk_wide.specs.Places.{count_long}
 use Rattle.hunk_wide.specs.FileEnds.{ends, ending}
-use Rattle.hunk_wide.specs.Halves.{behind_filler, behind_half, behind_offsets, half_of, out_filler}
+use Rattle.hunk_wide.specs.Halves.{HalvesLead, behind_filler, behind_half, half_of, out_filler, widened}
 use Rattle.hunk_wide.specs.Longwords.{behind_block, behind_long, behind_word, given, given_block, given_object, go_on, out_long, straight}
 use Rattle.hunk_wide.specs.Plain.{plain, plain_from}
 use Rattle.hunk_wide.specs.Spellings.{BeginsWith, EndsThere, counted, ends_from, ends_of, has_end, is_short, one_if, short_blocks_from, short_blocks_of}
-use Rattle.hunk_wide.proofs.Placing.{front_half, front_word}
+use Rattle.hunk_wide.proofs.{ShortWords.{halves_give, widened_length}, Placing.{front_half, front_word}}
 
 -- ---- the longest plain spelling
 
@@ -119,11 +118,6 @@ long_begins p (a ∷ b ∷ c ∷ d ∷ rest) whole =
     }
 long_begins p _ whole = absurd (omega arith)
 
-pub half_begins : (after : FilePosition) (part : ShortPart) (odd : Bool) (bytes : List ℕ) → 2 ≤ length bytes → BeginsWith (Half after part odd) bytes 2 4 Same (behind_half after part odd (front_half bytes))
-unfolding plain_from counted
-half_begins after part odd (a ∷ b ∷ rest) whole = record { some = omega arith; whole = whole; len = omega arith; short_blocks = omega arith; ends = omega arith }
-half_begins after part odd _ whole = absurd (omega arith)
-
 filler_begins : (after : FilePosition) (bytes : List ℕ) → 2 ≤ length bytes
     → BeginsWith (Filler after) bytes 2 (length (out_filler (get_or bytes 0 0) (get_or bytes 1 0))) Same (behind_filler after (get_or bytes 0 0) (get_or bytes 1 0))
 unfolding plain_from counted
@@ -167,43 +161,28 @@ straight_begins owed next bytes whole = record {
   ends = omega (arith, straight_counted ends_before ends_after owed next bytes whole);
 }
 
-twice : (count : ℕ) → 2 * suc count ≡ suc (suc (2 * count))
-twice count = omega arith
-
-offsets_len : (after : FilePosition) (owed count : ℕ) (odd : Bool) (bytes : List ℕ) → count ≤ suc owed → 2 * count ≤ length bytes
-    → length (plain_from (Half after (Offset owed) odd) bytes) ≡ 4 * count + length (plain_from (behind_offsets after owed odd count) (drop (2 * count) bytes))
-unfolding plain_from
-offsets_len after owed zero odd bytes most whole = omega arith
-offsets_len after owed (suc count) odd [] most whole = absurd (omega arith)
-offsets_len after owed (suc count) odd (a ∷ []) most whole = absurd (omega arith)
-offsets_len after zero (suc zero) odd (a ∷ b ∷ rest) most whole = omega arith
-offsets_len after zero (suc (suc count)) odd (a ∷ b ∷ rest) most whole = absurd (omega arith)
-offsets_len after (suc owed) (suc count) odd (a ∷ b ∷ rest) most whole =
-    let more = offsets_len after owed count (not odd) rest (omega arith) (omega arith) in
-    let same = ap (λ (n : ℕ). length (plain_from (behind_offsets after owed (not odd) count) (drop n (a ∷ b ∷ rest)))) (twice count) in
-    omega (arith, more, same)
-
-offsets_counted : (f : Given → ℕ) (e : FilePosition → ℕ) (after : FilePosition) (owed count : ℕ) (odd : Bool) (bytes : List ℕ) → count ≤ suc owed → 2 * count ≤ length bytes
-    → counted f e (Half after (Offset owed) odd) bytes ≡ counted f e (behind_offsets after owed odd count) (drop (2 * count) bytes)
+halves_counted : (f : Given → ℕ) (e : FilePosition → ℕ) (front back : List ℕ) (s t : Spot) → HalvesLead front s t → counted f e s (front ++ back) ≡ counted f e t back
 unfolding counted
-offsets_counted f e after owed zero odd bytes most whole = refl
-offsets_counted f e after owed (suc count) odd [] most whole = absurd (omega arith)
-offsets_counted f e after owed (suc count) odd (a ∷ []) most whole = absurd (omega arith)
-offsets_counted f e after zero (suc zero) odd (a ∷ b ∷ rest) most whole = refl
-offsets_counted f e after zero (suc (suc count)) odd (a ∷ b ∷ rest) most whole = absurd (omega arith)
-offsets_counted f e after (suc owed) (suc count) odd (a ∷ b ∷ rest) most whole =
-    offsets_counted f e after owed count (not odd) rest (omega arith) (omega arith)
-    ∙ sym (ap (λ (n : ℕ). counted f e (behind_offsets after owed (not odd) count) (drop n (a ∷ b ∷ rest))) (twice count))
+halves_counted f e [] back s t h = ap (λ (x : Spot). counted f e x back) h
+halves_counted f e (a ∷ b ∷ rest) back (Half after part odd) t h = halves_counted f e rest back (behind_half after part odd (half_of a b)) t h
+halves_counted f e _ back _ t h = absurd h
 
-pub offsets_begin : (after : FilePosition) (owed count : ℕ) (odd : Bool) (bytes : List ℕ) → 0 < count → count ≤ suc owed → 2 * count ≤ length bytes
-    → BeginsWith (Half after (Offset owed) odd) bytes (2 * count) (4 * count) Same (behind_offsets after owed odd count)
-offsets_begin after owed count odd bytes some most whole = record {
-  some = omega arith;
-  whole = whole;
-  len = offsets_len after owed count odd bytes most whole;
-  short_blocks = omega (arith, offsets_counted shorts at_no_end after owed count odd bytes most whole);
-  ends = omega (arith, offsets_counted ends_before ends_after after owed count odd bytes most whole);
-}
+pub halves_begin : (s t : Spot) (bytes : List ℕ) (count : ℕ) → 0 < count → 2 * count ≤ length bytes → HalvesLead (take (2 * count) bytes) s t → BeginsWith s bytes (2 * count) (4 * count) Same t
+halves_begin s t bytes count some whole h =
+    let front : List ℕ = take (2 * count) bytes in
+    let back : List ℕ = drop (2 * count) bytes in
+    let all : front ++ back ≡ bytes = take-append-drop (2 * count) bytes in
+    let long : length (plain_from s bytes) ≡ length (widened front ++ plain_from t back) =
+    ap (λ (x : List ℕ). length (plain_from s x)) (sym all) ∙ ap length (halves_give front s t h back) in
+    let shorts_same = ap (counted shorts at_no_end s) (sym all) ∙ halves_counted shorts at_no_end front back s t h in
+    let ends_same = ap (counted ends_before ends_after s) (sym all) ∙ halves_counted ends_before ends_after front back s t h in
+    record {
+      some = omega arith;
+      whole = whole;
+      len = omega (arith, long, length-append (widened front) (plain_from t back), widened_length front s t h, length-take (2 * count) bytes);
+      short_blocks = omega (arith, shorts_same);
+      ends = omega (arith, ends_same);
+    }
 
 -- ---- no whole unit
 

@@ -1,14 +1,13 @@
 -- What bytes lead to: what is after them is for.
-use Rattle.std.proofs.Common.{◌≡◌, ℕ, zero, suc, ◌+◌, ◌*◌, ◌/◌, ◌%◌, ◌^◌, ◌<◌, ◌≤◌, Bool, not, cond, List, [], ◌∷◌, ◌++◌, length, take, drop, get_or, refl, sym, ap, ◌∙◌, append_assoc, arith}
+use Rattle.std.proofs.Common.{◌≡◌, ℕ, zero, suc, ◌+◌, ◌*◌, ◌/◌, ◌%◌, ◌^◌, ◌<◌, ◌≤◌, Bool, cond, List, [], ◌∷◌, ◌++◌, length, take, drop, get_or, refl, sym, ap, ◌∙◌, append_assoc, arith}
 use Rattle.std.specs.Int.{from_be_bytes, to_be_bytes, w16, w32}
 use Rattle.std.proofs.lemmas.{Bool.{eq-eqb, ne_eqb}, List.length-take, Nat.from_be_bytes-to_be_bytes_4}
 use Rattle.hunk_words.specs.{Longs.bytes_of, declared.pending.Pending.Pending, PendingBytes.pending_of}
 use Rattle.hunk_wide.specs.declared.position.FilePosition.{FilePosition}
 use Rattle.hunk_wide.specs.declared.spot.ShortPart.{ShortPart}
-use Rattle.hunk_wide.specs.declared.spot.ShortPart.TheVariants.{Offset}
 use Rattle.hunk_wide.specs.declared.spot.Spot.{Spot}
 use Rattle.hunk_wide.specs.declared.spot.Spot.TheVariants.{Passing, Straight, Long, Half, Filler}
-use Rattle.hunk_wide.specs.{Halves.{behind_half, behind_offsets, half_of}, Held.Held, Longwords.{behind_long, behind_straight}, InFile.{LeadsTo, spot_after, spot_of}}
+use Rattle.hunk_wide.specs.{Halves.{behind_half, half_of}, Held.Held, Longwords.{behind_long, behind_straight}, InFile.{LeadsTo, spot_after, spot_of}}
 use Rattle.hunk_wide.proofs.{Cutting.take_add, Few.pending_one, Straight.{InStraight, IsPassing}, Stretches.front_cells}
 
 -- ---- one unit
@@ -85,33 +84,6 @@ long_front p _ whole more = absurd (omega arith)
 
 pub long_front_leads : (p : FilePosition) (w : ℕ) (t : Spot) (piece : List ℕ) → 4 ≤ length piece → w ≡ from_be_bytes w32 (front_cells piece) → t ≡ behind_long p w → LeadsTo (Long p) (take 4 piece) t
 long_front_leads p w t piece whole e b more = long_front p piece whole more ∙ ap (λ (s : Spot). spot_after s more) (sym (b ∙ ap (behind_long p) e))
-
-half_front : (after : FilePosition) (part : ShortPart) (odd : Bool) (piece : List ℕ) → 2 ≤ length piece
-    → LeadsTo (Half after part odd) (take 2 piece) (behind_half after part odd (half_of (get_or piece 0 0) (get_or piece 1 0)))
-unfolding spot_after
-half_front after part odd (a ∷ b ∷ rest) whole more = refl
-half_front after part odd _ whole more = absurd (omega arith)
-
-pub half_front_leads : (after : FilePosition) (part : ShortPart) (odd : Bool) (t : Spot) (piece : List ℕ) → 2 ≤ length piece → t ≡ behind_half after part odd (half_of (get_or piece 0 0) (get_or piece 1 0))
-    → LeadsTo (Half after part odd) (take 2 piece) t
-half_front_leads after part odd t piece whole b more = half_front after part odd piece whole more ∙ ap (λ (s : Spot). spot_after s more) (sym b)
-
-offsets_lead : (after : FilePosition) (owed count : ℕ) (odd : Bool) (halves : List ℕ) → length halves ≡ 2 * count → count ≤ suc owed → LeadsTo (Half after (Offset owed) odd) halves (behind_offsets after owed odd count)
-unfolding spot_after
-offsets_lead after owed zero odd [] l h more = refl
-offsets_lead after owed zero odd (a ∷ halves) l h more = absurd (omega arith)
-offsets_lead after owed (suc count) odd [] l h more = absurd (omega arith)
-offsets_lead after owed (suc count) odd (a ∷ []) l h more = absurd (omega arith)
-offsets_lead after zero (suc zero) odd (a ∷ b ∷ []) l h more = refl
-offsets_lead after zero (suc zero) odd (a ∷ b ∷ c ∷ halves) l h more = absurd (omega arith)
-offsets_lead after zero (suc (suc count)) odd (a ∷ b ∷ halves) l h more = absurd (omega arith)
-offsets_lead after (suc owed) (suc count) odd (a ∷ b ∷ halves) l h more = offsets_lead after owed count (not odd) halves (omega (arith, l)) (omega arith) more
-
-pub offsets_front_lead : (after : FilePosition) (owed count : ℕ) (odd : Bool) (t : Spot) (piece : List ℕ) → 2 * count ≤ length piece → count ≤ suc owed → t ≡ behind_offsets after owed odd count
-    → LeadsTo (Half after (Offset owed) odd) (take (2 * count) piece) t
-offsets_front_lead after owed count odd t piece whole most b more =
-    offsets_lead after owed count odd (take (2 * count) piece) (omega (arith, length-take (2 * count) piece)) most more
-    ∙ ap (λ (s : Spot). spot_after s more) (sym b)
 
 pub filler_front_leads : (after : FilePosition) (piece : List ℕ) → 2 ≤ length piece → half_of (get_or piece 0 0) (get_or piece 1 0) ≡ 0 → LeadsTo (Filler after) (take 2 piece) (Long after)
 unfolding spot_after

@@ -5,8 +5,8 @@ pub mod Few
 pub mod Objects
 pub mod Files
 pub mod Leads
-pub mod Offsets
 pub mod AsIs
+pub mod ShortWords
 pub mod Placing
 pub mod Straight
 pub mod Stretches

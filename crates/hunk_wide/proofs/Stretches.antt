@@ -4,11 +4,10 @@ use Rattle.std.specs.Int.{from_be_bytes, w32}
 use Rattle.std.proofs.lemmas.{Bool.{eq-eqb, ne_eqb}, List.{length-take, take-append-le}}
 use Rattle.std.proofs.Math.Seq.{drop-append_seam, take-append_seam}
 use Rattle.hunk_wide.specs.declared.position.FilePosition.{FilePosition}
-use Rattle.hunk_wide.specs.declared.spot.ShortPart.{ShortPart}
 use Rattle.hunk_wide.specs.declared.spot.Given.{Given}
 use Rattle.hunk_wide.specs.declared.spot.Spot.{Spot}
-use Rattle.hunk_wide.specs.declared.spot.Spot.TheVariants.{Passing, Straight, Long, Half, Filler}
-use Rattle.hunk_wide.specs.{Halves.{behind_half, half_of}, Longwords.{behind_long, behind_straight, given, out_long}, Plain.{GivesFor, plain_from}}
+use Rattle.hunk_wide.specs.declared.spot.Spot.TheVariants.{Passing, Straight, Long, Filler}
+use Rattle.hunk_wide.specs.{Halves.{half_of}, Longwords.{behind_long, behind_straight, given, out_long}, Plain.{GivesFor, plain_from}}
 use Rattle.hunk_wide.proofs.{Cutting.take_add, Straight.straight_gives}
 
 pub two_give : (s t u : Spot) (front back given more_given : List ℕ) → GivesFor s front given t → GivesFor t back more_given u → GivesFor s (front ++ back) (given ++ more_given) u
@@ -67,12 +66,6 @@ long_front : (p : FilePosition) (piece : List ℕ) → 4 ≤ length piece → Gi
 unfolding plain_from
 long_front p (a ∷ b ∷ c ∷ d ∷ rest) whole more = refl
 long_front p _ whole more = absurd (omega arith)
-
-pub half_front : (after : FilePosition) (part : ShortPart) (odd : Bool) (piece : List ℕ) → 2 ≤ length piece
-    → GivesFor (Half after part odd) (take 2 piece) (0 ∷ 0 ∷ get_or piece 0 0 ∷ get_or piece 1 0 ∷ []) (behind_half after part odd (half_of (get_or piece 0 0) (get_or piece 1 0)))
-unfolding plain_from
-half_front after part odd (a ∷ b ∷ rest) whole more = refl
-half_front after part odd _ whole more = absurd (omega arith)
 
 pub filler_front : (after : FilePosition) (piece : List ℕ) → 2 ≤ length piece → half_of (get_or piece 0 0) (get_or piece 1 0) ≡ 0 → GivesFor (Filler after) (take 2 piece) [] (Long after)
 unfolding plain_from

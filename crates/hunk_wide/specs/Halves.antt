@@ -1,5 +1,5 @@
 -- What the plain spelling has for the 16-bit words of a short block, and what the bytes after them are for.
-use Rattle.std.specs.Prelude.{ℕ, zero, suc, ◌+◌, ◌*◌, ◌==◌, Bool, true, false, not, List, [], ◌∷◌, if◌then◌else◌}
+use Rattle.std.specs.Prelude.{◌≡◌, ℕ, zero, suc, ◌+◌, ◌*◌, ◌==◌, Bool, true, false, not, List, [], ◌∷◌, if◌then◌else◌}
 use Rattle.hunk_wide.specs.declared.position.FilePosition.{FilePosition}
 use Rattle.hunk_wide.specs.declared.spot.Spot.{Spot}
 use Rattle.hunk_wide.specs.declared.spot.Spot.TheVariants.{Passing, Long, Half, Filler}
@@ -39,8 +39,22 @@ abbrev pub flipped : Bool → ℕ → Bool
 flipped odd zero = odd
 flipped odd (suc count) = flipped (not odd) count
 
--- after so many offsets, where this number follows the first
-abbrev pub behind_offsets : FilePosition → ℕ → Bool → ℕ → Spot
-behind_offsets after owed odd zero = Half after (Offset owed) odd
-behind_offsets after zero odd (suc count) = Half after Count (not odd)
-behind_offsets after (suc owed) odd (suc count) = behind_offsets after owed (not odd) count
+-- how many words stand before the next count
+abbrev pub words_to_count : ShortPart → ℕ
+words_to_count Count = 0
+words_to_count (Target owed) = owed + 2
+words_to_count (Offset owed) = owed + 1
+
+-- after so many of these
+abbrev pub part_after : ℕ → ShortPart → ShortPart
+part_after zero part = part
+part_after (suc count) Count = Count
+part_after (suc count) (Target owed) = part_after count (Offset owed)
+part_after (suc count) (Offset zero) = Count
+part_after (suc count) (Offset (suc owed)) = part_after count (Offset owed)
+
+-- The bytes are words of a short block that begins or goes on here, and what is after them is for this.
+abbrev pub HalvesLead : List ℕ → Spot → Spot → Type 0
+HalvesLead [] s next = s ≡ next
+HalvesLead (a ∷ b ∷ rest) (Half after part odd) next = HalvesLead rest (behind_half after part odd (half_of a b)) next
+HalvesLead _ _ next = ⊥

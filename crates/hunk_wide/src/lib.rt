@@ -6,6 +6,7 @@
 #![tactic(auto)]
 
 mod expander;
+mod halves;
 mod laws;
 mod parts;
 mod place;

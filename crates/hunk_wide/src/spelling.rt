@@ -3,10 +3,10 @@ ghost use Rattle.std.specs.Prelude.{◌≡◌, ◌+◌, ◌*◌, ◌≤◌, leng
 ghost use Rattle.hunk_wide.specs.Plain.{plain};
 ghost use Rattle.hunk_wide.specs.Spellings.{BeginsWith, EndsThere};
 ghost use Rattle.hunk_wide.specs.Spellings.{ends_last, ends_of, has_end, is_short, one_if, short_blocks_of};
-ghost use Rattle.hunk_wide.specs.declared.spot.ShortPart.TheVariants.{Offset};
 ghost use Rattle.hunk_wide.specs.declared.spot.Spot.TheVariants.{Filler, Half, Long, Straight};
 
 use crate::expander::is_last;
+use crate::halves::halves_in;
 use crate::parts::part_at;
 use crate::place::given_len;
 use crate::position::FilePosition;
@@ -96,7 +96,7 @@ fn has_end(given: Given) -> bool
     }
 }
 
-/// The first unit, or as many of those that are given out as they are, or offsets of a short block,
+/// The first unit, or as many of those that are given out as they are, or words of a short block,
 /// as follow one another. `None` where no such thing is whole.
 #[inline(always)]
 fn units_at(spot: Spot, rest: &[u8]) -> Option<Units>
@@ -162,6 +162,7 @@ fn long_at(position: FilePosition, rest: &[u8]) -> Option<Units>
     })
 }
 
+/// Words of a short block, as many as are in front.
 #[inline(always)]
 fn half_at(after: FilePosition, part: ShortPart, is_odd: bool, rest: &[u8]) -> Option<Units>
     ensures none { IfNone result (EndsThere (Half after part is_odd) rest.now) }
@@ -171,32 +172,12 @@ fn half_at(after: FilePosition, part: ShortPart, is_odd: bool, rest: &[u8]) -> O
     if rest.len() < 2 {
         return None;
     }
-    if let ShortPart::Offset { owed } = part {
-        return offsets_at(after, owed, is_odd, rest);
-    }
-    let half = rest[0] as u16 * 256 + rest[1] as u16;
+    let halves = halves_in(after, part, is_odd, rest);
     Some(Units {
-        size: 2,
-        given: 4,
+        size: 2 * halves.count,
+        given: 4 * halves.count as u64,
         put_in: Given::Same,
-        next: Spot::behind_half(after, part, is_odd, half),
-    })
-}
-
-/// Offsets of a group, as many as are in front.
-#[inline(always)]
-fn offsets_at(after: FilePosition, owed: u16, is_odd: bool, rest: &[u8]) -> Option<Units>
-    requires { 2 ≤ length rest.now }
-    ensures none { IfNone result (EndsThere (Half after (Offset owed) is_odd) rest.now) }
-    ensures some { IfSome result
-        (λ u. BeginsWith (Half after (Offset owed) is_odd) rest.now u.size u.given u.put_in u.next) }
-{
-    let count = (rest.len() / 2).min(owed as usize + 1);
-    Some(Units {
-        size: 2 * count,
-        given: 4 * count as u64,
-        put_in: Given::Same,
-        next: Spot::behind_offsets(after, owed, is_odd, count),
+        next: halves.next,
     })
 }
 

@@ -1,6 +1,6 @@
 //! What the next bytes of a wide spelling are for.
 ghost use Rattle.std.specs.Prelude.{◌≡◌, ◌≤◌, ◌+◌};
-ghost use Rattle.hunk_wide.specs.Halves.{behind_half, behind_offsets, flipped};
+ghost use Rattle.hunk_wide.specs.Halves.{behind_half};
 ghost use Rattle.hunk_wide.specs.Longwords.{behind_block, behind_first, behind_load, behind_long};
 ghost use Rattle.hunk_wide.specs.Longwords.{behind_object, behind_same, behind_straight};
 ghost use Rattle.hunk_wide.specs.Longwords.{behind_word, given, given_block, given_object, go_on};
@@ -192,31 +192,6 @@ impl Spot {
         }
     }
 
-    /// After `count` offsets of a short block, where `owed` more follow the first.
-    #[inline(always)]
-    pub(crate) fn behind_offsets(after: FilePosition, owed: u16, is_odd: bool, count: usize) -> Spot
-        requires { count ≤ owed + 1 }
-        ensures { result ≡ behind_offsets after owed is_odd count }
-    {
-        let is_odd = flipped(is_odd, count);
-        if count <= owed as usize {
-            let owed = owed - count as u16;
-            let part = ShortPart::Offset { owed };
-            Spot::Half {
-                after,
-                part,
-                is_odd,
-            }
-        } else {
-            let part = ShortPart::Count;
-            Spot::Half {
-                after,
-                part,
-                is_odd,
-            }
-        }
-    }
-
     /// After a word of 16 bits of a short block.
     #[inline(always)]
     pub fn behind_half(after: FilePosition, part: ShortPart, is_odd: bool, half: u16) -> Spot
@@ -295,12 +270,4 @@ pub fn long_word(word: u32) -> u32
     ensures { result ≡ long_word word }
 {
     (word >> 29) * 0x2000_0000 + 0x3EC
-}
-
-/// Whether the number of words is odd after `count` more.
-#[inline(always)]
-fn flipped(is_odd: bool, count: usize) -> bool
-    ensures { result ≡ flipped is_odd count }
-{
-    if count % 2 == 0 { is_odd } else { !is_odd }
 }

@@ -4,10 +4,10 @@ ghost use Rattle.std.specs.Int.{from_be_bytes, w32};
 ghost use Rattle.hunk_wide.specs.Halves.{widened};
 ghost use Rattle.hunk_wide.specs.InFile.{LeadsTo};
 ghost use Rattle.hunk_wide.specs.Longwords.{out_long};
-ghost use Rattle.hunk_wide.specs.declared.spot.ShortPart.TheVariants.{Offset};
 ghost use Rattle.hunk_wide.specs.Plain.{GivesFor};
 ghost use Rattle.hunk_wide.specs.declared.spot.Spot.TheVariants.{Filler, Half, Long, Passing, Straight};
 
+use crate::halves::halves_in;
 use crate::parts::{Part, part_at};
 use crate::position::FilePosition;
 use crate::spot::{Given, ShortPart, Spot, long_word};
@@ -190,6 +190,7 @@ fn put_long(given: Given, cells: [u8; 4], buf: &mut [u8]) -> usize
     }
 }
 
+/// Words of a short block, as many as lie in the piece and fit.
 #[inline(always)]
 fn expand_half(
     after: FilePosition,
@@ -205,49 +206,13 @@ fn expand_half(
     ensures leads { LeadsTo (Half after part is_odd) (take result.taken piece.now) result.next }
     ensures some { 4 ≤ length piece.now → 8 ≤ length buf.new → 0 < result.taken }
 {
-    if piece.len() < 2 || buf.len() < 4 {
-        return nothing(Spot::Half {
-            after,
-            part,
-            is_odd,
-        });
-    }
-    if let ShortPart::Offset { owed } = part {
-        return expand_offsets(after, owed, is_odd, piece, buf);
-    }
-    let half = piece[0] as u16 * 256 + piece[1] as u16;
-    buf[..4].copy_from_slice([0, 0, piece[0], piece[1]].as_slice());
-    Stretch {
-        taken: 2,
-        given: 4,
-        next: Spot::behind_half(after, part, is_odd, half),
-    }
-}
-
-/// Offsets of a group, as many as lie in the piece and fit.
-#[inline(always)]
-fn expand_offsets(
-    after: FilePosition,
-    owed: u16,
-    is_odd: bool,
-    piece: &[u8],
-    buf: &mut [u8],
-) -> Stretch
-    ensures taken { result.taken ≤ length piece.now }
-    ensures given { result.given ≤ length buf.new }
-    ensures gives { GivesFor (Half after (Offset owed) is_odd) (take result.taken piece.now)
-        (take result.given buf.new) result.next }
-    ensures leads { LeadsTo (Half after (Offset owed) is_odd) (take result.taken piece.now)
-        result.next }
-    ensures some { 4 ≤ length piece.now → 8 ≤ length buf.new → 0 < result.taken }
-{
     let most = (piece.len() / 2).min(buf.len() / 4);
-    let count = most.min(owed as usize + 1);
-    widen(&piece[..2 * count], &mut buf[..4 * count]);
+    let halves = halves_in(after, part, is_odd, &piece[..2 * most]);
+    widen(&piece[..2 * halves.count], &mut buf[..4 * halves.count]);
     Stretch {
-        taken: 2 * count,
-        given: 4 * count,
-        next: Spot::behind_offsets(after, owed, is_odd, count),
+        taken: 2 * halves.count,
+        given: 4 * halves.count,
+        next: halves.next,
     }
 }
 

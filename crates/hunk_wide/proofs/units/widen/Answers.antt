@@ -1,6 +1,6 @@
 use Rattle.std.proofs.Common.{◌≡◌, ℕ, ◌+◌, ◌-◌, ◌*◌, ◌/◌, List, ◌++◌, length, sym, ap, ap₂, ◌∙◌, arith}
 use Rattle.std.proofs.lemmas.Slice.{take-put_mid}
-use Rattle.hunk_wide.proofs.Offsets.{widened_all, widened_more}
+use Rattle.hunk_wide.proofs.ShortWords.{widened_all, widened_more}
 use Rattle.hunk_wide.proofs.Straight.{take_over}
 use Rattle.hunk_wide.proofs.units.widen.Goals as goal
 
