@@ -1,3 +1,4 @@
+mod Accepted
 mod Noting
 mod Plainly
 mod Stopping

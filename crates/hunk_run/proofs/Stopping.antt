@@ -13,11 +13,13 @@ use Rattle.hunk_commands.specs.Output.{StopsOutput}
 use Rattle.hunk_commands.specs.declared.fault.RunFault.{RunFault}
 use Rattle.hunk_commands.specs.declared.fault.RunFault.TheVariants.{HexText, Memory, Read, Refused, RefusedIn, Write}
 use Rattle.hunk_commands.specs.declared.rewriting.Rewritten.{Rewritten}
-use Rattle.hunk_run.specs.Asked.{HasRewriting}
+use Rattle.hunk_wide.specs.Spellings.{short_blocks_of}
+use Rattle.hunk_wide.specs.declared.spelling.Spelling.{Spelling}
+use Rattle.hunk_run.specs.Asked.{HasRewriting, TellsInput, TellsSpelling}
 use Rattle.hunk_run.specs.Inputs.{unread}
-use Rattle.hunk_run.specs.Notes.{EndsByFault, EndsListing, EndsOrFails, EndsRewriting, NamesFiles, ended_with, fault_ended, input_of, is_wide, output_of, refusal_ended, refusal_text, rewritten_ended}
+use Rattle.hunk_run.specs.Notes.{EndsByFault, EndsListing, EndsOrFails, EndsRewriting, NamesFiles, ended_with, fault_ended, input_of, is_wide, output_of, refusal_ended, refusal_text, rewritten_ended, spelled_of, spelled_so, spelled_told}
 use Rattle.hunk_run.specs.Orders.{EndsOrder, HasOrdered, IsOrderDone, LacksMemory, MakesOut, RewritesFirst, RewritesInput, RewritesTo, SaysInput, SaysLeftOut, SaysSpelled, StopsOrder, TellsFault, TellsUnread}
-use Rattle.hunk_run.specs.Refusals.{IsOfSystem, IsRead}
+use Rattle.hunk_run.specs.Refusals.{FromInput, IsOfSystem, IsRead}
 use Rattle.hunk_run.specs.Stores.{MadeFile, MakesAtMost, MakesFile}
 use Rattle.hunk_run.specs.Wide.{IsUnread}
 use Rattle.hunk_run.specs.declared.note.Ended.{Ended}
@@ -180,6 +182,34 @@ module _ (most : ℕ) (known : Option (List ℕ)) where
   unsaid (orders.Validate hex wide file) Is said none unread = inl (none, λ flag. unread)
   unsaid (orders.Relocate hex wide base budget file) Is said none unread = inl (none, λ flag. unread)
   unsaid (orders.Rewrite strip wide input output) Is said none unread = inl (none, λ flag. unread)
+
+  -- what is said of an input of which this is told
+  said_of_told : {T : Type 0} (hex wide : Bool) (name own : Option (List ℕ)) (answer : Result T RunFault) (spelling : Option Spelling) → (wide ≡ true → own ≡ name) →
+      TellsSpelling (FromInput known) hex wide most answer spelling → SaysInput hex wide most known name (IsErrAnd answer IsUnread) (spelled_told own spelling)
+  said_of_told hex wide name own answer None named tells = inl (refl, tells)
+  said_of_told hex wide name own answer (Some spelling) named (flag, (left, leaves, (after, (input, read, (blocks, ends))))) =
+      inr (inl (
+        flag,
+        (
+          left,
+          leaves,
+          (
+            after,
+            (
+              input,
+              read,
+              subst (λ (n : Option (List ℕ)). spelled_so own spelling.short_blocks spelling.ends ≡ spelled_of n input) (named flag)
+                  (subst (λ (b : ℕ). spelled_so own b spelling.ends ≡ spelled_of own input) (sym blocks)
+                  (subst (λ (e : ℕ). spelled_so own (short_blocks_of input) e ≡ spelled_of own input) (sym ends) refl)),
+            ),
+          ),
+        ),
+      ))
+
+  pub said_of_input : {T : Type 0} (hex wide : Bool) (name own : Option (List ℕ)) (answer : Result T RunFault) (spelling : Option Spelling) → (wide ≡ true → own ≡ name) →
+      TellsInput known hex wide most answer spelling → SaysInput hex wide most known name (IsErrAnd answer IsUnread) (spelled_told own spelling)
+  said_of_input hex wide name own answer spelling named (inl tells) = said_of_told hex wide name own answer spelling named tells
+  said_of_input hex wide name own answer spelling named (inr (none, plain)) = inr (inr (ap (λ (s : Option Spelling). spelled_told own s) none, plain))
 
 module _ {W : Type 0} (outlet : W → Outlet) (old new : Writing W) where
   none_refused : (fault : OrderFault) → (refusal_ended fault).spelled ≡ None

@@ -74,7 +74,7 @@ listed_front (listings.Relocate base budget) bytes given written rest failed spl
       split = split ∙ ap (λ (xs : List ℕ). xs ++ rest) is.split ∙ append_assoc file is.rest rest;
     }
 
-listed_slice : (listing : Listing) (bytes given written : List ℕ) (left : Option (List ℕ)) (failed : Bool) → Consumes (Some bytes) left given →
+pub listed_slice : (listing : Listing) (bytes given written : List ℕ) (left : Option (List ℕ)) (failed : Bool) → Consumes (Some bytes) left given →
     StopsReading false listing given (record { left = left; failed = failed }) → IsListed listing given written → IsListed listing bytes written
 listed_slice listing bytes given written (Some rest) failed consumed stops is = listed_front listing bytes given written rest failed consumed stops is
 listed_slice listing bytes given written None failed consumed stops is = absurd consumed

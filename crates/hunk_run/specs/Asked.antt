@@ -1,5 +1,6 @@
 -- What an order comes to, with `--wide` or without.
-use Rattle.std.specs.Prelude.{◌≡◌, ℕ, Bool, true, false, List, Option, Some, None, Result, IfErr, IfOk, IsErrAnd, OnOk}
+use Rattle.std.specs.Prelude.{◌≡◌, ◌⊎◌, ◌↔◌, ℕ, Bool, true, false, List, Option, Some, None, Result, IfErr, IfOk, IsErrAnd, OnOk, is_some}
+use Rattle.std.specs.declared.io.Error.{Error}
 use Rattle.hunk_words.specs.Carriers.{Outlet, Supply, Writing, saturated}
 use Rattle.hunk_wide.specs.declared.spelling.Spelling.{Spelling}
 use Rattle.hunk_commands.specs.Engine.{IsTextOfSome, PutsAll, PutsFirst, ReadsNoFile, StopsAtWrite}
@@ -11,11 +12,11 @@ use Rattle.hunk_commands.specs.declared.fault.RunFault.{RunFault}
 use Rattle.hunk_commands.specs.declared.fault.RunFault.TheVariants.{Memory}
 use Rattle.hunk_commands.specs.declared.rewriting.Rewritten.{Rewritten}
 use Rattle.hunk_run.specs.Inputs.{HasInput, unread}
-use Rattle.hunk_run.specs.Refusals.{StopsSource}
+use Rattle.hunk_run.specs.Refusals.{FromInput, IsRead, StopsInput, StopsSource}
 use Rattle.hunk_run.specs.Runs.{ListsSource}
 use Rattle.hunk_run.specs.Status.{TellsOutcome}
 use Rattle.hunk_run.specs.Stores.{Leaves}
-use Rattle.hunk_run.specs.Wide.{HasWide, IsSpellingOf, IsUnread, ListsWide, ReadsBytes, StopsWide, meant}
+use Rattle.hunk_run.specs.Wide.{HasWide, IsPlain, IsSpellingOf, IsUnread, ListsWide, ReadsBytes, StopsWide, meant}
 use Rattle.hunk_run.specs.declared.listing.Listing.{Listing}
 use Rattle.hunk_run.specs.declared.listing.Listing.TheVariants as listings
 
@@ -63,6 +64,34 @@ pub record AsksListing {W : Type 0} (outlet : W → Outlet) (hex wide : Bool) (l
   pub tells_read : TellsReading before after result
   pub stops : IfErr result (λ fault. ¬ IsWrite fault → StopsAsked hex wide listing before after most fault)
   pub spelled : TellsSpelling (λ Holds. Holds before after) hex wide most result spelling
+
+-- ---- what comes of it, by what is known of the input
+
+-- What comes of listing the input of which these bytes are known, where the system tells of this cause.
+pub record AnswersListing {W : Type 0} (outlet : W → Outlet) (hex wide : Bool) (listing : Listing) (known : Option (List ℕ)) (most : ℕ) (old new : Writing W)
+    (result : Result ℕ RunFault) (cause : Option Error) : Type 0 where
+  pub outcome : TellsOutcome outlet old new result
+  pub done : IfOk result (λ status. status ≡ 0 → ListsInput outlet hex wide listing known old new)
+  pub stops : IfErr result (λ fault. ¬ IsWrite fault → StopsInput known (λ before after. StopsAsked hex wide listing before after most) fault)
+  pub reads : is_some cause ≡ true ↔ IsErrAnd result IsRead
+  pub succeeds : HasAsked hex wide listing (unread known) most → cause ≡ None → (outlet new.sink).failed ≡ false → IfErr result (λ fault. fault ≡ Memory)
+
+-- What is answered of its spelling: as above, or nothing of an input that is its own plain spelling.
+abbrev pub TellsInput : {T : Type 0} → Option (List ℕ) → Bool → Bool → ℕ → Result T RunFault → Option Spelling → Type 0
+TellsInput known hex wide most result spelling = TellsSpelling (FromInput known) hex wide most result spelling ⊎ ((spelling ≡ None) × IsPlain known)
+
+-- ---- a file that is listed as it is
+
+-- A file that had these bytes left was listed, or writing failed, and it is its own plain spelling.
+pub record ListsFirst {W : Type 0} (outlet : W → Outlet) (listing : Listing) (left : Option (List ℕ)) (old new : Writing W) (result : Result ℕ RunFault) : Type 0 where
+  pub outcome : TellsOutcome outlet old new result
+  pub done : IfOk result (λ status. status ≡ 0 → ListsRead outlet false true listing left old new)
+  pub writes : IfErr result IsWrite
+  pub is_plain : IsPlain left
+
+-- the same of a file of which these bytes are known
+abbrev pub ListsFirstOf : {W : Type 0} → (W → Outlet) → Listing → Option (List ℕ) → Writing W → Writing W → Result ℕ RunFault → Type 0
+ListsFirstOf outlet listing known old new result = (left : Option (List ℕ)) × Leaves known left × ListsFirst outlet listing left old new result
 
 -- ---- a rewriting
 

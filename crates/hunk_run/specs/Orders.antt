@@ -1,9 +1,11 @@
 -- What an order comes to: its output is a writer that is old before it and new after it, and so is the file that its store makes.
-use Rattle.std.specs.Prelude.{◌≡◌, ◌⊎◌, ◌↔◌, ⊤, ℕ, Bool, false, true, List, Option, Some, None, is_some, length, ◌-◌}
+use Rattle.std.specs.Prelude.{◌≡◌, ◌⊎◌, ◌↔◌, ⊤, ℕ, Bool, false, true, List, Option, Some, None, Result, IfErr, IfOk, IsErrAnd, is_some, length, ◌-◌}
+use Rattle.std.specs.declared.io.Error.{Error}
 use Rattle.hunk_words.specs.Carriers.{Outlet, Writing, saturated}
 use Rattle.hunk_command_line.specs.declared.asked.Order.{Order}
 use Rattle.hunk_command_line.specs.declared.asked.Order.TheVariants as orders
 use Rattle.hunk_commands.specs.Engine.{IsTextOfSome}
+use Rattle.hunk_commands.specs.Faults.{IsWrite}
 use Rattle.hunk_commands.specs.Inputs.{ReadsInput}
 use Rattle.hunk_commands.specs.Output.{Takes}
 use Rattle.hunk_commands.specs.Rewritten.{IsRewritten}
@@ -13,10 +15,10 @@ use Rattle.hunk_commands.specs.declared.rewriting.Rewritten.{Rewritten}
 use Rattle.hunk_run.specs.Asked.{HasAsked, HasRewriting, ListsInput, StopsAsked, StopsRewriting}
 use Rattle.hunk_run.specs.Inputs.{unread}
 use Rattle.hunk_run.specs.Notes.{NamesFiles, left_out_note, output_of, spelled_of}
-use Rattle.hunk_run.specs.Refusals.{FromInput, IsRead, StopsInput}
+use Rattle.hunk_run.specs.Refusals.{FromInput, IsOfSystem, IsRead, StopsInput}
 use Rattle.hunk_run.specs.Runs.{rewritten_lines}
 use Rattle.hunk_run.specs.Stores.{MadeFile, MakesFile, MakesFirst, MakesWhole}
-use Rattle.hunk_run.specs.Wide.{IsUnread, ReadsBytes, meant}
+use Rattle.hunk_run.specs.Wide.{IsPlain, IsUnread, ReadsBytes, meant}
 use Rattle.hunk_run.specs.declared.listing.Listing.TheVariants as listings
 use Rattle.hunk_run.specs.declared.note.Ended.{Ended}
 use Rattle.hunk_run.specs.declared.note.Note.{Note}
@@ -40,6 +42,16 @@ RewritesFirst old new output strip wide written input =
 -- That holds of an input of fewer than `most` bytes, which are these where they are known.
 abbrev pub RewritesInput : Option (List ℕ) → (List ℕ → Type 0) → ℕ → Type 0
 RewritesInput known Holds most = FromInput known (λ before after. ReadsInput Holds before after most)
+
+-- What comes of writing the input of which these bytes are known to OUT, where the system tells of this cause.
+pub record AnswersRewriting (first made : Option MadeFile) (known : Option (List ℕ)) (output : List ℕ) (strip wide : Bool) (most : ℕ)
+    (result : Result Rewritten RunFault) (cause : Option Error) : Type 0 where
+  pub rewrites : IfOk result (λ done. RewritesInput known (RewritesTo first made output strip wide done) most)
+  pub write : IfErr result (λ fault. (written : ℕ) → fault ≡ Write written → RewritesInput known (RewritesFirst first made output strip wide written) most)
+  pub untouched : IfErr result (λ fault. ¬ IsWrite fault → made ≡ first)
+  pub stops : IfErr result (λ fault. ¬ IsWrite fault → StopsInput known (λ before after. StopsRewriting wide before after most) fault)
+  pub of_system : is_some cause ≡ true ↔ IsErrAnd result IsOfSystem
+  pub succeeds : HasRewriting wide (unread known) most → cause ≡ None → IfErr result (λ fault. fault ≡ Memory)
 
 -- ---- an order, of whose input these bytes are known
 
@@ -109,11 +121,12 @@ TellsUnread (Some (Fault fault name cause untouched wide)) = IsUnread fault
 TellsUnread (Some (Output cause)) = ⊤
 TellsUnread _ = ⊥
 
--- Nothing is said of it without `--wide`, nor where it was not read; else it is by its name, where it is spelled otherwise.
+-- Nothing is said of it without `--wide`, nor where it was not read, or is its own plain spelling; else it is by its name, where it is spelled otherwise.
 abbrev pub SaysInput : Bool → Bool → ℕ → Option (List ℕ) → Option (List ℕ) → Type 0 → Option Spelled → Type 0
 SaysInput hex wide most known name Unread said =
     ((said ≡ None) × (wide ≡ true → Unread))
     ⊎ ((wide ≡ true) × FromInput known (λ before after. (input : List ℕ) × ReadsBytes hex before after most input × (said ≡ spelled_of name input)))
+    ⊎ ((said ≡ None) × IsPlain known)
 
 abbrev pub SaysSpelled : ℕ → Option (List ℕ) → Order → Type 0 → Option Spelled → Type 0
 SaysSpelled most known (orders.Show hex wide file) Unread said = SaysInput hex wide most known file Unread said

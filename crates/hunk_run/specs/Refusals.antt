@@ -1,9 +1,10 @@
 -- Why nothing is printed or written of an input.
-use Rattle.std.specs.Prelude.{◌≡◌, ◌⊎◌, ◌+◌, ℕ, Bool, true, false, List, Option, Result, IfErr, IfOk}
+use Rattle.std.specs.Prelude.{◌≡◌, ◌⊎◌, ◌+◌, ⊤, ℕ, Bool, true, false, List, Option, Result, Ok, Err, IfErr, IfOk, IfSome}
+use Rattle.hunk_files.specs.HunkFile.{AreFile}
 use Rattle.hunk_words.specs.Carriers.{Outlet, Supply, Writing}
 use Rattle.hunk_scatter.specs.LoadOutcomes.{Gives}
 use Rattle.hunk_commands.specs.declared.fault.RunFault.{RunFault}
-use Rattle.hunk_commands.specs.declared.fault.RunFault.TheVariants.{Memory, Read}
+use Rattle.hunk_commands.specs.declared.fault.RunFault.TheVariants.{Memory, Read, Write}
 use Rattle.hunk_run.specs.declared.listing.Listing.{Listing}
 use Rattle.hunk_run.specs.declared.listing.Listing.TheVariants as listings
 use Rattle.hunk_commands.specs.Engine.{ReadsNoFile}
@@ -69,3 +70,11 @@ pub record ListsSupply {W : Type 0} (outlet : W → Outlet) (hex : Bool) (listin
   pub succeeds : HasInput hex listing before most → after.failed ≡ false → (outlet new.sink).failed ≡ false → IfErr result (λ fault. fault ≡ Memory)
   pub tells_read : TellsReading before after result
   pub stops : IfErr result (λ fault. ¬ IsWrite fault → StopsSource hex listing before after most fault)
+
+-- ---- what was listed
+
+-- Where it was listed, or writing failed, the bytes that were left to read are a file, and perhaps others after it, where they are known.
+abbrev pub IsOfFile : {T : Type 0} → Option (List ℕ) → Result T RunFault → Type 0
+IsOfFile left (Ok value) = IfSome left AreFile
+IsOfFile left (Err (Write written)) = IfSome left AreFile
+IsOfFile left (Err fault) = ⊤

@@ -1,5 +1,5 @@
 -- An input of which the plain spelling is taken: it is read whole, and what is done is done of its plain spelling.
-use Rattle.std.specs.Prelude.{◌≡◌, ◌⊎◌, ◌+◌, ◌<◌, ◌≤◌, ⊤, ℕ, Bool, true, false, List, Some, Result, IfErr, IfOk, OnOk, length}
+use Rattle.std.specs.Prelude.{◌≡◌, ◌⊎◌, ◌+◌, ◌<◌, ◌≤◌, ⊤, ℕ, Bool, true, false, List, Option, Some, Result, IfErr, IfOk, IfSome, OnOk, length}
 use Rattle.std.specs.Io.KnownBytes.{Consumes, IsAtEnd}
 use Rattle.hunk_words.specs.Carriers.{Outlet, Supply, Writing, saturated}
 use Rattle.hunk_words.specs.declared.fault.Fault.{Fault}
@@ -32,6 +32,10 @@ use Rattle.hunk_run.specs.declared.listing.Listing.TheVariants as listings
 abbrev pub meant : Bool → List ℕ → List ℕ
 meant false input = input
 meant true input = plain input
+
+-- An input is its own plain spelling, where its bytes are known.
+abbrev pub IsPlain : Option (List ℕ) → Type 0
+IsPlain known = IfSome known (λ bytes. plain bytes ≡ bytes)
 
 -- ---- the place of a fault
 
@@ -134,7 +138,7 @@ pub record HasWide (hex : Bool) (listing : Listing) (before : Supply) (most : �
   pub few : length (plain input) < most
   pub listed : AreListed listing (plain input) most
 
--- The output has taken what is printed of the plain spelling of the input, which was read to its end.
+-- The output has taken what is printed of the plain spelling of the input, which is all that there was to read.
 pub record ListsWide {W : Type 0} (outlet : W → Outlet) (hex : Bool) (listing : Listing) (before after : Supply) (old new : Writing W) : Type 0 where
   pub given : List ℕ
   pub consumed : Consumes before.left after.left given

@@ -66,6 +66,13 @@ impl<T: Files + Input> Store for Host<'_, T> {
         fs::open(self.rt, name)
     }
 
+    fn is_regular(&self, name: &str) -> bool {
+        match fs::metadata(self.rt, name) {
+            Ok(file) => file.is_file(),
+            Err(_) => false,
+        }
+    }
+
     fn input(&self) -> T::Reader {
         self.rt.reader()
     }

@@ -19,6 +19,7 @@ ghost use Rattle.hunk_run.specs.Stores.{bytes_of_input};
 
 mod host;
 mod listing;
+mod listing_first;
 mod listing_plain;
 mod note;
 mod plain;

@@ -5,16 +5,18 @@ ghost use Rattle.hunk_commands.specs.declared.fault.RunFault.TheVariants.{Memory
 ghost use Rattle.hunk_commands.specs.Faults.{IsWrite};
 ghost use Rattle.hunk_commands.specs.HexText.{ReadsHex};
 ghost use Rattle.hunk_commands.specs.Inputs.{TellsReading};
-ghost use Rattle.hunk_run.specs.Asked.{AsksListing, HasAsked, ListsInput, ListsRead, StopsAsked};
-ghost use Rattle.hunk_run.specs.Asked.{TellsSpelling};
+ghost use Rattle.hunk_run.specs.Asked.{AnswersListing, AsksListing, HasAsked, ListsInput, ListsRead};
+ghost use Rattle.hunk_run.specs.Asked.{StopsAsked, TellsInput, TellsSpelling};
 ghost use Rattle.hunk_run.specs.Inputs.{unread};
 ghost use Rattle.hunk_run.specs.Status.{TellsOutcome};
 ghost use Rattle.hunk_run.specs.Orders.{SaysInput};
-ghost use Rattle.hunk_run.specs.Refusals.{FromInput, FromReader, IsRead, ListsSupply, StopsInput};
+ghost use Rattle.hunk_run.specs.Refusals.{FromInput, FromReader, IsOfFile, IsRead, ListsSupply};
+ghost use Rattle.hunk_run.specs.Refusals.{StopsInput};
 ghost use Rattle.hunk_run.specs.Runs.{ReadsNoText};
 ghost use Rattle.hunk_run.specs.Stores.{bytes_of_input};
 ghost use Rattle.hunk_run.specs.Wide.{IsUnread};
 
+use crate::listing_first::list_first;
 use crate::listing_plain::list_wide;
 use crate::spelled::{Spelled, said_of};
 use crate::store::Store;
@@ -99,7 +101,11 @@ fn copied(
     }
 }
 
-/// The same, and how the input is spelled where it was read and that was asked for.
+/// The same, and how the input is spelled where it was read so.
+///
+/// A file that is spelled plainly is listed as it comes, and nothing is said of its spelling. So a
+/// file that can be read again is first read as it is: only where that is refused, and nothing was
+/// printed, is it read for its plain spelling.
 fn list_input<S: Store, W: Sink>(
     store: &S,
     alloc: Global,
@@ -108,18 +114,33 @@ fn list_input<S: Store, W: Sink>(
     form: Form,
     out: &mut LongWriter<W>,
 ) -> (Result<u8, RunFault>, Option<io::Error>, Option<Spelling>)
-    ensures outcome { TellsOutcome W.outlet out.old out.new result.0 }
-    ensures done { IfOk result.0 (λ status. status ≡ 0
-        → ListsInput W.outlet form.hex form.wide listing
-        (bytes_of_input (S.holdings store.now) (S.made store.now) file.now) out.old out.new) }
-    ensures stops { IfErr result.0 (λ fault. ¬ IsWrite fault → StopsInput
+    ensures answers { AnswersListing W.outlet form.hex form.wide listing
+        (bytes_of_input (S.holdings store.now) (S.made store.now) file.now) FILE_BYTES
+        out.old out.new result.0 result.1 }
+    ensures spelled { TellsInput
         (bytes_of_input (S.holdings store.now) (S.made store.now) file.now)
-        (λ before after. StopsAsked form.hex form.wide listing before after FILE_BYTES) fault) }
-    ensures cause { is_some result.1 ≡ true ↔ IsErrAnd result.0 IsRead }
-    ensures succeeds { HasAsked form.hex form.wide listing
-        (unread (bytes_of_input (S.holdings store.now) (S.made store.now) file.now)) FILE_BYTES
-        → result.1 ≡ None → (W.outlet out.new.sink).failed ≡ false
-        → IfErr result.0 (λ fault. fault ≡ Memory) }
+        form.hex form.wide FILE_BYTES result.0 result.2 }
+{
+    if form.wide && !form.hex {
+        if let Some(answer) = list_first(store, alloc, listing, file, out) {
+            return (answer, None, None);
+        }
+    }
+    list_named(store, alloc, listing, file, form, out)
+}
+
+/// The same, and how the input is spelled where it was read and that was asked for.
+fn list_named<S: Store, W: Sink>(
+    store: &S,
+    alloc: Global,
+    listing: Listing,
+    file: &Option<FileName>,
+    form: Form,
+    out: &mut LongWriter<W>,
+) -> (Result<u8, RunFault>, Option<io::Error>, Option<Spelling>)
+    ensures answers { AnswersListing W.outlet form.hex form.wide listing
+        (bytes_of_input (S.holdings store.now) (S.made store.now) file.now) FILE_BYTES
+        out.old out.new result.0 result.1 }
     ensures spelled { TellsSpelling
         (FromInput (bytes_of_input (S.holdings store.now) (S.made store.now) file.now))
         form.hex form.wide FILE_BYTES result.0 result.2 }
@@ -139,7 +160,7 @@ fn list_input<S: Store, W: Sink>(
 
 /// The bytes of a file. A load asks for little at a time, so its file is read through a buffer;
 /// standard input is not, so that what follows stays for the next reader.
-fn source_of<R: Read + Drop>(
+pub(crate) fn source_of<R: Read + Drop>(
     alloc: Global,
     listing: Listing,
     file: R,
@@ -257,14 +278,15 @@ pub(crate) fn spelled_bytes<R: Source>(alloc: Global, source: &mut R) -> Result<
 }
 
 /// The same of the bytes that the source has.
-fn list_bytes<R: Source, W: Sink>(
+pub(crate) fn list_bytes<R: Source, W: Sink>(
     alloc: Global,
     listing: Listing,
     source: &mut R,
     out: &mut LongWriter<W>,
 ) -> Result<u8, RunFault>
-    ensures { ListsSupply W.outlet false listing (R.supply source.old) (R.supply source.new) FILE_BYTES
-        out.old out.new result }
+    ensures lists { ListsSupply W.outlet false listing
+        (R.supply source.old) (R.supply source.new) FILE_BYTES out.old out.new result }
+    ensures of_file { IsOfFile (R.supply source.old).left result }
 {
     match listing {
         Listing::Show => {

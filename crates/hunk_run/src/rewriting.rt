@@ -3,10 +3,12 @@ ghost use Rattle.std.specs.Prelude.{◌≡◌, ◌↔◌, ◌-◌, ℕ, false, i
 ghost use Rattle.hunk_commands.specs.declared.fault.RunFault.TheVariants.{Memory, Write};
 ghost use Rattle.hunk_commands.specs.Faults.{IsWrite};
 ghost use Rattle.hunk_commands.specs.Inputs.{ReadsInput, TellsReading};
-ghost use Rattle.hunk_run.specs.Asked.{AsksRewriting, HasRewriting, StopsRewriting, TellsSpelling};
+ghost use Rattle.hunk_run.specs.Asked.{AsksRewriting, HasRewriting, StopsRewriting, TellsInput};
+ghost use Rattle.hunk_run.specs.Asked.{TellsSpelling};
 ghost use Rattle.hunk_run.specs.Inputs.{unread};
 ghost use Rattle.hunk_run.specs.Notes.{EndsOrFails, left_out_note, rewritten_ended};
-ghost use Rattle.hunk_run.specs.Orders.{RewritesFirst, RewritesInput, RewritesTo, SaysInput};
+ghost use Rattle.hunk_run.specs.Orders.{AnswersRewriting, RewritesFirst, RewritesInput};
+ghost use Rattle.hunk_run.specs.Orders.{RewritesTo, SaysInput};
 ghost use Rattle.hunk_run.specs.Refusals.{FromInput, IsOfSystem, StopsInput};
 ghost use Rattle.hunk_run.specs.Runs.{rewritten_lines};
 ghost use Rattle.hunk_run.specs.Stores.{bytes_of_input};
@@ -98,7 +100,11 @@ fn copied(alloc: Global, file: &FileName, wide: bool) -> Result<Option<FileName>
     }
 }
 
-/// The same, and how the input is spelled where it was read and that was asked for.
+/// The same, and how the input is spelled where it was read so.
+///
+/// A file that is spelled plainly is written as it is, and nothing is said of its spelling. So a
+/// file that can be read again is first read as it is: only where that is refused, and `output` was
+/// not touched, is it read for its plain spelling.
 fn rewrite_input<S: Store>(
     store: S,
     alloc: Global,
@@ -111,24 +117,48 @@ fn rewrite_input<S: Store>(
     Option<io::Error>,
     Option<Spelling>,
 )
-    ensures rewrites { IfOk result.1 (λ done. RewritesInput
-        (bytes_of_input (S.holdings store) (S.made store) (Some input.now))
-        (RewritesTo (S.made store) (S.made result.0) output.now way.strip way.wide done)
-        FILE_BYTES) }
-    ensures write { IfErr result.1 (λ fault. (written : ℕ) → fault ≡ Write written → RewritesInput
-        (bytes_of_input (S.holdings store) (S.made store) (Some input.now))
-        (RewritesFirst (S.made store) (S.made result.0) output.now way.strip way.wide written)
-        FILE_BYTES) }
-    ensures untouched { IfErr result.1 (λ fault. ¬ IsWrite fault
-        → S.made result.0 ≡ S.made store) }
     ensures holds { S.holdings result.0 ≡ S.holdings store }
-    ensures stops { IfErr result.1 (λ fault. ¬ IsWrite fault → StopsInput
+    ensures answers { AnswersRewriting (S.made store) (S.made result.0)
+        (bytes_of_input (S.holdings store) (S.made store) (Some input.now)) output.now
+        way.strip way.wide FILE_BYTES result.1 result.2 }
+    ensures spelled { TellsInput
         (bytes_of_input (S.holdings store) (S.made store) (Some input.now))
-        (λ before after. StopsRewriting way.wide before after FILE_BYTES) fault) }
-    ensures cause { is_some result.2 ≡ true ↔ IsErrAnd result.1 IsOfSystem }
-    ensures succeeds { HasRewriting way.wide
-        (unread (bytes_of_input (S.holdings store) (S.made store) (Some input.now))) FILE_BYTES
-        → result.2 ≡ None → IfErr result.1 (λ fault. fault ≡ Memory) }
+        false way.wide FILE_BYTES result.1 result.3 }
+{
+    if !way.wide || !store.is_regular(input.as_str()) {
+        return rewrite_named(store, alloc, input, output, way);
+    }
+    let as_it_is = Way {
+        strip: way.strip,
+        wide: false,
+    };
+    let (store, answer, cause, _) = rewrite_named(store, alloc, input, output, as_it_is);
+    match answer {
+        Ok(done) => (store, Ok(done), cause, None),
+        Err(RunFault::Write { written }) => {
+            (store, Err(RunFault::Write { written }), cause, None)
+        }
+        Err(_) => rewrite_named(store, alloc, input, output, way),
+    }
+}
+
+/// The same, and how the input is spelled where it was read and that was asked for.
+fn rewrite_named<S: Store>(
+    store: S,
+    alloc: Global,
+    input: &FileName,
+    output: &FileName,
+    way: Way,
+) -> (
+    S,
+    Result<Rewritten, RunFault>,
+    Option<io::Error>,
+    Option<Spelling>,
+)
+    ensures holds { S.holdings result.0 ≡ S.holdings store }
+    ensures answers { AnswersRewriting (S.made store) (S.made result.0)
+        (bytes_of_input (S.holdings store) (S.made store) (Some input.now)) output.now
+        way.strip way.wide FILE_BYTES result.1 result.2 }
     ensures spelled { TellsSpelling
         (FromInput (bytes_of_input (S.holdings store) (S.made store) (Some input.now)))
         false way.wide FILE_BYTES result.1 result.3 }

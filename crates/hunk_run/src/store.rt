@@ -31,6 +31,10 @@ pub trait Store {
             Leaves (bytes_of_input (holdings self.now) (made self.now) (Some name.now))
             (Self.File.remaining file)) };
 
+    /// Whether the file of this name can be read again from its start, as a regular file can be, and
+    /// a pipe can't.
+    fn is_regular(&self, name: &str) -> bool;
+
     /// Standard input, from where it stands.
     fn input(&self) -> Self::Input
         ensures { Leaves (holdings self.now).input (Self.Input.remaining result) };

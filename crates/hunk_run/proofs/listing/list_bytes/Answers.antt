@@ -7,8 +7,8 @@ use Rattle.hunk_commands.specs.Validated.{IsValidated}
 use Rattle.hunk_run.proofs.Telling.{lists_loaded, lists_source}
 use Rattle.hunk_run.proofs.listing.list_bytes.Goals as goal
 
-pub returns-in_ok-show-in-Show : goal.returns-in_ok-show-in-Show
-returns-in_ok-show-in-Show g c = record {
+pub returns-in_ok-show-in-Show-clause-lists : goal.returns-in_ok-show-in-Show-clause-lists
+returns-in_ok-show-in-Show-clause-lists g c = record {
   outcome = search rules;
   done = λ done.
       subst (λ (l : Listing). ListsSource g.W.Sink.outlet false l (g.R.Source.supply c.args.source.now) (g.R.Source.supply c.show.new.r) c.args.out.now c.show.new.w) (sym c.in-Show.is)
@@ -18,8 +18,8 @@ returns-in_ok-show-in-Show g c = record {
   stops = search rules;
 }
 
-pub returns-in-0 : goal.returns-in-0
-returns-in-0 g c = record {
+pub returns-in-0-clause-lists : goal.returns-in-0-clause-lists
+returns-in-0-clause-lists g c = record {
   outcome = search rules;
   done = λ done.
       subst (λ (l : Listing). ListsSource g.W.Sink.outlet false l (g.R.Source.supply c.args.source.now) (g.R.Source.supply c.validate.new.r) c.args.out.now c.validate.new.w) (sym c.in-Validate.is)
@@ -30,8 +30,8 @@ returns-in-0 g c = record {
   stops = search rules;
 }
 
-pub returns-in_ok-relocate-in-Relocate : goal.returns-in_ok-relocate-in-Relocate
-returns-in_ok-relocate-in-Relocate g c = record {
+pub returns-in_ok-relocate-in-Relocate-clause-lists : goal.returns-in_ok-relocate-in-Relocate-clause-lists
+returns-in_ok-relocate-in-Relocate-clause-lists g c = record {
   outcome = search rules;
   done = λ done.
       subst (λ (l : Listing). ListsSource g.W.Sink.outlet false l (g.R.Source.supply c.args.source.now) (g.R.Source.supply c.relocate.new.r) c.args.out.now c.relocate.new.w) (sym c.in-Relocate.is)
@@ -41,8 +41,8 @@ returns-in_ok-relocate-in-Relocate g c = record {
   stops = search rules;
 }
 
-pub returns-in_err-relocate-in-Relocate : goal.returns-in_err-relocate-in-Relocate
-returns-in_err-relocate-in-Relocate g c = record {
+pub returns-in_err-relocate-in-Relocate-clause-lists : goal.returns-in_err-relocate-in-Relocate-clause-lists
+returns-in_err-relocate-in-Relocate-clause-lists g c = record {
   outcome = search rules;
   done = search rules;
   succeeds = search rules;

@@ -42,10 +42,10 @@ returns g c =
     record {
       outcome = search rules;
       done = lists_where_done g.W.Sink.outlet c.args.out.now c.list_bytes.new.out c.args.listing _ _ (slice c.new.result) (slice c.list_bytes.new.source) _ bytes _
-          c.in_ok-bytes.ensures.spelled (ap {B = Option (List ℕ)} (λ (xs : List ℕ). Some xs) cut) c.list_bytes.ensures.done;
+          c.in_ok-bytes.ensures.spelled (ap {B = Option (List ℕ)} (λ (xs : List ℕ). Some xs) cut) c.list_bytes.ensures.lists.done;
       succeeds = λ has sound writes.
           let same = same_bytes _ _ _ has.text has.bytes bytes has.left_is has.spells c.in_ok-bytes.ensures.spelled in
-          c.list_bytes.ensures.succeeds (subst (λ (xs : List ℕ). HasListed c.args.listing (slice xs) 67108864) (same ∙ sym cut) has.has) refl writes;
+          c.list_bytes.ensures.lists.succeeds (subst (λ (xs : List ℕ). HasListed c.args.listing (slice xs) 67108864) (same ∙ sym cut) has.has) refl writes;
       tells_read = search rules;
-      stops = stops_where c.args.listing _ _ c.new.result c.list_bytes.new.source bytes _ _ c.in_ok-bytes.ensures.spelled cut c.list_bytes.ensures.stops;
+      stops = stops_where c.args.listing _ _ c.new.result c.list_bytes.new.source bytes _ _ c.in_ok-bytes.ensures.spelled cut c.list_bytes.ensures.lists.stops;
     }

@@ -1,0 +1,270 @@
+-- A file is its own plain spelling, and what was listed or written is one.
+use Rattle.std.proofs.Common.{◌≡◌, ◌∙◌, ◌++◌, ℕ, Bool, false, List, [], Option, Some, None, Result, Ok, Err, inl, inr, ap, refl, subst, sym, append-nil, true, true≢false}
+use Rattle.std.specs.Prelude.{IfErr, IfSome, is_some}
+use Rattle.std.specs.declared.io.Error.{Error}
+use Rattle.std.specs.Io.KnownBytes.{Consumes}
+use Rattle.std.proofs.KnownBytes.{Consumes-whole}
+use Rattle.hunk_words.specs.Carriers.{Outlet, Supply, Writing}
+use Rattle.hunk_files.specs.HunkFile.{AreFile}
+use Rattle.hunk_scatter.specs.declared.loading.Limits.{Limits}
+use Rattle.hunk_wide.specs.Plain.{plain}
+use Rattle.hunk_wide.proofs.Along.{plain_stays}
+use Rattle.hunk_wide.proofs.SpelledObjects.{object_stays}
+use Rattle.hunk_commands.specs.Engine.{ReadsThenPuts}
+use Rattle.hunk_commands.specs.Faults.{IsWrite}
+use Rattle.hunk_commands.specs.Inputs.{ReadsWhole}
+use Rattle.hunk_commands.specs.Relocating.{IsListingOf, Relocates}
+use Rattle.hunk_commands.specs.Rewritten.{IsRewritten}
+use Rattle.hunk_commands.specs.Shown.{IsShown}
+use Rattle.hunk_commands.specs.Validated.{IsValidated}
+use Rattle.hunk_commands.specs.declared.fault.RunFault.{RunFault}
+use Rattle.hunk_commands.specs.declared.fault.RunFault.TheVariants.{HexText, Memory, Read, Refused, RefusedIn, Write}
+use Rattle.hunk_commands.specs.declared.rewriting.Rewritten.{Rewritten}
+use Rattle.hunk_run.specs.Asked.{AnswersListing, ListsFirst, ListsFirstOf, ListsRead, TellsInput}
+use Rattle.hunk_run.specs.Inputs.{unread}
+use Rattle.hunk_run.specs.Orders.{AnswersRewriting, RewritesFirst, RewritesInput, RewritesTo}
+use Rattle.hunk_run.specs.Refusals.{IsOfFile}
+use Rattle.hunk_run.specs.Runs.{IsListed, ListsSource}
+use Rattle.hunk_run.specs.Status.{TellsOutcome}
+use Rattle.hunk_run.specs.Stores.{Leaves, MadeFile}
+use Rattle.hunk_run.specs.Wide.{IsPlain}
+use Rattle.hunk_run.specs.declared.listing.Listing.{Listing}
+use Rattle.hunk_run.specs.declared.listing.Listing.TheVariants as listings
+use Rattle.hunk_run.proofs.Telling.{listed_slice}
+
+pub plain_file : (bytes : List ℕ) → AreFile bytes → plain bytes ≡ bytes
+plain_file bytes (inl file) = subst (λ (xs : List ℕ). plain xs ≡ xs) (sym file.split) (plain_stays file.value file.rest file.is_load_file)
+plain_file bytes (inr file) = subst (λ (xs : List ℕ). plain xs ≡ xs) (sym file.text_is) (object_stays file.value file.is_object_file)
+
+pub plain_known : (known : Option (List ℕ)) → IfSome known AreFile → IsPlain known
+plain_known None is = tt
+plain_known (Some bytes) is = plain_file bytes is
+
+-- what is known of it is what was left of its reader
+pub plain_left : (known left : Option (List ℕ)) → Leaves known left → IsPlain left → IsPlain known
+plain_left None left leaves is = tt
+plain_left (Some bytes) left leaves is = subst IsPlain leaves is
+
+-- ---- what is printed or written is of a file
+
+pub shown_file : (bytes written : List ℕ) → IsShown bytes written → AreFile bytes
+shown_file bytes written (inl (file, is)) = inl file
+shown_file bytes written (inr (file, is)) = inr file
+
+pub validated_file : (count : ℕ) (bytes written : List ℕ) → IsValidated count bytes written → AreFile bytes
+validated_file count bytes written (inl (file, none, is)) = inl file
+validated_file count bytes written (inr (file, found, is)) = inr file
+
+pub rewritten_file : (strip : Bool) (done : Rewritten) (bytes written : List ℕ) → IsRewritten strip done bytes written → AreFile bytes
+rewritten_file strip done bytes written (inl (file, sizes, is)) = inl file
+rewritten_file strip done bytes written (inr (file, sizes, is)) = inr file
+
+listed_file : (listing : Listing) (bytes written : List ℕ) → IsListed listing bytes written → AreFile bytes
+listed_file listings.Show bytes written is = shown_file bytes written is
+listed_file listings.Validate bytes written is = validated_file 0 bytes written is
+listed_file (listings.Relocate base budget) bytes written is = inl (record { value = is.file; is_load_file = is.is_listing.is_file; rest = is.rest; split = is.split })
+
+-- ---- of a source
+
+-- it was read to its end
+read_file : (before after : Supply) (most : ℕ) (input : List ℕ) → ReadsWhole before after most input → AreFile input → IfSome before.left AreFile
+read_file before after most input read is = Consumes-whole before.left after.left input AreFile read.given read.at_end is
+
+-- it was read to the end of a load file
+begun_file : (before after : Option (List ℕ)) (base budget : ℕ) (given written : List ℕ) → Consumes before after given → IsListingOf base budget given written → IfSome before AreFile
+begun_file None after base budget given written consumed is = tt
+begun_file (Some bytes) None base budget given written consumed is = absurd consumed
+begun_file (Some bytes) (Some rest) base budget given written consumed is =
+    inl (record { value = is.file; is_load_file = is.is_listing.is_file; rest = rest; split = consumed ∙ ap (λ (xs : List ℕ). xs ++ rest) is.given_is })
+
+pub reads_file : {W T : Type 0} (outlet : W → Outlet) (IsTextOf : T → List ℕ → List ℕ → Type 0) (before after : Supply) (most : ℕ) (old new : Writing W) (result : Result T RunFault) →
+    ((value : T) (input written : List ℕ) → IsTextOf value input written → AreFile input) → ReadsThenPuts outlet IsTextOf before after most old new result → IsOfFile before.left result
+reads_file outlet IsTextOf before after most old new (Ok value) file reads =
+    read_file before after most reads.done.input reads.done.read (file value reads.done.input reads.done.holds.0.text reads.done.holds.0.is_text)
+reads_file outlet IsTextOf before after most old new (Err (Write written)) file reads =
+    let all = (reads.write written refl).1 in
+    read_file before after most all.input all.read (file all.holds.is_text.0 all.input all.holds.text all.holds.is_text.1)
+reads_file outlet IsTextOf before after most old new (Err Memory) file reads = tt
+reads_file outlet IsTextOf before after most old new (Err HexText) file reads = tt
+reads_file outlet IsTextOf before after most old new (Err (Read place)) file reads = tt
+reads_file outlet IsTextOf before after most old new (Err (Refused refusal)) file reads = tt
+reads_file outlet IsTextOf before after most old new (Err (RefusedIn refusal)) file reads = tt
+
+pub loads_file : {W T : Type 0} (outlet : W → Outlet) (base : ℕ) (limits : Limits) (before after : Supply) (old new : Writing W) (result : Result T RunFault) →
+    Relocates outlet base limits before after old new result → IsOfFile before.left result
+loads_file outlet base limits before after old new (Ok value) all =
+    begun_file before.left after.left base limits.budget all.given all.done.0.text all.gives.consumed all.done.0.is_text
+loads_file outlet base limits before after old new (Err (Write written)) all =
+    let puts = (all.write written refl).1 in
+    begun_file before.left after.left base limits.budget all.given puts.text all.gives.consumed puts.is_text
+loads_file outlet base limits before after old new (Err Memory) all = tt
+loads_file outlet base limits before after old new (Err HexText) all = tt
+loads_file outlet base limits before after old new (Err (Read place)) all = tt
+loads_file outlet base limits before after old new (Err (Refused refusal)) all = tt
+loads_file outlet base limits before after old new (Err (RefusedIn refusal)) all = tt
+
+-- ---- what is listed of a file is listed of its plain spelling
+
+listed_plain : (listing : Listing) (bytes written : List ℕ) → IsListed listing bytes written → IsListed listing (plain bytes) written
+listed_plain listing bytes written is = subst (λ (xs : List ℕ). IsListed listing xs written) (sym (plain_file bytes (listed_file listing bytes written is))) is
+
+pub lists_plainly : {W : Type 0} (outlet : W → Outlet) (listing : Listing) (left : Option (List ℕ)) (failed : Bool) (after : Supply) (old new : Writing W) →
+    ListsSource outlet false listing (record { left = left; failed = failed }) after old new → ListsRead outlet false true listing left old new
+lists_plainly outlet listing None failed after old new lists = (
+  unread None,
+  record {
+    given = lists.given;
+    consumed = tt;
+    at_end = tt;
+    input = lists.input;
+    is_input = lists.is_input;
+    lists = (lists.text, listed_plain listing lists.input lists.text lists.is_listed, lists.takes);
+  },
+)
+lists_plainly outlet listing (Some bytes) failed after old new lists =
+    let own = subst (λ (xs : List ℕ). IsListed listing xs lists.text) lists.is_input lists.is_listed in
+    let all = listed_slice listing bytes lists.given lists.text after.left after.failed lists.consumed lists.stops own in (
+      unread (Some []),
+      record {
+        given = bytes;
+        consumed = sym (append-nil bytes);
+        at_end = refl;
+        input = bytes;
+        is_input = refl;
+        lists = (lists.text, listed_plain listing bytes lists.text all, lists.takes);
+      },
+    )
+
+-- ---- what is answered then
+
+module _ {W : Type 0} (outlet : W → Outlet) (listing : Listing) (known : Option (List ℕ)) (most : ℕ) (old new : Writing W) where
+  -- it is an answer for the plain spelling
+  answers_wide : (answer : Result ℕ RunFault) → ListsFirstOf outlet listing known old new answer → AnswersListing outlet false true listing known most old new answer None
+  answers_wide (Ok status) (left, leaves, first) = record {
+    outcome = first.outcome;
+    done = λ zero. (left, leaves, first.done zero);
+    stops = tt;
+    reads = (λ some. absurd (true≢false (sym some)), λ read. absurd read);
+    succeeds = λ has none works. tt;
+  }
+  answers_wide (Err fault) (left, leaves, first) = record {
+    outcome = first.outcome;
+    done = tt;
+    stops = λ other. absurd (other first.writes);
+    reads = (λ some. absurd (true≢false (sym some)), λ read. absurd (subst IsWrite read.1 first.writes));
+    succeeds = λ has none works. absurd (true≢false (sym (first.outcome.fails.broken first.writes) ∙ works));
+  }
+
+  pub answers_first : (hex wide : Bool) (answer : Result ℕ RunFault) → hex ≡ false → wide ≡ true → ListsFirstOf outlet listing known old new answer →
+      AnswersListing outlet hex wide listing known most old new answer None
+  answers_first true wide answer plain flag first = absurd (true≢false plain)
+  answers_first false false answer plain flag first = absurd (true≢false (sym flag))
+  answers_first false true answer plain flag first = answers_wide answer first
+
+  pub says_first : (hex wide : Bool) (answer : Result ℕ RunFault) → ListsFirstOf outlet listing known old new answer → TellsInput known hex wide most answer None
+  says_first hex wide answer (left, leaves, first) = inr (refl, plain_left known left leaves first.is_plain)
+
+  -- after a fault of writing
+  pub lists_written : (left : Option (List ℕ)) (fault : RunFault) (written : ℕ) → fault ≡ Write written → TellsOutcome outlet old new (Err fault) → IsOfFile {T = ℕ} left (Err fault) →
+      ListsFirst outlet listing left old new (Err (Write written))
+  lists_written left fault written is outcome of_file = record {
+    outcome = subst (λ (f : RunFault). TellsOutcome outlet old new (Err f)) is outcome;
+    done = tt;
+    writes = tt;
+    is_plain = plain_known left (subst (λ (f : RunFault). IsOfFile {T = ℕ} left (Err f)) is of_file);
+  }
+
+-- ---- what is written of a file is written of its plain spelling
+
+module _ (first made : Option MadeFile) (known : Option (List ℕ)) (output : List ℕ) (strip : Bool) (most : ℕ) where
+  rewritten_plain : (done : Rewritten) (bytes written : List ℕ) → IsRewritten strip done bytes written → IsRewritten strip done (plain bytes) written
+  rewritten_plain done bytes written is = subst (λ (xs : List ℕ). IsRewritten strip done xs written) (sym (plain_file bytes (rewritten_file strip done bytes written is))) is
+
+  whole_plain : (done : Rewritten) → RewritesInput known (RewritesTo first made output strip false done) most → RewritesInput known (RewritesTo first made output strip true done) most
+  whole_plain done (left, leaves, (after, reads)) =
+      let to = reads.holds in (
+        left,
+        leaves,
+        (
+          after,
+          record {
+            input = reads.input;
+            read = reads.read;
+            holds = record { text = to.text; is_rewritten = rewritten_plain done reads.input to.text to.is_rewritten; told = to.told; makes = to.makes };
+          },
+        ),
+      )
+
+  first_plain : (written : ℕ) → RewritesInput known (RewritesFirst first made output strip false written) most → RewritesInput known (RewritesFirst first made output strip true written) most
+  first_plain written (left, leaves, (after, reads)) =
+      let to = reads.holds in (
+        left,
+        leaves,
+        (
+          after,
+          record {
+            input = reads.input;
+            read = reads.read;
+            holds = record {
+              text = to.text;
+              is_text = (to.is_text.0, rewritten_plain to.is_text.0 reads.input to.text to.is_text.1);
+              count = to.count;
+              fits = to.fits;
+              makes = to.makes;
+              told = to.told;
+            };
+          },
+        ),
+      )
+
+  plain_read : (Holds : List ℕ → Type 0) → ((input : List ℕ) → Holds input → AreFile input) → RewritesInput known Holds most → IsPlain known
+  plain_read Holds file (left, leaves, (after, reads)) =
+      plain_left known left leaves (plain_known left (read_file (unread left) after most reads.input reads.read (file reads.input reads.holds)))
+
+  -- an answer for the file as it is, which is none of reading, is one for the plain spelling
+  pub answers_plain : (result : Result Rewritten RunFault) (cause : Option Error) → IfErr result IsWrite → AnswersRewriting first made known output strip false most result cause →
+      AnswersRewriting first made known output strip true most result cause
+  answers_plain (Ok done) cause writes answers = record {
+    rewrites = whole_plain done answers.rewrites;
+    write = tt;
+    untouched = tt;
+    stops = tt;
+    of_system = answers.of_system;
+    succeeds = λ has none. tt;
+  }
+  answers_plain (Err fault) cause writes answers = record {
+    rewrites = tt;
+    write = λ written is. first_plain written (answers.write written is);
+    untouched = answers.untouched;
+    stops = λ other. absurd (other writes);
+    of_system = answers.of_system;
+    succeeds = λ has none. absurd (true≢false (sym (subst (λ (c : Option Error). is_some c ≡ true) none (answers.of_system.1 (inr writes)))));
+  }
+
+  pub says_plain : (result : Result Rewritten RunFault) (cause : Option Error) → IfErr result IsWrite → AnswersRewriting first made known output strip false most result cause →
+      TellsInput known false true most result None
+  says_plain (Ok done) cause writes answers =
+      inr (refl, plain_read (RewritesTo first made output strip false done) (λ input to. rewritten_file strip done input to.text to.is_rewritten) answers.rewrites)
+  says_plain (Err (Write written)) cause writes answers =
+      inr (
+        refl,
+        plain_read (RewritesFirst first made output strip false written) (λ input to. rewritten_file strip to.is_text.0 input to.text to.is_text.1) (answers.write written refl),
+      )
+  says_plain (Err Memory) cause writes answers = absurd writes
+  says_plain (Err HexText) cause writes answers = absurd writes
+  says_plain (Err (Read place)) cause writes answers = absurd writes
+  says_plain (Err (Refused refusal)) cause writes answers = absurd writes
+  says_plain (Err (RefusedIn refusal)) cause writes answers = absurd writes
+
+  -- with `--wide`, where the answer is told as it is
+  pub answers_asked : (wide : Bool) (own result : Result Rewritten RunFault) (cause : Option Error) → wide ≡ true → own ≡ result → IfErr result IsWrite →
+      AnswersRewriting first made known output strip false most own cause → AnswersRewriting first made known output strip wide most result cause
+  answers_asked true own result cause flag is writes answers =
+      answers_plain result cause writes (subst (λ (r : Result Rewritten RunFault). AnswersRewriting first made known output strip false most r cause) is answers)
+  answers_asked false own result cause flag is writes answers = absurd (true≢false (sym flag))
+
+  pub says_asked : (wide : Bool) (own result : Result Rewritten RunFault) (cause : Option Error) → wide ≡ true → own ≡ result → IfErr result IsWrite →
+      AnswersRewriting first made known output strip false most own cause → TellsInput known false wide most result None
+  says_asked true own result cause flag is writes answers =
+      says_plain result cause writes (subst (λ (r : Result Rewritten RunFault). AnswersRewriting first made known output strip false most r cause) is answers)
+  says_asked false own result cause flag is writes answers = absurd (true≢false (sym flag))
