@@ -54,10 +54,11 @@ impl Taking {
     }
 }
 
-/// Two files and standard input, and a file that is made.
+/// Two files and standard input, and a file that is made. It tells whether the two are regular.
 #[derive(Drop)]
 pub(super) struct MemoryStore<'a> {
     pub alloc: Global,
+    pub are_regular: bool,
     pub first: Held<'a>,
     pub second: Held<'a>,
     pub input: &'a [u8],
@@ -88,6 +89,10 @@ impl<'a> Store for MemoryStore<'a> {
             return Ok(self.second.bytes);
         }
         Err(io::Error::from(io::ErrorKind::NotFound))
+    }
+
+    fn is_regular(&self, _name: &str) -> bool {
+        self.are_regular
     }
 
     fn input(&self) -> &'a [u8] {

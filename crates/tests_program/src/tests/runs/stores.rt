@@ -18,14 +18,27 @@ struct Outcome {
     text: String,
     // The name of the file that was made, a colon, and what it took; nothing where none was made.
     made: Vec<u8>,
+    // How many blocks of short relocations are told of.
+    short_blocks: u64,
 }
 
 /// Runs these words, apart by spaces, where the file `a` and standard input have these bytes and
 /// the file `b` those of `OTHER`.
 fn ran<'x>(alloc: Global, line: &str, file: &'x [u8], input: &'x [u8]) -> Result<Outcome, Fail> {
+    ran_over(alloc, line, (file, true), input)
+}
+
+/// The same where the files are told to be regular, or not.
+fn ran_over<'x>(
+    alloc: Global,
+    line: &str,
+    (file, are_regular): (&'x [u8], bool),
+    input: &'x [u8],
+) -> Result<Outcome, Fail> {
     let words = split(alloc, line)?;
     let store = MemoryStore {
         alloc,
+        are_regular,
         first: Held {
             name: "b",
             bytes: OTHER.as_slice(),
@@ -49,6 +62,10 @@ fn ran<'x>(alloc: Global, line: &str, file: &'x [u8], input: &'x [u8]) -> Result
         status: ended.status,
         text: String::from_utf8(out.into_inner().bytes)?,
         made,
+        short_blocks: match &ended.spelled {
+            Some(spelled) => spelled.short_blocks,
+            None => 0,
+        },
     })
 }
 
@@ -108,4 +125,53 @@ fn makes_the_file_of_its_name(rt: HostRuntime) -> Result<(), Fail> {
     expect_made(&rt, alloc, "hunkinfo rewrite --strip a c", &file, want)?;
     let want = ("refused at byte 4: Truncated (26)\n", "", b"".as_slice());
     expect_made(&rt, alloc, "hunkinfo rewrite a c", b"\0\0\x03\xF3", want)
+}
+
+/// A hunk of one longword in plain spelling, with a relocation.
+const PLAIN: &str = "000003F3 00000000 00000001 00000000 00000000 00000001 \
+    000003E9 00000001 00000000 000003EC 00000001 00000000 00000000 00000000 000003F2";
+
+/// The same with a block of short relocations.
+const SHORT: &str = "000003F3 00000000 00000001 00000000 00000000 00000001 \
+    000003E9 00000001 00000000 000003FC 00010000 00000000 000003F2";
+
+/// The words of a command, and what it prints of both.
+const WIDE: &[(&str, &str)] = &[
+    ("hunkinfo validate --wide a", "load file 1 hunks 4 bytes\n"),
+    (
+        "hunkinfo relocate --wide --base 00000010 a",
+        "hunk 0 base 0x00000010 4 bytes\n  00000010\n",
+    ),
+    ("hunkinfo rewrite --wide a c", "wrote 60 bytes\n"),
+];
+
+/// Sees that each command comes to the same of a file that is told to be regular, or not.
+fn expect_wide(
+    rt: &impl Abort,
+    alloc: Global,
+    file: &[u8],
+    are_regular: bool,
+    short_blocks: u64,
+) -> Result<(), Fail> {
+    for (line, want) in WIDE {
+        let ran = ran_over(alloc, line, (file, are_regular), b"text")?;
+        assert_equal_at(rt, ran.text.as_str(), *want, line);
+        assert_equal_at(rt, ran.short_blocks, short_blocks, line);
+        assert_equal_at(rt, ran.status, 0, line);
+    }
+    Ok(())
+}
+
+#[test]
+fn reads_a_plain_file_as_it_is(rt: HostRuntime) -> Result<(), Fail> {
+    let file = spelled(rt.alloc(), PLAIN)?;
+    expect_wide(&rt, rt.alloc(), &file, true, 0)?;
+    expect_wide(&rt, rt.alloc(), &file, false, 0)
+}
+
+#[test]
+fn reads_a_wide_file_again(rt: HostRuntime) -> Result<(), Fail> {
+    let file = spelled(rt.alloc(), SHORT)?;
+    expect_wide(&rt, rt.alloc(), &file, true, 1)?;
+    expect_wide(&rt, rt.alloc(), &file, false, 1)
 }
