@@ -26,7 +26,7 @@ import struct
 import sys
 from ctypes import c_char_p, c_size_t, c_uint8, c_uint32, c_uint64, c_void_p
 from functools import cached_property, lru_cache
-from typing import Any, Callable, Iterator, NamedTuple, Optional, Sequence, Union
+from typing import Any, Callable, Iterator, NamedTuple, Optional, Sequence, TypeVar, Union
 
 Data = Union[bytes, bytearray, memoryview]
 
@@ -336,7 +336,10 @@ def input_place(data: Data, place: int) -> int:
     return int(_input_place(data, len(data), _number(place, 64, "place")))
 
 
-def _by_plain(call: Callable[[bytes], Any], data: Data) -> Any:
+_Made = TypeVar("_Made")
+
+
+def _by_plain(call: Callable[[bytes], _Made], data: Data) -> _Made:
     """What the call makes of the plain spelling. A refusal has its place in the input."""
     try:
         return call(plain(data))

@@ -1,19 +1,15 @@
 -- A file is its own plain spelling, and what was listed or written is one.
-use Rattle.std.proofs.Common.{◌≡◌, ◌∙◌, ◌++◌, ℕ, Bool, false, List, [], Option, Some, None, Result, Ok, Err, inl, inr, ap, refl, subst, sym, append-nil, true, true≢false}
+use Rattle.std.proofs.Common.{◌≡◌, ◌∙◌, ℕ, Bool, false, List, [], Option, Some, None, Result, Ok, Err, inl, inr, refl, subst, sym, append-nil, true, true≢false}
 use Rattle.std.specs.Prelude.{IfErr, IfSome, is_some}
 use Rattle.std.specs.declared.io.Error.{Error}
-use Rattle.std.specs.Io.KnownBytes.{Consumes}
 use Rattle.std.proofs.KnownBytes.{Consumes-whole}
 use Rattle.hunk_words.specs.Carriers.{Outlet, Supply, Writing}
 use Rattle.hunk_files.specs.HunkFile.{AreFile}
-use Rattle.hunk_scatter.specs.declared.loading.Limits.{Limits}
 use Rattle.hunk_wide.specs.Plain.{plain}
 use Rattle.hunk_wide.proofs.Along.{plain_stays}
 use Rattle.hunk_wide.proofs.SpelledObjects.{object_stays}
-use Rattle.hunk_commands.specs.Engine.{ReadsThenPuts}
 use Rattle.hunk_commands.specs.Faults.{IsWrite}
 use Rattle.hunk_commands.specs.Inputs.{ReadsWhole}
-use Rattle.hunk_commands.specs.Relocating.{IsListingOf, Relocates}
 use Rattle.hunk_commands.specs.Rewritten.{IsRewritten}
 use Rattle.hunk_commands.specs.Shown.{IsShown}
 use Rattle.hunk_commands.specs.Validated.{IsValidated}
@@ -69,39 +65,6 @@ listed_file (listings.Relocate base budget) bytes written is = inl (record { val
 -- it was read to its end
 read_file : (before after : Supply) (most : ℕ) (input : List ℕ) → ReadsWhole before after most input → AreFile input → IfSome before.left AreFile
 read_file before after most input read is = Consumes-whole before.left after.left input AreFile read.given read.at_end is
-
--- it was read to the end of a load file
-begun_file : (before after : Option (List ℕ)) (base budget : ℕ) (given written : List ℕ) → Consumes before after given → IsListingOf base budget given written → IfSome before AreFile
-begun_file None after base budget given written consumed is = tt
-begun_file (Some bytes) None base budget given written consumed is = absurd consumed
-begun_file (Some bytes) (Some rest) base budget given written consumed is =
-    inl (record { value = is.file; is_load_file = is.is_listing.is_file; rest = rest; split = consumed ∙ ap (λ (xs : List ℕ). xs ++ rest) is.given_is })
-
-pub reads_file : {W T : Type 0} (outlet : W → Outlet) (IsTextOf : T → List ℕ → List ℕ → Type 0) (before after : Supply) (most : ℕ) (old new : Writing W) (result : Result T RunFault) →
-    ((value : T) (input written : List ℕ) → IsTextOf value input written → AreFile input) → ReadsThenPuts outlet IsTextOf before after most old new result → IsOfFile before.left result
-reads_file outlet IsTextOf before after most old new (Ok value) file reads =
-    read_file before after most reads.done.input reads.done.read (file value reads.done.input reads.done.holds.0.text reads.done.holds.0.is_text)
-reads_file outlet IsTextOf before after most old new (Err (Write written)) file reads =
-    let all = (reads.write written refl).1 in
-    read_file before after most all.input all.read (file all.holds.is_text.0 all.input all.holds.text all.holds.is_text.1)
-reads_file outlet IsTextOf before after most old new (Err Memory) file reads = tt
-reads_file outlet IsTextOf before after most old new (Err HexText) file reads = tt
-reads_file outlet IsTextOf before after most old new (Err (Read place)) file reads = tt
-reads_file outlet IsTextOf before after most old new (Err (Refused refusal)) file reads = tt
-reads_file outlet IsTextOf before after most old new (Err (RefusedIn refusal)) file reads = tt
-
-pub loads_file : {W T : Type 0} (outlet : W → Outlet) (base : ℕ) (limits : Limits) (before after : Supply) (old new : Writing W) (result : Result T RunFault) →
-    Relocates outlet base limits before after old new result → IsOfFile before.left result
-loads_file outlet base limits before after old new (Ok value) all =
-    begun_file before.left after.left base limits.budget all.given all.done.0.text all.gives.consumed all.done.0.is_text
-loads_file outlet base limits before after old new (Err (Write written)) all =
-    let puts = (all.write written refl).1 in
-    begun_file before.left after.left base limits.budget all.given puts.text all.gives.consumed puts.is_text
-loads_file outlet base limits before after old new (Err Memory) all = tt
-loads_file outlet base limits before after old new (Err HexText) all = tt
-loads_file outlet base limits before after old new (Err (Read place)) all = tt
-loads_file outlet base limits before after old new (Err (Refused refusal)) all = tt
-loads_file outlet base limits before after old new (Err (RefusedIn refusal)) all = tt
 
 -- ---- what is listed of a file is listed of its plain spelling
 
@@ -160,9 +123,6 @@ module _ {W : Type 0} (outlet : W → Outlet) (listing : Listing) (known : Optio
   answers_first true wide answer plain flag first = absurd (true≢false plain)
   answers_first false false answer plain flag first = absurd (true≢false (sym flag))
   answers_first false true answer plain flag first = answers_wide answer first
-
-  pub says_first : (hex wide : Bool) (answer : Result ℕ RunFault) → ListsFirstOf outlet listing known old new answer → TellsInput known hex wide most answer None
-  says_first hex wide answer (left, leaves, first) = inr (refl, plain_left known left leaves first.is_plain)
 
   -- after a fault of writing
   pub lists_written : (left : Option (List ℕ)) (fault : RunFault) (written : ℕ) → fault ≡ Write written → TellsOutcome outlet old new (Err fault) → IsOfFile {T = ℕ} left (Err fault) →

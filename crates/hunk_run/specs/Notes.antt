@@ -65,16 +65,12 @@ judged class (Some part) meaning = words_of_class class ++ (codes " in " ++ (par
 abbrev pub verdict_line : Verdict → List ℕ
 verdict_line verdict = judged (class_of verdict.refusal) verdict.part (meaning_of verdict.refusal.reason)
 
--- what `--wide` can do about a refusal in a hunk of a load file, for its reason
-abbrev pub wide_reads : Reason → List ℕ
-wide_reads reasons.ShortReloc = codes "; --wide reads such blocks"
-wide_reads reasons.SecondContent = codes "; --wide reads it, if only the END before it is missing"
-wide_reads reasons.Truncated = codes "; --wide reads it, if only the last END is missing"
-wide_reads _ = []
-
+-- what `--wide` can do about a refusal for this reason: in any file, and where an END may be missing in a hunk of a load file
 abbrev pub hint_in : Part → Reason → List ℕ
-hint_in (parts.Hunk number) reason = wide_reads reason
-hint_in _ reason = []
+hint_in part reasons.ShortReloc = codes "; --wide reads such blocks"
+hint_in (parts.Hunk number) reasons.SecondContent = codes "; --wide reads it, if only the END before it is missing"
+hint_in (parts.Hunk number) reasons.Truncated = codes "; --wide reads it, if only the last END is missing"
+hint_in _ _ = []
 
 -- That is said where the order has no such flag.
 abbrev pub hint_of : Refusal → Bool → List ℕ

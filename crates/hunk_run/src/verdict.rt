@@ -32,13 +32,14 @@ impl fmt::Display for Verdict {
     }
 }
 
-/// What `--wide` can do about a refusal in a hunk of a load file, where the order has no such flag.
+/// What `--wide` can do about a refusal, where the order has no such flag: about short relocations of
+/// any file, and about an END that may be missing in a hunk of a load file.
 pub(crate) fn hint(refusal: Refusal, wide: bool) -> &'static str
     ensures { result.now ≡ hint_of refusal wide }
 {
     match (refusal.part, refusal.fault.reason) {
         _ if wide => "",
-        (Part::Hunk { .. }, Reason::ShortReloc) => "; --wide reads such blocks",
+        (_, Reason::ShortReloc) => "; --wide reads such blocks",
         (Part::Hunk { .. }, Reason::SecondContent) => {
             "; --wide reads it, if only the END before it is missing"
         }
