@@ -16,14 +16,14 @@ use Rattle.hunk_commands.specs.Validated.{IsValidated}
 use Rattle.hunk_commands.specs.declared.fault.RunFault.{RunFault}
 use Rattle.hunk_commands.specs.declared.fault.RunFault.TheVariants.{HexText, Memory, Read, Refused, RefusedIn, Write}
 use Rattle.hunk_commands.specs.declared.rewriting.Rewritten.{Rewritten}
-use Rattle.hunk_run.specs.Asked.{AnswersListing, ListsFirst, ListsFirstOf, ListsRead, TellsInput}
+use Rattle.hunk_run.specs.Asked.{AnswersListing, EndsAtOnce, ListsFirst, ListsFirstOf, ListsRead, TellsInput}
 use Rattle.hunk_run.specs.Inputs.{unread}
 use Rattle.hunk_run.specs.Orders.{AnswersRewriting, RewritesFirst, RewritesInput, RewritesTo}
 use Rattle.hunk_run.specs.Refusals.{IsOfFile}
 use Rattle.hunk_run.specs.Runs.{IsListed, ListsSource}
 use Rattle.hunk_run.specs.Status.{TellsOutcome}
 use Rattle.hunk_run.specs.Stores.{Leaves, MadeFile}
-use Rattle.hunk_run.specs.Wide.{IsPlain}
+use Rattle.hunk_run.specs.Wide.{IsPlain, IsUnread}
 use Rattle.hunk_run.specs.declared.listing.Listing.{Listing}
 use Rattle.hunk_run.specs.declared.listing.Listing.TheVariants as listings
 use Rattle.hunk_run.proofs.Telling.{listed_slice}
@@ -110,13 +110,23 @@ module _ {W : Type 0} (outlet : W → Outlet) (listing : Listing) (known : Optio
     reads = (λ some. absurd (true≢false (sym some)), λ read. absurd read);
     succeeds = λ has none works. tt;
   }
-  answers_wide (Err fault) (left, leaves, first) = record {
-    outcome = first.outcome;
-    done = tt;
-    stops = λ other. absurd (other first.writes);
-    reads = (λ some. absurd (true≢false (sym some)), λ read. absurd (subst IsWrite read.1 first.writes));
-    succeeds = λ has none works. absurd (true≢false (sym (first.outcome.fails.broken first.writes) ∙ works));
-  }
+  answers_wide (Err fault) (left, leaves, first) = ended first.ends
+    where
+      ended : EndsAtOnce fault → AnswersListing outlet false true listing known most old new (Err fault) None
+      ended (inl write) = record {
+        outcome = first.outcome;
+        done = tt;
+        stops = λ other. absurd (other write);
+        reads = (λ some. absurd (true≢false (sym some)), λ read. absurd (subst IsWrite read.1 write));
+        succeeds = λ has none works. absurd (true≢false (sym (first.outcome.fails.broken write) ∙ works));
+      }
+      ended (inr memory) = record {
+        outcome = first.outcome;
+        done = tt;
+        stops = λ other. inl memory;
+        reads = (λ some. absurd (true≢false (sym some)), λ read. absurd (cc (sym memory ∙ read.1)));
+        succeeds = λ has none works. memory;
+      }
 
   pub answers_first : (hex wide : Bool) (answer : Result ℕ RunFault) → hex ≡ false → wide ≡ true → ListsFirstOf outlet listing known old new answer →
       AnswersListing outlet hex wide listing known most old new answer None
@@ -124,14 +134,32 @@ module _ {W : Type 0} (outlet : W → Outlet) (listing : Listing) (known : Optio
   answers_first false false answer plain flag first = absurd (true≢false (sym flag))
   answers_first false true answer plain flag first = answers_wide answer first
 
+  -- nothing is said of the spelling
+  pub says_first : (hex wide : Bool) (answer : Result ℕ RunFault) → ListsFirstOf outlet listing known old new answer → TellsInput known hex wide most answer None
+  says_first hex wide (Ok status) (left, leaves, first) = inr (refl, plain_left known left leaves first.is_plain)
+  says_first hex wide (Err fault) (left, leaves, first) = told first.ends
+    where
+      told : EndsAtOnce fault → TellsInput {T = ℕ} known hex wide most (Err fault) None
+      told (inl write) = inr (refl, plain_left known left leaves (first.is_plain write))
+      told (inr memory) = inl (λ flag. subst IsUnread (sym memory) tt)
+
+  -- where there was no memory
+  pub lists_nothing : (left : Option (List ℕ)) (fault : RunFault) → fault ≡ Memory → TellsOutcome outlet old new (Err fault) → ListsFirst outlet listing left old new (Err Memory)
+  lists_nothing left fault is outcome = record {
+    outcome = subst (λ (f : RunFault). TellsOutcome outlet old new (Err f)) is outcome;
+    done = tt;
+    ends = inr refl;
+    is_plain = λ write. absurd write;
+  }
+
   -- after a fault of writing
   pub lists_written : (left : Option (List ℕ)) (fault : RunFault) (written : ℕ) → fault ≡ Write written → TellsOutcome outlet old new (Err fault) → IsOfFile {T = ℕ} left (Err fault) →
       ListsFirst outlet listing left old new (Err (Write written))
   lists_written left fault written is outcome of_file = record {
     outcome = subst (λ (f : RunFault). TellsOutcome outlet old new (Err f)) is outcome;
     done = tt;
-    writes = tt;
-    is_plain = plain_known left (subst (λ (f : RunFault). IsOfFile {T = ℕ} left (Err f)) is of_file);
+    ends = inl tt;
+    is_plain = λ write. plain_known left (subst (λ (f : RunFault). IsOfFile {T = ℕ} left (Err f)) is of_file);
   }
 
 -- ---- what is written of a file is written of its plain spelling
@@ -181,10 +209,10 @@ module _ (first made : Option MadeFile) (known : Option (List ℕ)) (output : Li
   plain_read Holds file (left, leaves, (after, reads)) =
       plain_left known left leaves (plain_known left (read_file (unread left) after most reads.input reads.read (file reads.input reads.holds)))
 
-  -- an answer for the file as it is, which is none of reading, is one for the plain spelling
-  pub answers_plain : (result : Result Rewritten RunFault) (cause : Option Error) → IfErr result IsWrite → AnswersRewriting first made known output strip false most result cause →
+  -- an answer for the file as it is that ends the run is one for the plain spelling
+  pub answers_plain : (result : Result Rewritten RunFault) (cause : Option Error) → IfErr result EndsAtOnce → AnswersRewriting first made known output strip false most result cause →
       AnswersRewriting first made known output strip true most result cause
-  answers_plain (Ok done) cause writes answers = record {
+  answers_plain (Ok done) cause ends answers = record {
     rewrites = whole_plain done answers.rewrites;
     write = tt;
     untouched = tt;
@@ -192,39 +220,51 @@ module _ (first made : Option MadeFile) (known : Option (List ℕ)) (output : Li
     of_system = answers.of_system;
     succeeds = λ has none. tt;
   }
-  answers_plain (Err fault) cause writes answers = record {
+  answers_plain (Err fault) cause (inl write) answers = record {
     rewrites = tt;
     write = λ written is. first_plain written (answers.write written is);
     untouched = answers.untouched;
-    stops = λ other. absurd (other writes);
+    stops = λ other. absurd (other write);
     of_system = answers.of_system;
-    succeeds = λ has none. absurd (true≢false (sym (subst (λ (c : Option Error). is_some c ≡ true) none (answers.of_system.1 (inr writes)))));
+    succeeds = λ has none. absurd (true≢false (sym (subst (λ (c : Option Error). is_some c ≡ true) none (answers.of_system.1 (inr write)))));
+  }
+  answers_plain (Err fault) cause (inr memory) answers = record {
+    rewrites = tt;
+    write = λ written is. absurd (cc (sym memory ∙ is));
+    untouched = answers.untouched;
+    stops = λ other. inl memory;
+    of_system = answers.of_system;
+    succeeds = λ has none. memory;
   }
 
-  pub says_plain : (result : Result Rewritten RunFault) (cause : Option Error) → IfErr result IsWrite → AnswersRewriting first made known output strip false most result cause →
+  pub says_plain : (result : Result Rewritten RunFault) (cause : Option Error) → IfErr result EndsAtOnce → AnswersRewriting first made known output strip false most result cause →
       TellsInput known false true most result None
-  says_plain (Ok done) cause writes answers =
+  says_plain (Ok done) cause ends answers =
       inr (refl, plain_read (RewritesTo first made output strip false done) (λ input to. rewritten_file strip done input to.text to.is_rewritten) answers.rewrites)
-  says_plain (Err (Write written)) cause writes answers =
+  says_plain (Err (Write written)) cause ends answers =
       inr (
         refl,
         plain_read (RewritesFirst first made output strip false written) (λ input to. rewritten_file strip to.is_text.0 input to.text to.is_text.1) (answers.write written refl),
       )
-  says_plain (Err Memory) cause writes answers = absurd writes
-  says_plain (Err HexText) cause writes answers = absurd writes
-  says_plain (Err (Read place)) cause writes answers = absurd writes
-  says_plain (Err (Refused refusal)) cause writes answers = absurd writes
-  says_plain (Err (RefusedIn refusal)) cause writes answers = absurd writes
+  says_plain (Err Memory) cause ends answers = inl (λ flag. tt)
+  says_plain (Err HexText) cause (inl write) answers = absurd write
+  says_plain (Err HexText) cause (inr memory) answers = absurd (cc memory)
+  says_plain (Err (Read place)) cause (inl write) answers = absurd write
+  says_plain (Err (Read place)) cause (inr memory) answers = absurd (cc memory)
+  says_plain (Err (Refused refusal)) cause (inl write) answers = absurd write
+  says_plain (Err (Refused refusal)) cause (inr memory) answers = absurd (cc memory)
+  says_plain (Err (RefusedIn refusal)) cause (inl write) answers = absurd write
+  says_plain (Err (RefusedIn refusal)) cause (inr memory) answers = absurd (cc memory)
 
   -- with `--wide`, where the answer is told as it is
-  pub answers_asked : (wide : Bool) (own result : Result Rewritten RunFault) (cause : Option Error) → wide ≡ true → own ≡ result → IfErr result IsWrite →
+  pub answers_asked : (wide : Bool) (own result : Result Rewritten RunFault) (cause : Option Error) → wide ≡ true → own ≡ result → IfErr result EndsAtOnce →
       AnswersRewriting first made known output strip false most own cause → AnswersRewriting first made known output strip wide most result cause
-  answers_asked true own result cause flag is writes answers =
-      answers_plain result cause writes (subst (λ (r : Result Rewritten RunFault). AnswersRewriting first made known output strip false most r cause) is answers)
-  answers_asked false own result cause flag is writes answers = absurd (true≢false (sym flag))
+  answers_asked true own result cause flag is ends answers =
+      answers_plain result cause ends (subst (λ (r : Result Rewritten RunFault). AnswersRewriting first made known output strip false most r cause) is answers)
+  answers_asked false own result cause flag is ends answers = absurd (true≢false (sym flag))
 
-  pub says_asked : (wide : Bool) (own result : Result Rewritten RunFault) (cause : Option Error) → wide ≡ true → own ≡ result → IfErr result IsWrite →
+  pub says_asked : (wide : Bool) (own result : Result Rewritten RunFault) (cause : Option Error) → wide ≡ true → own ≡ result → IfErr result EndsAtOnce →
       AnswersRewriting first made known output strip false most own cause → TellsInput known false wide most result None
-  says_asked true own result cause flag is writes answers =
-      says_plain result cause writes (subst (λ (r : Result Rewritten RunFault). AnswersRewriting first made known output strip false most r cause) is answers)
-  says_asked false own result cause flag is writes answers = absurd (true≢false (sym flag))
+  says_asked true own result cause flag is ends answers =
+      says_plain result cause ends (subst (λ (r : Result Rewritten RunFault). AnswersRewriting first made known output strip false most r cause) is answers)
+  says_asked false own result cause flag is ends answers = absurd (true≢false (sym flag))

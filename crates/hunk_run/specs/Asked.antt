@@ -1,5 +1,5 @@
 -- What an order comes to, with `--wide` or without.
-use Rattle.std.specs.Prelude.{◌≡◌, ◌⊎◌, ◌↔◌, ℕ, Bool, true, false, List, Option, Some, None, Result, IfErr, IfOk, IsErrAnd, OnOk, is_some}
+use Rattle.std.specs.Prelude.{◌≡◌, ◌⊎◌, ◌↔◌, ℕ, Bool, true, false, List, Option, Some, None, Result, IfErr, IfOk, IsErrAnd, MatchResult, OnOk, is_some}
 use Rattle.std.specs.declared.io.Error.{Error}
 use Rattle.hunk_words.specs.Carriers.{Outlet, Supply, Writing, saturated}
 use Rattle.hunk_wide.specs.declared.spelling.Spelling.{Spelling}
@@ -82,12 +82,16 @@ TellsInput known hex wide most result spelling = TellsSpelling (FromInput known)
 
 -- ---- a file that is listed as it is
 
--- A file that had these bytes left was listed, or writing failed, and it is its own plain spelling.
+-- It ends the run: writing failed, or there was no memory.
+abbrev pub EndsAtOnce : RunFault → Type 0
+EndsAtOnce fault = IsWrite fault ⊎ (fault ≡ Memory)
+
+-- A file that had these bytes left was listed, or writing failed, and it is its own plain spelling; or there was no memory.
 pub record ListsFirst {W : Type 0} (outlet : W → Outlet) (listing : Listing) (left : Option (List ℕ)) (old new : Writing W) (result : Result ℕ RunFault) : Type 0 where
   pub outcome : TellsOutcome outlet old new result
   pub done : IfOk result (λ status. status ≡ 0 → ListsRead outlet false true listing left old new)
-  pub writes : IfErr result IsWrite
-  pub is_plain : IsPlain left
+  pub ends : IfErr result EndsAtOnce
+  pub is_plain : MatchResult result (λ status. IsPlain left) (λ fault. IsWrite fault → IsPlain left)
 
 -- the same of a file of which these bytes are known
 abbrev pub ListsFirstOf : {W : Type 0} → (W → Outlet) → Listing → Option (List ℕ) → Writing W → Writing W → Result ℕ RunFault → Type 0

@@ -19,8 +19,8 @@ const AS_IT_IS: Form = Form {
 };
 
 /// Prints it of a file that can be read again, as it is, and gives the exit status, or the fault of
-/// writing. Where it gives neither nothing was printed, and the file may be read for its plain
-/// spelling.
+/// writing, or that memory was refused. Where it gives none of them nothing was printed, and the
+/// file may be read for its plain spelling.
 pub(crate) fn list_first<S: Store, W: Sink>(
     store: &S,
     alloc: Global,
@@ -43,7 +43,7 @@ pub(crate) fn list_first<S: Store, W: Sink>(
     };
     match source_of(alloc, listing, file, AS_IT_IS) {
         Ok(source) => list_as_it_is(alloc, listing, source, out),
-        Err(_) => None,
+        Err(_) => Some(Err(RunFault::Memory)),
     }
 }
 
@@ -63,6 +63,7 @@ fn list_as_it_is<R: Read + Drop, W: Sink>(
     match list_bytes(alloc, listing, &mut source, out) {
         Ok(status) => Some(Ok(status)),
         Err(RunFault::Write { written }) => Some(Err(RunFault::Write { written })),
+        Err(RunFault::Memory) => Some(Err(RunFault::Memory)),
         Err(_) => None,
     }
 }

@@ -138,6 +138,7 @@ fn rewrite_input<S: Store>(
         Err(RunFault::Write { written }) => {
             (store, Err(RunFault::Write { written }), cause, None)
         }
+        Err(RunFault::Memory) => (store, Err(RunFault::Memory), cause, None),
         Err(_) => rewrite_named(store, alloc, input, output, way),
     }
 }
