@@ -153,10 +153,11 @@ const struct call *call_named(const char *name)
     return NULL;
 }
 
-/* The table of a load file, its hunks one right after the other; an object file has none. */
+/* The table of a load file, its hunks one right after the other; an object file has none, and what
+ * the machine can't address is taken for one. */
 static void place_hunks(void)
 {
-    table = hunk_table(file, file_len, UINT64_MAX, rows, MOST_HUNKS);
+    table = hunk_table(file, file_len, SIZE_MAX - 1, rows, MOST_HUNKS);
     memory_len = is_load_file() ? table.count : 0;
     memory = malloc(memory_len + 1);
     uint32_t base = BASE;

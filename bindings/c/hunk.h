@@ -9,7 +9,8 @@
  *
  * What the caller has to make sure of:
  * - Each pointer points to as many elements as its length says, aligned for their type. Where the
- *   length is 0 it may be NULL. Misaligned pointers are forbidden.
+ *   length is 0 it may be NULL. Misaligned pointers are forbidden. Lengths have 64 bits on every
+ *   machine: one above what the machine can address is forbidden, since nothing is so long.
  * - The memory that is written overlaps no other argument: overlaps are forbidden.
  *
  * What a program that is not compiled anew may count on, as long as HUNK_ABI stays the same
@@ -21,7 +22,6 @@
 #ifndef HUNK_H
 #define HUNK_H
 
-#include <stddef.h>
 #include <stdint.h>
 
 #ifdef __cplusplus
@@ -105,7 +105,9 @@ uint32_t hunk_abi(void);
 /* the numbers are none of a loader, or do not fit */
 #define HUNK_STRANGE UINT32_C(33)
 
-/* What a call answers: 24 bytes. */
+/* What a call answers: 24 bytes. On a machine of 32 bits a count may be above what the machine can
+ * address: bytes that hunks declare, that a plain spelling has, or that are still to come. So may
+ * the bytes of rows, a count times the size of one. A program compares before it narrows them. */
 struct hunk_answer {
     uint32_t number; /* HUNK_OK, the number of a reason, HUNK_NO_ROOM or HUNK_STRANGE */
     uint32_t hunk;   /* the hunks of a load file, or as the call says; else 0 */
@@ -138,7 +140,8 @@ struct hunk_finding {
 /* Reads the header that the bytes begin with, and writes a row for each hunk.
  *
  *   bytes   the file, or its first bytes: nothing after the header is read
- *   budget  the bytes that the hunks may have in memory together
+ *   budget  the bytes that the hunks may have in memory together. Up to SIZE_MAX, count fits a
+ *           size_t.
  *   rows    where the rows go: a table has 1 to 65,536 of them
  *
  * HUNK_OK       hunk: the hunks, as many as rows were written; place: the bytes of the header;
@@ -153,8 +156,8 @@ struct hunk_finding {
  *
  * Rows after the table, and at any answer but HUNK_OK all rows, are as they were.
  */
-struct hunk_answer hunk_table(const uint8_t *bytes, size_t bytes_len, uint64_t budget,
-                              struct hunk_row *rows, size_t rows_len);
+struct hunk_answer hunk_table(const uint8_t *bytes, uint64_t bytes_len, uint64_t budget,
+                              struct hunk_row *rows, uint64_t rows_len);
 
 /* Loads the load file that the bytes begin with, each hunk for an address of its own.
  *
@@ -175,8 +178,8 @@ struct hunk_answer hunk_table(const uint8_t *bytes, size_t bytes_len, uint64_t b
  * first byte is written: memory after the hunks, and at any answer but HUNK_OK all memory, is as it
  * was.
  */
-struct hunk_answer hunk_load(const uint8_t *bytes, size_t bytes_len, const uint32_t *bases,
-                             size_t bases_len, uint8_t *memory, size_t memory_len);
+struct hunk_answer hunk_load(const uint8_t *bytes, uint64_t bytes_len, const uint32_t *bases,
+                             uint64_t bases_len, uint8_t *memory, uint64_t memory_len);
 
 /* The same for hunks one right after the other from the address `base` on, as they lie in the
  * memory: an emulator hands in its RAM from that address on.
@@ -184,8 +187,8 @@ struct hunk_answer hunk_load(const uint8_t *bytes, size_t bytes_len, const uint3
  * HUNK_NO_BASE where a hunk would pass the address 2^32, or begin there. All else is as hunk_load
  * does it.
  */
-struct hunk_answer hunk_load_packed(const uint8_t *bytes, size_t bytes_len, uint32_t base,
-                                    uint8_t *memory, size_t memory_len);
+struct hunk_answer hunk_load_packed(const uint8_t *bytes, uint64_t bytes_len, uint32_t base,
+                                    uint8_t *memory, uint64_t memory_len);
 
 /* The same for hunks that lie apart in one memory, each at its own address: a machine with chip and
  * fast memory hands in what both lie in.
@@ -211,9 +214,9 @@ struct hunk_answer hunk_load_packed(const uint8_t *bytes, size_t bytes_len, uint
  *   hunk_load_at(file, len, bases, 2, 0x40000, ram, sizeof ram);
  *                                   (hunk 0 from ram[0x200] on, hunk 1 from ram[0x10] on)
  */
-struct hunk_answer hunk_load_at(const uint8_t *bytes, size_t bytes_len, const uint32_t *bases,
-                                size_t bases_len, uint32_t start, uint8_t *memory,
-                                size_t memory_len);
+struct hunk_answer hunk_load_at(const uint8_t *bytes, uint64_t bytes_len, const uint32_t *bases,
+                                uint64_t bases_len, uint32_t start, uint8_t *memory,
+                                uint64_t memory_len);
 
 /* ---- A load file that comes piece by piece, of which no copy is kept.
  *
@@ -282,8 +285,8 @@ struct hunk_loader {
  * is as it was, and the calls below answer HUNK_STRANGE to the loader.
  */
 struct hunk_answer hunk_begin(struct hunk_loader *loader, const struct hunk_place *places,
-                              size_t places_len, uint64_t header, uint8_t *memory,
-                              size_t memory_len);
+                              uint64_t places_len, uint64_t header, uint8_t *memory,
+                              uint64_t memory_len);
 
 /* Takes the next bytes of a file, those right after what was taken before, up to the end of the
  * file where that comes first.
@@ -307,8 +310,8 @@ struct hunk_answer hunk_begin(struct hunk_loader *loader, const struct hunk_plac
  * It reads and writes the loader and the memory, and reads the places and the piece.
  */
 struct hunk_answer hunk_feed(struct hunk_loader *loader, const struct hunk_place *places,
-                             size_t places_len, uint8_t *memory, size_t memory_len,
-                             const uint8_t *bytes, size_t bytes_len);
+                             uint64_t places_len, uint8_t *memory, uint64_t memory_len,
+                             const uint8_t *bytes, uint64_t bytes_len);
 
 /* Says whether the file is whole. It reads the loader, and writes nothing; more may be fed later.
  *
@@ -331,7 +334,9 @@ struct hunk_answer hunk_end(const struct hunk_loader *loader);
  * Else the same as hunk_feed has answered, where it answered a fault.
  *
  * All that is known to come is asked for at once, as the rest of a content, and after it the
- * longwords that the end of the file has at least.
+ * longwords that the end of the file has at least. Any file may declare more than 2^32 of
+ * them: on a machine of 32 bits count may be above what it can address, or ask of a pipe at once,
+ * and a program compares it with its own limit before it narrows it to a size_t.
  */
 struct hunk_answer hunk_want(const struct hunk_loader *loader);
 
@@ -353,8 +358,8 @@ struct hunk_answer hunk_want(const struct hunk_loader *loader);
  * A file is checked where there are rows enough. Rows after the findings, and at any answer but
  * HUNK_OK all rows, are as they were.
  */
-struct hunk_answer hunk_check(const uint8_t *bytes, size_t bytes_len, struct hunk_finding *rows,
-                              size_t rows_len);
+struct hunk_answer hunk_check(const uint8_t *bytes, uint64_t bytes_len, struct hunk_finding *rows,
+                              uint64_t rows_len);
 
 /* ---- What stands in a file, item by item.
  *
@@ -386,8 +391,8 @@ struct hunk_unit {
 };
 
 /* A row for each unit. A load file has none. */
-struct hunk_answer hunk_units(const uint8_t *bytes, size_t bytes_len, struct hunk_unit *rows,
-                              size_t rows_len);
+struct hunk_answer hunk_units(const uint8_t *bytes, uint64_t bytes_len, struct hunk_unit *rows,
+                              uint64_t rows_len);
 
 /* A block of a hunk: 80 bytes. */
 struct hunk_block {
@@ -406,8 +411,8 @@ struct hunk_block {
 
 /* A row for each block of each hunk, its END too. The header of a load file and those of units are
  * no blocks of a hunk. */
-struct hunk_answer hunk_blocks(const uint8_t *bytes, size_t bytes_len, struct hunk_block *rows,
-                               size_t rows_len);
+struct hunk_answer hunk_blocks(const uint8_t *bytes, uint64_t bytes_len, struct hunk_block *rows,
+                               uint64_t rows_len);
 
 /* A symbol: 48 bytes. */
 struct hunk_symbol {
@@ -421,8 +426,8 @@ struct hunk_symbol {
 };
 
 /* A row for each symbol of each SYMBOL block. */
-struct hunk_answer hunk_symbols(const uint8_t *bytes, size_t bytes_len, struct hunk_symbol *rows,
-                                size_t rows_len);
+struct hunk_answer hunk_symbols(const uint8_t *bytes, uint64_t bytes_len, struct hunk_symbol *rows,
+                                uint64_t rows_len);
 
 /* An offset that is relocated: 48 bytes. */
 struct hunk_relocation {
@@ -437,8 +442,8 @@ struct hunk_relocation {
 };
 
 /* A row for each offset of each relocation block. */
-struct hunk_answer hunk_relocations(const uint8_t *bytes, size_t bytes_len,
-                                    struct hunk_relocation *rows, size_t rows_len);
+struct hunk_answer hunk_relocations(const uint8_t *bytes, uint64_t bytes_len,
+                                    struct hunk_relocation *rows, uint64_t rows_len);
 
 /* An entry of an EXT block, a definition or references: 64 bytes. */
 struct hunk_entry {
@@ -454,8 +459,8 @@ struct hunk_entry {
 };
 
 /* A row for each entry of each EXT block, which object files alone have. */
-struct hunk_answer hunk_entries(const uint8_t *bytes, size_t bytes_len, struct hunk_entry *rows,
-                                size_t rows_len);
+struct hunk_answer hunk_entries(const uint8_t *bytes, uint64_t bytes_len, struct hunk_entry *rows,
+                                uint64_t rows_len);
 
 /* An offset that refers to what an EXT entry names: 32 bytes. */
 struct hunk_reference {
@@ -467,8 +472,8 @@ struct hunk_reference {
 };
 
 /* A row for each reference of each EXT entry. */
-struct hunk_answer hunk_references(const uint8_t *bytes, size_t bytes_len,
-                                   struct hunk_reference *rows, size_t rows_len);
+struct hunk_answer hunk_references(const uint8_t *bytes, uint64_t bytes_len,
+                                   struct hunk_reference *rows, uint64_t rows_len);
 
 /* Writes the object file that the bytes are, or the load file that they begin with, to the text,
  * without its NAME, SYMBOL, DEBUG and ADVISORY blocks. Which of the two they are is as at
@@ -488,8 +493,8 @@ struct hunk_answer hunk_references(const uint8_t *bytes, size_t bytes_len,
  * findings of a stripped object file. What stays is counted before it is copied where the text is
  * shorter than the file.
  */
-struct hunk_answer hunk_strip(const uint8_t *bytes, size_t bytes_len, uint8_t *text,
-                              size_t text_len);
+struct hunk_answer hunk_strip(const uint8_t *bytes, uint64_t bytes_len, uint8_t *text,
+                              uint64_t text_len);
 
 /* ---- Load files in other spellings.
  *
@@ -512,7 +517,7 @@ struct hunk_spelling {
 };
 
 /* Tells how the bytes spell their file, in one pass over them. */
-struct hunk_spelling hunk_spelling_of(const uint8_t *bytes, size_t bytes_len);
+struct hunk_spelling hunk_spelling_of(const uint8_t *bytes, uint64_t bytes_len);
 
 /* Writes the plain spelling of the bytes to the text.
  *
@@ -525,14 +530,14 @@ struct hunk_spelling hunk_spelling_of(const uint8_t *bytes, size_t bytes_len);
  *
  * Text after what is written, and at HUNK_NO_ROOM all text, is as it was.
  */
-struct hunk_answer hunk_plain(const uint8_t *bytes, size_t bytes_len, uint8_t *text,
-                              size_t text_len);
+struct hunk_answer hunk_plain(const uint8_t *bytes, uint64_t bytes_len, uint8_t *text,
+                              uint64_t text_len);
 
 /* The byte of the input at which a byte of its plain spelling stands, both counted from 0: where a
  * refusal of the plain spelling is in the input, by its place. Of a short block it is the 16-bit
  * word, of an END that is left out what comes in its place, and after the last byte the end of the
  * input, or where its last longword begins that is not whole. At most bytes_len. */
-uint64_t hunk_input_place(const uint8_t *bytes, size_t bytes_len, uint64_t place);
+uint64_t hunk_input_place(const uint8_t *bytes, uint64_t bytes_len, uint64_t place);
 
 /* Writes the name of an answer's number to the text, with no zero after it.
  *
@@ -541,7 +546,7 @@ uint64_t hunk_input_place(const uint8_t *bytes, size_t bytes_len, uint64_t place
  *
  * Text after the name is as it was.
  */
-struct hunk_answer hunk_reason(uint32_t number, uint8_t *text, size_t text_len);
+struct hunk_answer hunk_reason(uint32_t number, uint8_t *text, uint64_t text_len);
 
 /* Writes what an answer's number means to the text, with no zero after it: a sentence in ASCII, at
  * most 75 bytes, without a capital and a full stop.
@@ -551,7 +556,7 @@ struct hunk_answer hunk_reason(uint32_t number, uint8_t *text, size_t text_len);
  *
  * Text after the sentence is as it was.
  */
-struct hunk_answer hunk_reason_text(uint32_t number, uint8_t *text, size_t text_len);
+struct hunk_answer hunk_reason_text(uint32_t number, uint8_t *text, uint64_t text_len);
 
 #ifdef __cplusplus
 }

@@ -193,7 +193,7 @@ static void strip(const struct checked *f, const char *folder)
 {
     uint8_t *text = marked(&text_room, 0);
     struct hunk_answer asked = hunk_strip(f->bytes, f->len, text, 0);
-    size_t len = asked.count;
+    uint64_t len = asked.count;
     expect(same(asked, answer_of(f, HUNK_NO_ROOM, len)), f->name, "a strip without room");
     expect(len > 0 && len <= f->of.place, f->name, "bytes that are left");
     struct hunk_answer all = answer_of(f, HUNK_OK, len);
@@ -216,7 +216,7 @@ static void strip(const struct checked *f, const char *folder)
     all.place = len;
     expect(same(twice, all), f->name, "a strip of what was stripped");
     expect(memcmp(again, text, len) == 0, f->name, "what is left of it");
-    printf("wrote %zu bytes\n", len);
+    printf("wrote %" PRIu64 " bytes\n", len);
     if (f->len > f->of.place)
         printf("rest %" PRIu64 " bytes left out\n", f->len - f->of.place);
 }

@@ -1,6 +1,9 @@
-/* Whether the header says what the library has: the layout of the structs, as the crate's own tests
- * have their sizes, and the number of each reason with its name. Status 1 where it does not. */
+/* Whether the header says what the library has: the types of its calls (types.h), the layout of the
+ * structs, as the crate's own tests have their sizes, and the number of each reason with its name.
+ * Status 1 where it does not. */
 #include "hunk.h"
+#include "types.h"
+#include <stddef.h>
 #include <stdio.h>
 #include <string.h>
 
@@ -155,7 +158,7 @@ static int is_zero(struct hunk_answer a)
     return a.hunk == 0 && a.place == 0;
 }
 
-typedef struct hunk_answer tells(uint32_t number, uint8_t *text, size_t text_len);
+typedef struct hunk_answer tells(uint32_t number, uint8_t *text, uint64_t text_len);
 
 /* Whether this is told of a number, in text that is long enough, and in text that lacks a byte. */
 static int is_told(tells *call, uint32_t number, const char *name)

@@ -152,7 +152,8 @@ static uint64_t wanted(const struct streamed *f, const struct hunk_loader *loade
 static void fed_as_wanted(const struct streamed *f)
 {
     struct hunk_loader *loader = marked(&loader_room, sizeof *loader);
-    size_t room = f->table.count, at = f->table.place, len;
+    size_t room = f->table.count, at = f->table.place;
+    uint64_t len; /* a damaged file may want more than a machine can address */
     uint8_t *memory = marked(&memory_room, room);
     struct hunk_answer a = hunk_begin(loader, f->places, f->table.hunk, f->table.place, memory, room);
     a.hunk = 0;

@@ -34,8 +34,8 @@ struct listed {
 
 /* ---- The calls. */
 
-static inline struct hunk_answer call(int table, const uint8_t *bytes, size_t len, void *rows,
-                                      size_t room)
+static inline struct hunk_answer call(int table, const uint8_t *bytes, uint64_t len, void *rows,
+                                      uint64_t room)
 {
     switch (table) {
     case UNITS:

@@ -2,7 +2,7 @@
 import { LAYOUTS } from "../../bindings/javascript/hunk.js";
 
 const snake = (name) => name.replace(/[A-Z]/g, (letter) => `_${letter.toLowerCase()}`);
-const lines = ['#include "hunk.h"'];
+const lines = ['#include "hunk.h"', "#include <stddef.h>"];
 const hold = (what, wanted) => lines.push(`_Static_assert(${what} == ${wanted}, "${what}");`);
 for (const [name, { size, fields }] of Object.entries(LAYOUTS)) {
   hold(`sizeof(struct hunk_${name})`, size);

@@ -24,17 +24,17 @@ int main(int argc, char **argv)
     struct hunk_answer a = hunk_check(file, len, &none, 0);
     if (a.number != HUNK_OK && a.number != HUNK_NO_ROOM)
         return refuse(a);
-    size_t count = a.count;
-    struct hunk_finding *rows = malloc((count + 1) * sizeof *rows);
+    uint64_t count = a.count;
+    struct hunk_finding *rows = calloc(count + 1, sizeof *rows);
     if (rows == NULL)
         return 3;
     a = hunk_check(file, len, rows, count);
     if (a.number != HUNK_OK)
         return refuse(a);
-    for (size_t i = 0; i < count; i++)
+    for (uint64_t i = 0; i < count; i++)
         printf("unit %" PRIu64 " hunk %" PRIu64 " offset %" PRIu32 ": %s\n", rows[i].unit,
                rows[i].hunk, rows[i].offset,
                rows[i].fault == HUNK_FINDING_BAD_TARGET ? "no such target" : "outside of the hunk");
-    printf("%s file: %zu findings\n", a.hunk > 0 ? "load" : "object", count);
+    printf("%s file: %" PRIu64 " findings\n", a.hunk > 0 ? "load" : "object", count);
     return 0;
 }
