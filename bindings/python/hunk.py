@@ -24,7 +24,7 @@ import itertools
 import os
 import struct
 import sys
-from ctypes import c_char_p, c_size_t, c_uint8, c_uint32, c_uint64, c_void_p
+from ctypes import c_char_p, c_uint8, c_uint32, c_uint64, c_void_p
 from functools import cached_property, lru_cache
 from typing import Any, Callable, Iterator, NamedTuple, Optional, Sequence, TypeVar, Union
 
@@ -231,7 +231,8 @@ def _call(name: str, *types: Any, answer: Any = _Answer) -> Any:
     return call
 
 
-_BYTES, _ROOM = (c_char_p, c_size_t), (c_void_p, c_size_t)
+# A length has 64 bits on every machine.
+_BYTES, _ROOM = (c_char_p, c_uint64), (c_void_p, c_uint64)
 _table = _call("hunk_table", *_BYTES, c_uint64, *_ROOM)
 _load = _call("hunk_load", *_BYTES, *_ROOM, *_ROOM)
 _load_packed = _call("hunk_load_packed", *_BYTES, c_uint32, *_ROOM)
@@ -289,13 +290,21 @@ def _number(value: int, bits: int, what: str) -> int:
     return value
 
 
+def _array(kind: Any, count: int) -> Any:
+    """An array of so many, which a file says. More than the machine can address are a MemoryError, too."""
+    try:
+        return (kind * count)()
+    except OverflowError as error:
+        raise MemoryError(f"{count} of {kind.__name__}") from error
+
+
 def _rows(call: _Call, layout: struct.Struct, data: bytes, *words: int, counted: str = "count") -> Iterator[Any]:
     """The rows that the call writes. It is asked first how many there are, which this field of its answer says."""
     wanted = call(data, len(data), *words, None, 0)
     if wanted.number != _NO_ROOM:
         _accepted(wanted)
     count = getattr(wanted, counted)
-    rows = (c_uint64 * (count * layout.size // 8))()
+    rows = _array(c_uint64, count * layout.size // 8)
     _accepted(call(data, len(data), *words, rows, count))
     return layout.iter_unpack(rows)
 
@@ -325,7 +334,7 @@ def spelling(data: Data) -> Spelling:
 def plain(data: Data) -> bytes:
     """The plain spelling of a load file with short relocations, or with END left out. Other bytes are as they are."""
     data = _bytes(data)
-    text = (c_uint8 * spelling(data).size)()
+    text = _array(c_uint8, spelling(data).size)
     _accepted(_plain(data, len(data), text, len(text)))
     return bytes(text)
 
@@ -357,7 +366,7 @@ def load(data: Data, base: Union[int, Sequence[int]] = 0x1000, budget: int = BUD
         return _by_plain(lambda text: load(text, base, budget), data)
     data = _bytes(data)
     sizes = [hunk.size for hunk in table(data, budget)]
-    memory = (c_uint8 * sum(sizes))()
+    memory = _array(c_uint8, sum(sizes))
     if isinstance(base, int):
         _accepted(_load_packed(data, len(data), _number(base, 32, "base"), memory, len(memory)))
     else:

@@ -16,6 +16,8 @@ import hunk
 
 _TRUNCATED = 26
 _LOADER_WORDS = 96 // 8
+# The most bytes that a stream is asked for at once: a file may declare more than a machine can address.
+_PIECE = 1 << 20
 
 _begin = hunk._call("hunk_begin", c_void_p, *hunk._ROOM, c_uint64, *hunk._ROOM)
 _feed = hunk._call("hunk_feed", c_void_p, *hunk._ROOM, *hunk._ROOM, *hunk._BYTES)
@@ -58,7 +60,7 @@ class Loader:
                 raise hunk._refusal(hunk._NO_BASE, len(self._header), i)
         words = (it for row, base in zip(rows, bases) for it in (row[0], row[1], base))
         self._places = (c_uint32 * (3 * len(rows)))(*words)
-        self._memory = (c_uint8 * total)()
+        self._memory = hunk._array(c_uint8, total)
         hunk._accepted(_begin(self._loader, *self._parts()[:2], len(self._header), self._memory, total))
         self.want = hunk._accepted(_want(self._loader)).count
 
@@ -88,6 +90,6 @@ class Loader:
 def load_from(stream: BinaryIO, base: int = 0x1000, budget: int = hunk.BUDGET) -> list[bytes]:
     """The bytes of each hunk of the load file that a stream gives next. What follows the file stays in the stream."""
     loader = Loader(base, budget)
-    while loader.want and (piece := stream.read(loader.want)):
+    while loader.want and (piece := stream.read(min(loader.want, _PIECE))):
         loader.feed(piece)
     return loader.end()

@@ -144,7 +144,7 @@ pub fn read(data: &[u8]) -> Result<File<'_>, Error> {
 pub fn table(data: &[u8], budget: u64) -> Result<Vec<Hunk>, Error> {
     // SAFETY: the pointers come with the lengths of what they point to.
     let write = |rows: &mut [raw::Row]| unsafe {
-        raw::hunk_table(data.as_ptr(), data.len(), budget, rows.as_mut_ptr(), rows.len())
+        raw::hunk_table(data.as_ptr(), length(data), budget, rows.as_mut_ptr(), length(rows))
     };
     let rows = rows(write, |answer| answer.hunk.into())?;
     Ok((0..).zip(&rows).map(|(number, row)| Hunk { number, ..Hunk::from(row) }).collect())
@@ -155,12 +155,12 @@ pub fn table(data: &[u8], budget: u64) -> Result<Vec<Hunk>, Error> {
 /// # Errors
 ///
 /// An error where the bytes do not begin with a load file, its hunks have more bytes than the budget, or one of them has no
-/// base.
+/// base; `OutOfMemory` where they have more bytes than the machine can address.
 pub fn load(data: &[u8], bases: &[u32], budget: u64) -> Result<Vec<Vec<u8>>, Error> {
     // SAFETY: the pointers come with the lengths of what they point to.
     segments(data, budget, |memory| unsafe {
-        let (to, len) = (memory.as_mut_ptr(), memory.len());
-        raw::hunk_load(data.as_ptr(), data.len(), bases.as_ptr(), bases.len(), to, len)
+        let (to, len) = (memory.as_mut_ptr(), length(memory));
+        raw::hunk_load(data.as_ptr(), length(data), bases.as_ptr(), length(bases), to, len)
     })
 }
 
@@ -180,22 +180,23 @@ pub fn load_packed(data: &[u8], base: u32, budget: u64) -> Result<Vec<Vec<u8>>, 
 ///
 /// As [`load_packed`]; `NoRoom` where the memory is too small, which [`table`] tells beforehand. The memory is as it was then.
 pub fn load_into(data: &[u8], base: u32, memory: &mut [u8]) -> Result<usize, Error> {
+    // As many as the memory has, or fewer.
     Ok(accepted(packed(data, base, memory))?.count as usize)
 }
 
 /// Loads each hunk for its own address, and to there: the memory begins at the address `start`, as that of a machine in which
-/// chip and fast memory lie. Answers how many bytes the hunks have together. Memory that no hunk has stays as it was; where
-/// two overlap, the bytes that both have are unspecified.
+/// chip and fast memory lie. Answers how many bytes the hunks have together, where two overlap perhaps more than the memory.
+/// Memory that no hunk has stays as it was; bytes that two have are unspecified.
 ///
 /// # Errors
 ///
 /// An error where the bytes do not begin with a load file; `NoBase` where a hunk has no base, or does not lie in the memory
 /// there. The memory is as it was then.
-pub fn load_at(data: &[u8], bases: &[u32], start: u32, memory: &mut [u8]) -> Result<usize, Error> {
-    let (to, len) = (memory.as_mut_ptr(), memory.len());
+pub fn load_at(data: &[u8], bases: &[u32], start: u32, memory: &mut [u8]) -> Result<u64, Error> {
+    let (to, len) = (memory.as_mut_ptr(), length(memory));
     // SAFETY: the pointers come with the lengths of what they point to.
-    let answer = unsafe { raw::hunk_load_at(data.as_ptr(), data.len(), bases.as_ptr(), bases.len(), start, to, len) };
-    Ok(accepted(answer)?.count as usize)
+    let answer = unsafe { raw::hunk_load_at(data.as_ptr(), length(data), bases.as_ptr(), length(bases), start, to, len) };
+    Ok(accepted(answer)?.count)
 }
 
 /// What is wrong with the offsets of an object file. A load file has no findings, or is refused.
@@ -215,14 +216,14 @@ pub fn check(data: &[u8]) -> Result<Vec<Finding>, Error> {
 pub fn strip(data: &[u8]) -> Result<Vec<u8>, Error> {
     let mut text = vec![0; data.len()];
     // SAFETY: the pointers come with the lengths of what they point to.
-    let answer = unsafe { raw::hunk_strip(data.as_ptr(), data.len(), text.as_mut_ptr(), text.len()) };
+    let answer = unsafe { raw::hunk_strip(data.as_ptr(), length(data), text.as_mut_ptr(), length(&text)) };
     text.truncate(accepted(answer)?.count as usize);
     Ok(text)
 }
 
 fn packed(data: &[u8], base: u32, memory: &mut [u8]) -> raw::Answer {
     // SAFETY: the pointers come with the lengths of what they point to.
-    unsafe { raw::hunk_load_packed(data.as_ptr(), data.len(), base, memory.as_mut_ptr(), memory.len()) }
+    unsafe { raw::hunk_load_packed(data.as_ptr(), length(data), base, memory.as_mut_ptr(), length(memory)) }
 }
 
 /// The hunks' bytes, where `load` writes them into memory of just their size.
@@ -232,7 +233,7 @@ fn segments(
     load: impl Fn(&mut [u8]) -> raw::Answer,
 ) -> Result<Vec<Vec<u8>>, Error> {
     let hunks = table(data, budget)?;
-    let mut memory = vec![0; hunks.iter().map(|hunk| hunk.size as usize).sum()];
+    let mut memory = vec![0; addressable(hunks.iter().map(|hunk| hunk.size).sum())?];
     accepted(load(&mut memory))?;
     let mut rest = memory.as_slice();
     let cut = |hunk: &Hunk| {
@@ -253,6 +254,7 @@ fn rows<R: Clone + Default>(
         accepted(wanted)?;
         return Ok(Vec::new());
     }
+    // A file in memory has fewer of anything than it has bytes.
     let mut rows = vec![R::default(); count(&wanted) as usize];
     accepted(write(&mut rows))?;
     Ok(rows)
@@ -261,7 +263,7 @@ fn rows<R: Clone + Default>(
 /// The rows that a call writes about the file that the bytes are, or begin with.
 fn listed<R: Clone + Default>(call: raw::Lists<R>, data: &[u8]) -> Result<Vec<R>, Error> {
     // SAFETY: the pointers come with the lengths of what they point to.
-    let write = |rows: &mut [R]| unsafe { call(data.as_ptr(), data.len(), rows.as_mut_ptr(), rows.len()) };
+    let write = |rows: &mut [R]| unsafe { call(data.as_ptr(), length(data), rows.as_mut_ptr(), length(rows)) };
     rows(write, |answer| answer.count)
 }
 
@@ -270,19 +272,34 @@ fn accepted(answer: raw::Answer) -> Result<raw::Answer, Error> {
     if answer.number == raw::OK {
         return Ok(answer);
     }
-    Err(Error {
+    Err(refusal(&answer))
+}
+
+fn refusal(answer: &raw::Answer) -> Error {
+    Error {
         number: answer.number,
         reason: text(raw::hunk_reason, answer.number),
         meaning: text(raw::hunk_reason_text, answer.number),
         place: answer.place,
         hunk: (answer.number == raw::NO_BASE).then_some(answer.hunk),
-    })
+    }
+}
+
+/// A length, as the calls take it.
+fn length<T>(of: &[T]) -> u64 {
+    of.len() as u64
+}
+
+/// So many bytes that a file declares, as a length of this machine.
+fn addressable(bytes: u64) -> Result<usize, Error> {
+    let refused = raw::Answer { number: raw::OUT_OF_MEMORY, hunk: 0, place: 0, count: bytes };
+    usize::try_from(bytes).map_err(|_| refusal(&refused))
 }
 
 /// The text that a call has for the number of an answer.
 fn text(call: raw::Tells, number: u32) -> String {
     // SAFETY: the pointers come with the lengths of what they point to.
-    let write = |text: &mut [u8]| unsafe { call(number, text.as_mut_ptr(), text.len()) };
+    let write = |text: &mut [u8]| unsafe { call(number, text.as_mut_ptr(), length(text)) };
     let mut text = vec![0; write(&mut []).count as usize];
     write(&mut text);
     String::from_utf8_lossy(&text).into_owned()

@@ -1,6 +1,6 @@
 //! What stands in a file, for `hunk.rs`: rows that borrow its bytes.
 
-use super::{accepted, check, listed, raw, table, Error, Finding, Hunk, Memory};
+use super::{accepted, check, length, listed, raw, table, Error, Finding, Hunk, Memory};
 use std::fmt;
 
 /// The type of a block: a number, of which an advisory block may have any.
@@ -189,7 +189,7 @@ impl<'a> File<'a> {
     /// As [`super::check`].
     pub fn read(data: &'a [u8]) -> Result<File<'a>, Error> {
         // SAFETY: the pointer comes with the length of what it points to.
-        let asked = unsafe { raw::hunk_units(data.as_ptr(), data.len(), [].as_mut_ptr(), 0) };
+        let asked = unsafe { raw::hunk_units(data.as_ptr(), length(data), [].as_mut_ptr(), 0) };
         let (is_object, size) = (asked.hunk == 0, asked.place as usize);
         if asked.number != raw::NO_ROOM {
             accepted(asked)?;
@@ -296,7 +296,7 @@ fn hunks(data: &[u8], is_object: bool, blocks: &[Block]) -> Result<Vec<Hunk>, Er
     Ok(declared.into_iter().zip(contents).map(|(hunk, it)| Hunk { kind: Some(it.kind), ..hunk }).collect())
 }
 
-/// The bytes of a file, of which rows are made.
+/// The bytes of a file, of which rows are made. Places and counts of rows are at most as many as they are.
 #[derive(Clone, Copy, PartialEq, Eq)]
 struct Bytes<'a>(&'a [u8]);
 

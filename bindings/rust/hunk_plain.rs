@@ -1,6 +1,6 @@
 //! Load files in other spellings, for `hunk.rs`: their plain spelling.
 
-use super::{load_packed, raw, Error, File};
+use super::{length, load_packed, raw, Error, File};
 use std::borrow::Cow;
 
 /// How an input spells its file.
@@ -26,7 +26,7 @@ impl Spelling {
 #[must_use]
 pub fn spelling(data: &[u8]) -> Spelling {
     // SAFETY: the pointer comes with the length of what it points to.
-    let row = unsafe { raw::hunk_spelling_of(data.as_ptr(), data.len()) };
+    let row = unsafe { raw::hunk_spelling_of(data.as_ptr(), length(data)) };
     Spelling { bytes: row.bytes, short_blocks: row.short_blocks, ends: row.ends }
 }
 
@@ -57,9 +57,10 @@ impl<'a> Plain<'a> {
         if spelling.is_plain() {
             return Plain { input, text: Cow::Borrowed(input), spelling };
         }
+        // At most twice the input, and a slice has at most `isize::MAX` bytes.
         let mut text = vec![0; spelling.bytes as usize];
         // SAFETY: the pointers come with the lengths of what they point to. There is just the room that it asked for.
-        unsafe { raw::hunk_plain(input.as_ptr(), input.len(), text.as_mut_ptr(), text.len()) };
+        unsafe { raw::hunk_plain(input.as_ptr(), length(input), text.as_mut_ptr(), length(&text)) };
         Plain { input, text: Cow::Owned(text), spelling }
     }
 
@@ -79,7 +80,7 @@ impl<'a> Plain<'a> {
     #[must_use]
     pub fn input_place(&self, place: u64) -> u64 {
         // SAFETY: the pointer comes with the length of what it points to.
-        unsafe { raw::hunk_input_place(self.input.as_ptr(), self.input.len(), place) }
+        unsafe { raw::hunk_input_place(self.input.as_ptr(), length(self.input), place) }
     }
 
     /// A refusal of the plain spelling, with its place in the input.

@@ -4,6 +4,7 @@ vectors/objects.tsv. Prints each row with another answer, and ends with status 1
 binding.py --show FILE..: prints what stands in the files by hunk.py in the words of `hunkinfo show`, after `== FILE` for each.
 It ends with status 1 where something does not stand at the place that its row has."""
 
+import ctypes
 import io
 import itertools
 import pathlib
@@ -208,6 +209,23 @@ def raises_type_error(call, data):
     return False
 
 
+class Narrow(io.BytesIO):
+    """A stream that can't be asked for 2^31 bytes or more, as on a machine of 32 bits."""
+
+    def read(self, size=-1):
+        if size >= 1 << 31:
+            raise OverflowError(size)
+        return super().read(size)
+
+
+def is_out_of_memory(call):
+    try:
+        call()
+    except MemoryError:
+        return True
+    return False
+
+
 def placed(data, bases, start=0x10000, size=24):
     """A memory into which the file was loaded, or where it was refused, what says so and the memory."""
     memory = bytearray(b"\xaa" * size)
@@ -257,6 +275,8 @@ def wrong_calls(texts):
         "refused at byte 20: Budget (27)": lambda: hunk.load(one, budget=3),
         "refused at byte 28: NoBase (29) hunk 0": lambda: hunk_stream.load_from(io.BytesIO(two), 0xFFFFFFFC),
         "refused at byte 8: Truncated (26)": lambda: hunk.read(one[:9]),
+        # A DEBUG block after the code, which declares 2^34 bytes less 4.
+        "refused at byte 44: Truncated (26)": lambda: hunk_stream.load_from(Narrow(one[:36] + bytes.fromhex("000003f1ffffffff"))),
         "refused at byte 40: ShortReloc (13)": lambda: hunk.read(WIDE),
         "refused at byte 46: BadTarget (23)": lambda: hunk.read(BAD_WIDE, wide=True),
         "base is no number of 32 bits: 4294967296": lambda: hunk.load(one, 1 << 32),
@@ -269,6 +289,8 @@ def wrong_calls(texts):
                 yield f"{error} where the error is wanted: {wanted}"
             if isinstance(error, hunk.HunkError) and len(error.meaning) <= len(error.reason):
                 yield f"{error}: no sentence says what it means"
+    if not is_out_of_memory(lambda: hunk._array(ctypes.c_uint64, 1 << 62)):
+        yield "an array that no machine can address: no MemoryError is raised"
     calls = (hunk.table, hunk.load, hunk.check, hunk.strip, hunk.read, hunk.spelling, hunk.plain)
     for call, data in itertools.product(calls, (5, list(one), "text")):
         if not raises_type_error(call, data):

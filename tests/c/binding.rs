@@ -115,6 +115,8 @@ fn wrong_calls(load: &[Row], objects: &[Row]) -> Vec<String> {
     let finding = |place, fault| Finding { place, unit: 0, hunk: 0, offset: 2, fault };
     let mut apart = [0xAA; 24];
     let places = hunk::load_at(&two, &[0x1000C, 0x10001], 0x10000, &mut apart);
+    let overlap = hunk::load_at(&two, &[0x10000, 0x10004], 0x10000, &mut [0; 8]);
+    let no_place = hunk::load_at(&two, &[0x10011, 0x10000], 0x10000, &mut [0; 24]).map(|_| 0);
     let row = Hunk { unit: 0, number: 0, size: 4, memory: Memory::Any, kind: None };
     let read = hunk::read(&one).unwrap();
     let object = bytes_of("000003e700000000400003eb00000002000003f2800003ea00000000000003f2");
@@ -137,7 +139,8 @@ fn wrong_calls(load: &[Row], objects: &[Row]) -> Vec<String> {
         ("names", names == [(0, &b"_m"[..])]),
         ("memory", ram[2..6] == code && ram[..2] == [0xAA; 2] && ram[6..] == [0xAA; 2]),
         ("places", places == Ok(12) && apart[..] == bytes_of("aa12345678aaaaaaaaaaaaaa4ef9000100054e71aaaaaaaa")),
-        ("no place", text(hunk::load_at(&two, &[0x10011, 0x10000], 0x10000, &mut [0; 24])) == "refused at byte 28: NoBase (29) hunk 0"),
+        ("overlap", overlap == Ok(12)),
+        ("no place", text(no_place) == "refused at byte 28: NoBase (29) hunk 0"),
         ("findings", hunk::check(&findings) == Ok(vec![finding(32, Fault::BadTarget), finding(32, Fault::OutsideHunk)])),
     ];
     checks.iter().filter(|(_, holds)| !holds).map(|(name, _)| format!("{name}: another answer")).collect()
