@@ -334,9 +334,9 @@ struct hunk_answer hunk_end(const struct hunk_loader *loader);
  * Else the same as hunk_feed has answered, where it answered a fault.
  *
  * All that is known to come is asked for at once, as the rest of a content, and after it the
- * longwords that the end of the file has at least. Any file may declare more than 2^32 of
- * them: on a machine of 32 bits count may be above what it can address, or ask of a pipe at once,
- * and a program compares it with its own limit before it narrows it to a size_t.
+ * longwords that the end of the file has at least. A file of any size may declare a block of more
+ * than 2^32 bytes. So on a machine of 32 bits count may be above what it can address, or ask of a
+ * pipe at once: a program compares it with its own limit before it narrows it to a size_t.
  */
 struct hunk_answer hunk_want(const struct hunk_loader *loader);
 

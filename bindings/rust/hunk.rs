@@ -185,7 +185,7 @@ pub fn load_into(data: &[u8], base: u32, memory: &mut [u8]) -> Result<usize, Err
 }
 
 /// Loads each hunk for its own address, and to there: the memory begins at the address `start`, as that of a machine in which
-/// chip and fast memory lie. Answers how many bytes the hunks have together, where two overlap perhaps more than the memory.
+/// chip and fast memory lie. Answers how many bytes the hunks have together: more than the memory, perhaps, where two overlap.
 /// Memory that no hunk has stays as it was; bytes that two have are unspecified.
 ///
 /// # Errors
