@@ -4,8 +4,13 @@
 use hunk_command_line::OrderFault;
 use hunk_run::{Ended, Host};
 use hunk_words::{FromWrite, LongWriter};
+use std::io::IsTerminal;
 use std::process::ExitCode;
 use std::{env, io};
+
+/// Said to a person who starts the program alone, since it reads a text then.
+const WAITING: &str = "hunkinfo: reading hexadecimal text from the terminal, up to its end; \
+                       hunkinfo --help tells more\n";
 
 /// The words of the command line, which have to be text.
 fn words_of(rt: &HostRuntime) -> Result<Vec<String>, OrderFault> {
@@ -18,6 +23,11 @@ fn words_of(rt: &HostRuntime) -> Result<Vec<String>, OrderFault> {
     }
 }
 
+/// Whether the program was started alone, and what it reads is what a person types.
+fn waits_for_typing(rt: &HostRuntime, words: &[String]) -> bool {
+    words.len() <= 1 && rt.stdin().is_terminal()
+}
+
 fn main(rt: HostRuntime) -> ExitCode {
     let mut out = LongWriter::new(FromWrite::new(io::writer(&rt)));
     let Ended {
@@ -26,13 +36,16 @@ fn main(rt: HostRuntime) -> ExitCode {
         note,
     } = match words_of(&rt) {
         Ok(words) => {
+            // A standard error that fails changes nothing.
+            if waits_for_typing(&rt, words.as_slice()) {
+                let _ = eprint!(rt; "{WAITING}");
+            }
             let store = Host::new(&rt);
             let (ended, _store) = hunk_run::run(store, rt.alloc(), words.as_slice(), &mut out);
             ended
         }
         Err(fault) => hunk_run::refuse(fault, &mut out),
     };
-    // A standard error that fails changes nothing.
     if let Some(spelled) = spelled {
         let _ = eprint!(rt; "{spelled}");
     }
