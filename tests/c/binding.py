@@ -1,7 +1,7 @@
-"""binding.py VECTORS..: holds bindings/python/hunk.py and hunk_stream.py to the conformance suite, vectors/load.tsv and
-vectors/objects.tsv. Prints each row with another answer, and ends with status 1 where there is one.
+"""binding.py VECTORS..: holds the package of bindings/python to the conformance suite, vectors/load.tsv and vectors/objects.tsv.
+Prints each row with another answer, and ends with status 1 where there is one.
 
-binding.py --show FILE..: prints what stands in the files by hunk.py in the words of `hunkinfo show`, after `== FILE` for each.
+binding.py --show FILE..: prints what stands in the files, by the package, in the words of `hunkinfo show`, after `== FILE` for each.
 It ends with status 1 where something does not stand at the place that its row has."""
 
 import ctypes
@@ -12,7 +12,8 @@ import sys
 
 sys.path.insert(0, str(pathlib.Path(__file__).resolve().parents[2] / "bindings/python"))
 import hunk
-import hunk_stream
+import hunk.library
+import hunk.stream
 
 ITS_WORD = {hunk.Kind.CODE: "memory", hunk.Kind.DATA: "memory", hunk.Kind.BSS: "memory", hunk.Kind.DEBUG: "content_bytes"}
 COMMON = (hunk.EntryKind.COMMON, hunk.EntryKind.RELCOMMON)
@@ -46,7 +47,7 @@ def answer_of(data, is_object):
 def stream_answer(data, each):
     """The same of a load file in pieces, each of at most so many bytes; what follows the file must not be read."""
     stream = io.BytesIO(data)
-    loader = hunk_stream.Loader()
+    loader = hunk.stream.Loader()
     try:
         while loader.want and (piece := stream.read(min(each, loader.want))):
             if loader.feed(piece) != len(piece):
@@ -249,7 +250,7 @@ def wrong_calls(texts):
         "no place": (lambda: placed(two, [0x10011, 0x10000]), f"refused at byte 28: NoBase (29) hunk 0: {'-'.join(['aa' * 8] * 3)}"),
         "placed bytes": (lambda: hunk.load_at(two, [0x10000, 0x10008], 0x10000, memoryview(bytearray(16))), 12),
         "memory": (lambda: hunk.load(memoryview(one)), [bytes.fromhex("4e754e71")]),
-        "stream": (lambda: hunk_stream.load_from(io.BytesIO(one + one)), [bytes.fromhex("4e754e71")]),
+        "stream": (lambda: hunk.stream.load_from(io.BytesIO(one + one)), [bytes.fromhex("4e754e71")]),
         "file": (lambda: repr(hunk.read(one + one)), "<load file, 40 bytes, 1 hunks>"),
         "block": (lambda: hunk.read(one).blocks[0][:6], (24, 12, 0, 0, hunk.Kind.CODE, hunk.Flags(0))),
         "kind": (lambda: repr(hunk.read(one).hunks), "[Hunk(size=4, memory='any', attributes=0, unit=0, number=0, kind=CODE)]"),
@@ -273,10 +274,10 @@ def wrong_calls(texts):
     errors = {
         "refused at byte 28: NoBase (29) hunk 1": lambda: hunk.load(two, [0x10000]),
         "refused at byte 20: Budget (27)": lambda: hunk.load(one, budget=3),
-        "refused at byte 28: NoBase (29) hunk 0": lambda: hunk_stream.load_from(io.BytesIO(two), 0xFFFFFFFC),
+        "refused at byte 28: NoBase (29) hunk 0": lambda: hunk.stream.load_from(io.BytesIO(two), 0xFFFFFFFC),
         "refused at byte 8: Truncated (26)": lambda: hunk.read(one[:9]),
         # A DEBUG block after the code, which declares 2^34 bytes less 4.
-        "refused at byte 44: Truncated (26)": lambda: hunk_stream.load_from(Narrow(one[:36] + bytes.fromhex("000003f1ffffffff"))),
+        "refused at byte 44: Truncated (26)": lambda: hunk.stream.load_from(Narrow(one[:36] + bytes.fromhex("000003f1ffffffff"))),
         "refused at byte 40: ShortReloc (13)": lambda: hunk.read(WIDE),
         "refused at byte 46: BadTarget (23)": lambda: hunk.read(BAD_WIDE, wide=True),
         "base is no number of 32 bits: 4294967296": lambda: hunk.load(one, 1 << 32),
@@ -289,7 +290,7 @@ def wrong_calls(texts):
                 yield f"{error} where the error is wanted: {wanted}"
             if isinstance(error, hunk.HunkError) and len(error.meaning) <= len(error.reason):
                 yield f"{error}: no sentence says what it means"
-    if not is_out_of_memory(lambda: hunk._array(ctypes.c_uint64, 1 << 62)):
+    if not is_out_of_memory(lambda: hunk.library.array(ctypes.c_uint64, 1 << 62)):
         yield "an array that no machine can address: no MemoryError is raised"
     calls = (hunk.table, hunk.load, hunk.check, hunk.strip, hunk.read, hunk.spelling, hunk.plain)
     for call, data in itertools.product(calls, (5, list(one), "text")):

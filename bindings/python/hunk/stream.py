@@ -1,9 +1,9 @@
-"""Loads a hunk file of AmigaDOS that comes piece by piece, beside hunk.py: no byte past the file is asked for.
+"""Loads a file that comes piece by piece: no byte past the file is asked for.
 
-    import hunk_stream
+    import hunk.stream
 
     with open("/dev/stdin", "rb", buffering=0) as pipe:
-        segments = hunk_stream.load_from(pipe, base=0x21000)
+        segments = hunk.stream.load_from(pipe, base=0x21000)
 """
 
 from __future__ import annotations
@@ -12,17 +12,18 @@ import itertools
 from ctypes import c_uint8, c_uint32, c_uint64, c_void_p
 from typing import Any, BinaryIO
 
-import hunk
+from hunk.library import BYTES, NO_BASE, NO_ROOM, ROOM, TRUNCATED, accepted, array, bytes_of, call, number_of, refusal, rows_of
+from hunk.loading import BUDGET, ROW, read_header, segments_of
+from hunk.rows import Data
 
-_TRUNCATED = 26
 _LOADER_WORDS = 96 // 8
 # The most bytes that a stream is asked for at once: a file may declare more than a machine can address.
 _PIECE = 1 << 20
 
-_begin = hunk._call("hunk_begin", c_void_p, *hunk._ROOM, c_uint64, *hunk._ROOM)
-_feed = hunk._call("hunk_feed", c_void_p, *hunk._ROOM, *hunk._ROOM, *hunk._BYTES)
-_want = hunk._call("hunk_want", c_void_p)
-_end = hunk._call("hunk_end", c_void_p)
+_begin = call("hunk_begin", c_void_p, *ROOM, c_uint64, *ROOM)
+_feed = call("hunk_feed", c_void_p, *ROOM, *ROOM, *BYTES)
+_want = call("hunk_want", c_void_p)
+_end = call("hunk_end", c_void_p)
 
 
 class Loader:
@@ -30,8 +31,8 @@ class Loader:
 
     `want` is how many bytes may be asked of a pipe without reading past the file: 0 once the file is whole."""
 
-    def __init__(self, base: int = 0x1000, budget: int = hunk.BUDGET) -> None:
-        self._base, self._budget = hunk._number(base, 32, "base"), hunk._number(budget, 64, "budget")
+    def __init__(self, base: int = 0x1000, budget: int = BUDGET) -> None:
+        self._base, self._budget = number_of(base, 32, "base"), number_of(budget, 64, "budget")
         self._header = b""
         self._sizes: list[int] = []
         self._loader = (c_uint64 * _LOADER_WORDS)()
@@ -43,51 +44,51 @@ class Loader:
     def _read_header(self, piece: bytes) -> None:
         """Takes bytes of the header, and begins with the body where it is whole."""
         self._header += piece
-        answer = hunk._table(self._header, len(self._header), self._budget, None, 0)
-        if answer.number == _TRUNCATED:
+        answer = read_header(self._header, len(self._header), self._budget, None, 0)
+        if answer.number == TRUNCATED:
             self.want = answer.count
-        elif answer.number == hunk._NO_ROOM:
+        elif answer.number == NO_ROOM:
             self._begin(answer.count)
         else:
-            hunk._accepted(answer)
+            accepted(answer)
 
     def _begin(self, total: int) -> None:
-        rows = list(hunk._rows(hunk._table, hunk._ROW, self._header, self._budget, counted="hunk"))
+        rows = list(rows_of(read_header, ROW, self._header, self._budget, counted="hunk"))
         self._sizes = [size for _, _, size, _ in rows]
         bases = [self._base + start for start in itertools.accumulate(self._sizes, initial=0)]
         for i, end in enumerate(bases[1:]):
             if end > 1 << 32 or bases[i] >> 32:
-                raise hunk._refusal(hunk._NO_BASE, len(self._header), i)
+                raise refusal(NO_BASE, len(self._header), i)
         words = (it for row, base in zip(rows, bases) for it in (row[0], row[1], base))
         self._places = (c_uint32 * (3 * len(rows)))(*words)
-        self._memory = hunk._array(c_uint8, total)
-        hunk._accepted(_begin(self._loader, *self._parts()[:2], len(self._header), self._memory, total))
-        self.want = hunk._accepted(_want(self._loader)).count
+        self._memory = array(c_uint8, total)
+        accepted(_begin(self._loader, *self._parts()[:2], len(self._header), self._memory, total))
+        self.want = accepted(_want(self._loader)).count
 
     def _parts(self) -> tuple[Any, int, Any, int]:
         return self._places, len(self._sizes), self._memory, len(self._memory)
 
-    def feed(self, data: hunk.Data) -> int:
+    def feed(self, data: Data) -> int:
         """Takes the next bytes of the file, and says how many: all of them, unless the file is whole before their end."""
-        piece, taken = hunk._bytes(data), 0
+        piece, taken = bytes_of(data), 0
         while not self._sizes and taken < len(piece):
             taken += (count := min(self.want, len(piece) - taken))
             self._read_header(piece[taken - count : taken])
         if self._sizes:
             rest = piece[taken:]
-            taken += hunk._accepted(_feed(self._loader, *self._parts(), rest, len(rest))).count
-            self.want = hunk._accepted(_want(self._loader)).count
+            taken += accepted(_feed(self._loader, *self._parts(), rest, len(rest))).count
+            self.want = accepted(_want(self._loader)).count
         return taken
 
     def end(self) -> list[bytes]:
         """The bytes of each hunk. Where the file is not whole, that is a HunkError."""
         if not self._sizes:
-            raise hunk._refusal(_TRUNCATED, len(self._header) // 4 * 4, 0)
-        hunk._accepted(_end(self._loader))
-        return hunk._segments(self._memory, self._sizes)
+            raise refusal(TRUNCATED, len(self._header) // 4 * 4, 0)
+        accepted(_end(self._loader))
+        return segments_of(self._memory, self._sizes)
 
 
-def load_from(stream: BinaryIO, base: int = 0x1000, budget: int = hunk.BUDGET) -> list[bytes]:
+def load_from(stream: BinaryIO, base: int = 0x1000, budget: int = BUDGET) -> list[bytes]:
     """The bytes of each hunk of the load file that a stream gives next. What follows the file stays in the stream."""
     loader = Loader(base, budget)
     while loader.want and (piece := stream.read(min(loader.want, _PIECE))):

@@ -1,0 +1,61 @@
+"""Hunk files of AmigaDOS, by the C library libhunk: loads, checks and strips them, and reads what stands in them.
+
+    import hunk
+
+    for segment in hunk.load(data, base=0x21000):
+        ...
+    for symbol in hunk.read(data).symbols:
+        print(symbol.hunk, symbol.value, symbol.name)
+
+`data` is a bytes-like object; anything else raises a TypeError. Bytes that are refused raise a HunkError, which says why
+and at which byte. `hunk.stream` loads a file that comes piece by piece. `hunk.library` says which library is taken.
+"""
+
+from hunk.library import HunkError
+from hunk.loading import BUDGET, load, load_at, table
+from hunk.reading import File, check, read
+from hunk.rows import (
+    Block,
+    Data,
+    Entry,
+    EntryKind,
+    Finding,
+    Flags,
+    Hunk,
+    Kind,
+    Reference,
+    Relocation,
+    Spelling,
+    Symbol,
+    Unit,
+)
+from hunk.spellings import input_place, plain, spelling, strip
+
+__version__ = "0.1.0"
+__all__ = [
+    "BUDGET",
+    "Block",
+    "Data",
+    "Entry",
+    "EntryKind",
+    "File",
+    "Finding",
+    "Flags",
+    "Hunk",
+    "HunkError",
+    "Kind",
+    "Reference",
+    "Relocation",
+    "Spelling",
+    "Symbol",
+    "Unit",
+    "check",
+    "input_place",
+    "load",
+    "load_at",
+    "plain",
+    "read",
+    "spelling",
+    "strip",
+    "table",
+]

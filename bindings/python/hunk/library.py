@@ -1,0 +1,128 @@
+"""The C library libhunk by ctypes: where it is, its calls, and what its answers say.
+
+The library is what LIBHUNK names; else the one in this folder, where a wheel has it; else what the system finds. It is
+trusted to be libhunk: nothing but the number of its interface is looked at.
+"""
+
+from __future__ import annotations
+
+import ctypes
+import os
+import struct
+import sys
+from ctypes import c_char_p, c_uint8, c_uint32, c_uint64, c_void_p
+from ctypes.util import find_library
+from typing import Any, Callable, Iterator, Optional
+
+from hunk.rows import Data
+
+# The number of the interface, which the names of shared libraries have where a system has several side by side.
+ABI = 1
+NAME = {"win32": "hunk.dll", "darwin": f"libhunk.{ABI}.dylib"}.get(sys.platform, f"libhunk.so.{ABI}")
+OK, TRUNCATED, NO_BASE, NO_ROOM = 0, 26, 29, 32
+
+
+class HunkError(ValueError):
+    """Says that the bytes are refused: `reason` by its name, `number` by its number, at the byte `place`.
+
+    `hunk` is the hunk without a base where the reason is NoBase, else None. `meaning` is the reason in a sentence."""
+
+    def __init__(self, reason: str, number: int, place: int, hunk: Optional[int] = None, meaning: str = "") -> None:
+        super().__init__(reason, number, place, hunk, meaning)
+        self.reason, self.number, self.place, self.hunk, self.meaning = reason, number, place, hunk, meaning
+
+    def __str__(self) -> str:
+        which = "" if self.hunk is None else f" hunk {self.hunk}"
+        return f"refused at byte {self.place}: {self.reason} ({self.number}){which}"
+
+
+class _Answer(ctypes.Structure):
+    _fields_ = [("number", c_uint32), ("hunk", c_uint32), ("place", c_uint64), ("count", c_uint64)]
+
+
+Call = Callable[..., Any]
+
+
+def place() -> str:
+    """The path of the library, or its name where the system is to find it."""
+    inside = os.path.join(os.path.dirname(os.path.abspath(__file__)), NAME)
+    # What loads libraries on Linux knows all the places itself.
+    system = None if sys.platform == "linux" else find_library("hunk")
+    return os.environ.get("LIBHUNK") or (inside if os.path.exists(inside) else system or NAME)
+
+
+def opened(path: str) -> ctypes.CDLL:
+    try:
+        library = ctypes.CDLL(path)
+        library.hunk_abi.restype, library.hunk_abi.argtypes = c_uint32, ()
+        number = library.hunk_abi()
+    except (OSError, AttributeError) as error:
+        raise ImportError(f"no libhunk for the package hunk: {error}. LIBHUNK may name one") from error
+    if number != ABI:
+        raise ImportError(f"{path} has the interface {number}, and the package hunk is written for {ABI}")
+    return library
+
+
+_library = opened(place())
+
+
+def call(name: str, *types: Any, answer: Any = _Answer) -> Any:
+    """The call of the library that has this name."""
+    call = getattr(_library, name)
+    call.argtypes, call.restype = types, answer
+    return call
+
+
+# A length has 64 bits on every machine.
+BYTES, ROOM = (c_char_p, c_uint64), (c_void_p, c_uint64)
+_reason = call("hunk_reason", c_uint32, *ROOM)
+_reason_text = call("hunk_reason_text", c_uint32, *ROOM)
+
+
+def _text(call: Call, number: int) -> str:
+    text = (c_uint8 * call(number, None, 0).count)()
+    call(number, text, len(text))
+    return bytes(text).decode()
+
+
+def refusal(number: int, place: int, hunk: int) -> HunkError:
+    which = hunk if number == NO_BASE else None
+    return HunkError(_text(_reason, number), number, place, which, _text(_reason_text, number))
+
+
+def accepted(answer: Any) -> Any:
+    """The answer, unless it is a refusal, which is raised."""
+    if answer.number != OK:
+        raise refusal(answer.number, answer.place, answer.hunk)
+    return answer
+
+
+def bytes_of(data: Data) -> bytes:
+    """The bytes of a bytes-like object. What `bytes` would make of a number or a list is a TypeError."""
+    return data if isinstance(data, bytes) else memoryview(data).tobytes()
+
+
+def number_of(value: int, bits: int, what: str) -> int:
+    """The value, where it is a number of so many bits."""
+    if not 0 <= value < 1 << bits:
+        raise ValueError(f"{what} is no number of {bits} bits: {value}")
+    return value
+
+
+def array(kind: Any, count: int) -> Any:
+    """An array of so many, which a file says. More than the machine can address are a MemoryError, too."""
+    try:
+        return (kind * count)()
+    except OverflowError as error:
+        raise MemoryError(f"{count} of {kind.__name__}") from error
+
+
+def rows_of(call: Call, layout: struct.Struct, data: bytes, *words: int, counted: str = "count") -> Iterator[Any]:
+    """The rows that the call writes. It is asked first how many there are, which this field of its answer says."""
+    wanted = call(data, len(data), *words, None, 0)
+    if wanted.number != NO_ROOM:
+        accepted(wanted)
+    count = getattr(wanted, counted)
+    rows = array(c_uint64, count * layout.size // 8)
+    accepted(call(data, len(data), *words, rows, count))
+    return layout.iter_unpack(rows)

@@ -1,0 +1,132 @@
+"""Reads what stands in a file."""
+
+from __future__ import annotations
+
+import itertools
+import struct
+from functools import cached_property
+
+from hunk.library import BYTES, NO_ROOM, ROOM, accepted, bytes_of, call, rows_of
+from hunk.loading import table
+from hunk.rows import (
+    FAULTS,
+    MEMORY,
+    Block,
+    Data,
+    Entry,
+    EntryKind,
+    Finding,
+    Hunk,
+    Kind,
+    Reference,
+    Relocation,
+    Spelling,
+    Symbol,
+    Unit,
+    flags_of,
+    kind_of,
+)
+from hunk.spellings import by_plain, spelling
+
+_check = call("hunk_check", *BYTES, *ROOM)
+_units, _blocks, _symbols, _relocations, _entries, _references = (
+    call(f"hunk_{it}", *BYTES, *ROOM) for it in ("units", "blocks", "symbols", "relocations", "entries", "references")
+)
+
+# The rows of hunk.h.
+_FINDING = struct.Struct("=3Q2I8x")
+_UNIT = struct.Struct("=4Q8x")
+_BLOCK = struct.Struct("=8Q2I8x")
+_SYMBOL = struct.Struct("=5QI4x")
+_RELOCATION = struct.Struct("=3Q4I8x")
+_ENTRY = struct.Struct("=6Q2I8x")
+_REFERENCE = struct.Struct("=2Q2I8x")
+
+
+def check(data: Data) -> list[Finding]:
+    """What is wrong with the offsets of an object file; of a load file nothing, or it is refused."""
+    rows = rows_of(_check, _FINDING, bytes_of(data))
+    return [Finding(place, unit, hunk, offset, FAULTS[fault]) for place, unit, hunk, offset, fault in rows]
+
+
+class File:
+    """What stands in a load file or an object file, in the order of the file. Each list is made when it is first asked for.
+
+    `place` of each item is the byte of `data` at which it begins. `size` is the bytes of the file, which others may follow.
+    `spelling` says how the input spelled it: `data` is its plain spelling."""
+
+    def __init__(self, data: Data) -> None:
+        self.data = bytes_of(data)
+        self.spelling = Spelling(len(self.data), 0, 0)
+        answer = _blocks(self.data, len(self.data), None, 0)
+        if answer.number != NO_ROOM:
+            accepted(answer)
+        self.size: int = answer.place
+        self.is_object: bool = answer.hunk == 0
+
+    def __repr__(self) -> str:
+        return f"<{'object' if self.is_object else 'load'} file, {self.size} bytes, {len(self.hunks)} hunks>"
+
+    def content(self, block: Block) -> bytes:
+        """The data of a block, or its name with padding, as it stands in the file."""
+        return self.data[block.content : block.content + block.content_bytes]
+
+    def _name(self, place: int, count: int) -> bytes:
+        return self.data[place : place + count]
+
+    @cached_property
+    def hunks(self) -> list[Hunk]:
+        contents = [it for it in self.blocks if it.kind in (Kind.CODE, Kind.DATA, Kind.BSS)]
+        if self.is_object:
+            return [Hunk(it.memory, MEMORY[it.flags >> 1], 0, it.unit, it.hunk, it.kind) for it in contents]
+        return [row._replace(kind=it.kind) for row, it in zip(table(self.data, (1 << 64) - 1), contents)]
+
+    @cached_property
+    def units(self) -> list[Unit]:
+        rows = rows_of(_units, _UNIT, self.data)
+        return [Unit(place, self._name(*name), hunks) for place, *name, hunks in rows]
+
+    @cached_property
+    def blocks(self) -> list[Block]:
+        rows = rows_of(_blocks, _BLOCK, self.data)
+        return [
+            Block(place, size, unit, hunk, kind_of(kind), flags_of(flags), content, count, memory, items)
+            for place, size, unit, hunk, content, count, memory, items, kind, flags in rows
+        ]
+
+    @cached_property
+    def symbols(self) -> list[Symbol]:
+        rows, data = rows_of(_symbols, _SYMBOL, self.data), self.data
+        return [Symbol(place, unit, hunk, value, data[at : at + count]) for place, unit, hunk, at, count, value in rows]
+
+    @cached_property
+    def relocations(self) -> list[Relocation]:
+        rows = rows_of(_relocations, _RELOCATION, self.data)
+        return [
+            Relocation(place, unit, hunk, kind_of(kind), width, target, offset)
+            for place, unit, hunk, kind, width, target, offset in rows
+        ]
+
+    @cached_property
+    def entries(self) -> list[Entry]:
+        references = (Reference._make(row[1:]) for row in rows_of(_references, _REFERENCE, self.data))
+        return [
+            Entry._make((*row[:3], EntryKind(row[7]), row[6], self._name(*row[3:5]), [*itertools.islice(references, row[5])]))
+            for row in rows_of(_entries, _ENTRY, self.data)
+        ]
+
+    @cached_property
+    def findings(self) -> list[Finding]:
+        return check(self.data)
+
+
+def read(data: Data, wide: bool = False) -> File:
+    """What stands in the object file that the bytes are, or in the load file that they begin with.
+
+    With `wide`, a load file may have short relocations, and leave END out: its plain spelling is read. The HunkError of a
+    refusal has its place in `data`."""
+    if not wide:
+        return File(data)
+    file = by_plain(File, data)
+    file.spelling = spelling(data)
+    return file

@@ -1,0 +1,156 @@
+"""What stands in a hunk file: the rows that the lists of a file have, and the numbers that have names."""
+
+from __future__ import annotations
+
+import enum
+from functools import lru_cache
+from typing import NamedTuple, Optional, Sequence, Union
+
+Data = Union[bytes, bytearray, memoryview]
+# How the library numbers what a hunk asks for, and what is wrong with an offset.
+MEMORY = ("any", "chip", "fast", "attributes")
+FAULTS = {1: "BadTarget", 2: "OutsideHunk"}
+
+
+class _Number(enum.IntEnum):
+    """A number of a file that has a name there. One without a name gets a member of its own."""
+
+    @classmethod
+    def _missing_(cls, value: object) -> Optional[_Number]:
+        if not isinstance(value, int):
+            return None
+        member = int.__new__(cls, value)
+        member._name_, member._value_ = f"TYPE_{value}", value
+        return member
+
+    def __repr__(self) -> str:
+        return self.name
+
+
+class Kind(_Number):
+    """The type of a block. An advisory block may have any other number."""
+
+    NAME, CODE, DATA, BSS = 0x3E8, 0x3E9, 0x3EA, 0x3EB
+    RELOC32, RELOC16, RELOC8 = 0x3EC, 0x3ED, 0x3EE
+    EXT, SYMBOL, DEBUG, END = 0x3EF, 0x3F0, 0x3F1, 0x3F2
+    DREL32, DREL16, DREL8 = 0x3F7, 0x3F8, 0x3F9
+    RELRELOC32, ABSRELOC16 = 0x3FD, 0x3FE
+
+
+class EntryKind(_Number):
+    """The type of an EXT entry: SYMB, DEF and ABS define their name, all others refer to it."""
+
+    SYMB, DEF, ABS = 0, 1, 2
+    REF32, COMMON, REF16, REF8 = 129, 130, 131, 132
+    DEXT32, DEXT16, DEXT8 = 133, 134, 135
+    RELREF32, RELCOMMON, ABSREF16, ABSREF8 = 136, 137, 138, 139
+
+
+class Flags(enum.IntFlag):
+    """The flags of a block's word."""
+
+    ADVISORY, CHIP, FAST = 1, 2, 4
+
+
+# An enumeration is slow to look its members up.
+kind_of, flags_of = lru_cache(maxsize=None)(Kind), lru_cache(maxsize=None)(Flags)
+
+
+class Hunk(NamedTuple):
+    """A hunk: its bytes in memory, and which memory it asks for: "any", "chip", "fast" or "attributes".
+
+    `attributes` is 0 unless the memory is "attributes". `kind` is that of its content, None where only a header was read."""
+
+    size: int
+    memory: str
+    attributes: int
+    unit: int = 0
+    number: int = 0
+    kind: Optional[Kind] = None
+
+
+class Unit(NamedTuple):
+    """A unit of an object file, and how many hunks it has."""
+
+    place: int
+    name: bytes
+    hunks: int
+
+
+class Block(NamedTuple):
+    """A block of a hunk: `bytes` from `place` on in the file, of which `content_bytes` from `content` on are its data or name.
+
+    `memory` is the bytes of a CODE, DATA or BSS block in memory, and `items` how many offsets, symbols or entries it has."""
+
+    place: int
+    bytes: int
+    unit: int
+    hunk: int
+    kind: Kind
+    flags: Flags
+    content: int
+    content_bytes: int
+    memory: int
+    items: int
+
+
+class Symbol(NamedTuple):
+    """A symbol of a SYMBOL block. Its value counts from the start of the hunk."""
+
+    place: int
+    unit: int
+    hunk: int
+    value: int
+    name: bytes
+
+
+class Relocation(NamedTuple):
+    """An offset of a hunk at which `width` bytes get the base of the hunk `target`."""
+
+    place: int
+    unit: int
+    hunk: int
+    kind: Kind
+    width: int
+    target: int
+    offset: int
+
+
+class Reference(NamedTuple):
+    """An offset of a hunk at which `width` bytes refer to what an entry names."""
+
+    place: int
+    offset: int
+    width: int
+
+
+class Entry(NamedTuple):
+    """An entry of an EXT block. `value` is that of a definition, or the bytes of a common block, else 0."""
+
+    place: int
+    unit: int
+    hunk: int
+    kind: EntryKind
+    value: int
+    name: bytes
+    references: Sequence[Reference]
+
+
+class Finding(NamedTuple):
+    """What is wrong with an offset of an object file: "BadTarget" or "OutsideHunk"."""
+
+    place: int
+    unit: int
+    hunk: int
+    offset: int
+    fault: str
+
+
+class Spelling(NamedTuple):
+    """How an input spells its file: the bytes of its plain spelling, and what the input has otherwise.
+
+    That has `short_blocks` blocks of short relocations as RELOC32, and `ends` END that the input leaves out."""
+
+    size: int
+    short_blocks: int
+    ends: int
