@@ -65,8 +65,10 @@ def metadata() -> str:
 
 def wheel_info(tag: str) -> Files:
     """What describes a wheel, but for the list of its files."""
-    kind = "true" if tag.endswith("-any") else "false"
-    head = f"Wheel-Version: 1.0\nGenerator: hunk\nRoot-Is-Purelib: {kind}\nTag: {tag}\n"
+    languages, systems = tag.rsplit("-", 1)
+    kind = "true" if systems == "any" else "false"
+    head = f"Wheel-Version: 1.0\nGenerator: hunk\nRoot-Is-Purelib: {kind}\n"
+    head += "".join(f"Tag: {languages}-{system}\n" for system in systems.split("."))
     commands = "".join(f"{key[16:]} = {value}\n" for key, value in project().items() if key.startswith("project.scripts."))
     info = f"hunk-{version()}.dist-info"
     return {
