@@ -11,7 +11,6 @@ import os
 import struct
 import sys
 from ctypes import c_char_p, c_uint8, c_uint32, c_uint64, c_void_p
-from ctypes.util import find_library
 from typing import Any, Callable, Iterator, Optional
 
 from hunk.rows import Data
@@ -43,12 +42,19 @@ class _Answer(ctypes.Structure):
 Call = Callable[..., Any]
 
 
+def found() -> str:
+    """What the system finds. On Linux the name is enough, and to look for it would take longer than all the rest."""
+    if sys.platform == "linux":
+        return NAME
+    from ctypes.util import find_library
+
+    return find_library("hunk") or NAME
+
+
 def place() -> str:
     """The path of the library, or its name where the system is to find it."""
     inside = os.path.join(os.path.dirname(os.path.abspath(__file__)), NAME)
-    # What loads libraries on Linux knows all the places itself.
-    system = None if sys.platform == "linux" else find_library("hunk")
-    return os.environ.get("LIBHUNK") or (inside if os.path.exists(inside) else system or NAME)
+    return os.environ.get("LIBHUNK") or (inside if os.path.exists(inside) else found())
 
 
 def opened(path: str) -> ctypes.CDLL:
@@ -68,7 +74,10 @@ _library = opened(place())
 
 def call(name: str, *types: Any, answer: Any = _Answer) -> Any:
     """The call of the library that has this name."""
-    call = getattr(_library, name)
+    try:
+        call = getattr(_library, name)
+    except AttributeError as error:
+        raise ImportError(f"{_library._name} has no {name}: it is older than the package hunk") from error
     call.argtypes, call.restype = types, answer
     return call
 
