@@ -1,0 +1,72 @@
+"""The command `hunk`: what stands in hunk files of AmigaDOS.
+
+    hunk SUBCOMMAND FILE..
+
+Each subcommand is a module beside this one, with its name, its help, its arguments and its run, which answers the status: 0 where
+all is well, 1 where a file was refused or could not be read (the others are done), 2 of a command line that is refused, 3 where
+nothing more can be written, 130 of ^C, and 141 where nobody reads any more of what is printed.
+"""
+
+from __future__ import annotations
+
+import argparse
+import os
+import sys
+from typing import Optional, Sequence
+
+from . import nm, relocs, show, size
+
+SUBCOMMANDS = (show, size, nm, relocs)
+CANNOT_WRITE, INTERRUPTED, NOBODY_READS = 3, 130, 141
+
+DESCRIPTION = "Tells what stands in hunk files of AmigaDOS, executables and object files."
+EPILOG = """Each takes files, folders with their subfolders, and - for standard input. `hunk SUBCOMMAND --help` says more.
+
+What can't be read or is refused is told on standard error, and the others go on:
+  hunk: NAME: refused at byte N: REASON: what it means (no hunk file, not supported, damaged or not judged)
+
+Exit status:
+  0    done
+  1    a file was refused or could not be read; of diff: the files differ
+  2    the command line was refused; of diff: a file was refused or could not be read
+  3    writing failed
+  130  interrupted
+  141  what reads the output has ended, as with | head"""
+
+
+def make_parser() -> argparse.ArgumentParser:
+    form = argparse.RawDescriptionHelpFormatter
+    parser = argparse.ArgumentParser(prog="hunk", description=DESCRIPTION, epilog=EPILOG, formatter_class=form)
+    made = parser.add_subparsers(title="subcommands", metavar="SUBCOMMAND", required=True)
+    for it in SUBCOMMANDS:
+        subparser = made.add_parser(it.NAME, help=it.HELP, description=it.DESCRIPTION, formatter_class=form)
+        it.add_arguments(subparser)
+        subparser.set_defaults(run=it.run)
+    return parser
+
+
+def give_up_output() -> None:
+    """Lets what is printed from now on, and what was not written yet, go nowhere."""
+    nowhere = os.open(os.devnull, os.O_WRONLY)
+    for stream in (sys.stdout, sys.stderr):
+        os.dup2(nowhere, stream.fileno())
+
+
+def main(words: Optional[Sequence[str]] = None) -> int:
+    """Runs the command with these words, or those of the command line. Answers its status."""
+    sys.stdout.reconfigure(encoding="utf-8", newline="\n")  # type: ignore[union-attr]
+    try:
+        options = make_parser().parse_args(words)
+        status: int = options.run(options)
+        sys.stdout.flush()
+        return status
+    except KeyboardInterrupt:
+        give_up_output()
+        return INTERRUPTED
+    except BrokenPipeError:
+        give_up_output()
+        return NOBODY_READS
+    except OSError as error:
+        print(f"hunk: writing failed: {error.strerror or error}", file=sys.stderr)
+        give_up_output()
+        return CANNOT_WRITE

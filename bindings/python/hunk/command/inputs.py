@@ -1,0 +1,201 @@
+"""What a command line names: files, folders with their subfolders, and standard input as `-`. What can't be read or is refused is
+told on standard error, a line each, and the others go on."""
+
+from __future__ import annotations
+
+import argparse
+import errno
+import io
+import os
+import stat
+import sys
+from typing import Callable, Iterator, NamedTuple, Optional, Union
+
+import hunk
+
+from . import reasons, words
+
+# The library itself has no limit; this is that of the program hunkinfo.
+LIMIT = 67108864
+STANDARD_INPUT = b"-"
+# The first longword says whether a file begins as a hunk file.
+LONGWORD = 4
+
+
+class NoFile(Exception):
+    """Says that a name stands for no file with bytes of its own, as a pipe in a folder."""
+
+    def __str__(self) -> str:
+        return "neither a file nor a folder, or a link to a folder"
+
+
+Failure = Union[hunk.HunkError, OSError, NoFile, MemoryError]
+
+
+class Found(NamedTuple):
+    """A file by its name, or why what is there can't be listed."""
+
+    name: bytes
+    is_named: bool
+    error: Optional[OSError] = None
+
+
+def add_arguments(parser: argparse.ArgumentParser, wide: bool = True) -> None:
+    """The arguments that subcommands have in common."""
+    parser.add_argument("names", metavar="FILE", nargs="+", help="a file, a folder with its subfolders, or - for standard input")
+    if wide:
+        parser.add_argument("--wide", action="store_true",
+                            help="read short relocations, and hunks whose END is left out, as their plain spelling")
+
+
+# ---- Going over names.
+
+
+def listed(folder: bytes) -> list[tuple[bytes, bool]]:
+    """The names in a folder and whether each is a folder, so that the paths below come in the order of their bytes."""
+    with os.scandir(folder) as found:
+        entries = [(it.name, it.path, it.is_dir(follow_symlinks=False)) for it in found]
+    entries.sort(key=lambda it: it[0] + os.fsencode(os.sep) * it[2])
+    return [(path, is_folder) for _, path, is_folder in entries]
+
+
+def found_in(folder: bytes) -> Iterator[Found]:
+    """The files in a folder and its subfolders, by name. A link to a folder is not followed."""
+    left = [(folder, True)]
+    while left:
+        path, is_folder = left.pop()
+        if not is_folder:
+            yield Found(path, False)
+            continue
+        try:
+            left += reversed(listed(path))
+        except OSError as error:
+            yield Found(path, False, error)
+
+
+def found_at(name: bytes) -> Iterator[Found]:
+    """The file of this name, or those in the folder."""
+    if name != STANDARD_INPUT and os.path.isdir(name):
+        yield from found_in(name)
+    else:
+        yield Found(name, True)
+
+
+def are_many(names: list[str]) -> bool:
+    """Whether more than one file may be named, so that each gets a head."""
+    return len(names) > 1 or os.path.isdir(names[0]) and names[0] != "-"
+
+
+# ---- Reading a file.
+
+
+def too_large() -> hunk.HunkError:
+    return hunk.HunkError("FileLimit", reasons.FILE_LIMIT, LIMIT, meaning=reasons.MEANINGS[reasons.FILE_LIMIT])
+
+
+def refuse_first(first: bytes) -> None:
+    """Refuses a file that is too large: for its first longword where that is no hunk file's, else for its length."""
+    try:
+        hunk.read(first)
+    except hunk.HunkError as error:
+        if error.reason != "Truncated":
+            raise
+    raise too_large()
+
+
+def read_regular(file: io.FileIO, size: int) -> bytes:
+    if size >= LIMIT:
+        refuse_first(file.read(LONGWORD))
+    return file.readall()
+
+
+def read_bytes(found: Found) -> bytes:
+    """The bytes of a file. One that stands in a folder has to be a file proper: reading a pipe there might never end."""
+    if found.error:
+        raise found.error
+    if found.name == STANDARD_INPUT and found.is_named:
+        data = sys.stdin.buffer.read(LIMIT)
+    else:
+        if not found.is_named and not stat.S_ISREG(os.stat(found.name).st_mode):
+            raise NoFile
+        with open(found.name, "rb", buffering=0) as file:
+            state = os.fstat(file.fileno())
+            is_regular = stat.S_ISREG(state.st_mode)
+            data = read_regular(file, state.st_size) if is_regular else io.BufferedReader(file).read(LIMIT)
+    if len(data) >= LIMIT:
+        refuse_first(data[:LONGWORD])
+    return data
+
+
+# ---- Going on where one is refused.
+
+
+def say(name: str, text: str) -> None:
+    """A line of standard error about a file, after all that was printed before."""
+    sys.stdout.flush()
+    print(f"hunk: {name}: {text}", file=sys.stderr)
+
+
+def explained(error: Failure) -> str:
+    """What the failure is, and its class as docs/reasons.tsv has it."""
+    if isinstance(error, hunk.HunkError):
+        which = "" if error.hunk is None else f" of hunk {error.hunk}"
+        return f"refused at byte {error.place}: {error.reason}{which}: {error.meaning} ({reasons.class_of(error)})"
+    if isinstance(error, MemoryError):
+        return f"OutOfMemory: {reasons.MEANINGS[reasons.OUT_OF_MEMORY]} ({reasons.NOT_JUDGED})"
+    code = "NoFile" if isinstance(error, NoFile) else code_of(error)
+    return f"{code}: {(isinstance(error, OSError) and error.strerror) or error} ({reasons.NOT_JUDGED})"
+
+
+def code_of(error: OSError) -> str:
+    """The name of an error of the system."""
+    return errno.errorcode.get(error.errno or 0, "failed")
+
+
+def hint(error: Failure, data: Optional[bytes], wide: bool) -> str:
+    """That the file is spelled otherwise, where it was not read so, and might be accepted then."""
+    is_other = isinstance(error, hunk.HunkError) and data is not None and not wide and hunk.spelling(data)[1:] != (0, 0)
+    return "; its spelling is one that --wide reads" if is_other else ""
+
+
+def tell_spelling(name: str, spelling: hunk.Spelling) -> None:
+    """Says how much was spelled otherwise, as hunkinfo does."""
+    parts = [words.counted(spelling.short_blocks, "block") + " of short relocations"] if spelling.short_blocks else []
+    parts += [f"{spelling.ends} END put in"] if spelling.ends else []
+    if parts:
+        say(name, ", ".join(parts))
+
+
+def opened(found: Found, wide: bool) -> Optional[hunk.File]:
+    """What stands in a file; None where it can't be read or is refused, which is told."""
+    name, data = words.printed(found.name), None
+    try:
+        data = read_bytes(found)
+        file = hunk.read(data, wide)
+    except (hunk.HunkError, OSError, NoFile, MemoryError) as error:
+        say(name, explained(error) + hint(error, data, wide))
+        return None
+    tell_spelling(name, file.spelling)
+    return file
+
+
+def each(options: argparse.Namespace, act: Callable[[str, hunk.File], None]) -> int:
+    """Does something with each file that is accepted, by its printed name. The status: 1 where one was not, else 0."""
+    status = 0
+    for name in options.names:
+        for found in found_at(os.fsencode(name)):
+            status |= not act_on(found, options.wide, act)
+    return status
+
+
+def act_on(found: Found, wide: bool, act: Callable[[str, hunk.File], None]) -> bool:
+    """Whether the file was accepted, and so what was to be done with it."""
+    file = opened(found, wide)
+    if file is None:
+        return False
+    try:
+        act(words.printed(found.name), file)
+    except (hunk.HunkError, MemoryError) as error:
+        say(words.printed(found.name), explained(error))
+        return False
+    return True

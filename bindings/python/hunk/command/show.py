@@ -1,0 +1,93 @@
+"""Prints what stands in files, in the words of `hunkinfo show`."""
+
+from __future__ import annotations
+
+import argparse
+import itertools
+from typing import Any, Iterator
+
+import hunk
+
+from . import inputs
+from .layout import COMMON
+from .words import text_of
+
+NAME = "show"
+HELP = "list the hunks and blocks of files, as hunkinfo show does"
+DESCRIPTION = """Lists the hunks and blocks of load files and object files, in the words of `hunkinfo show`:
+docs/OUTPUT.md has each line. Where several files are named, `== NAME` stands before each."""
+
+ITS_WORD = {hunk.Kind.CODE: "memory", hunk.Kind.DATA: "memory", hunk.Kind.BSS: "memory", hunk.Kind.DEBUG: "content_bytes"}
+add_arguments = inputs.add_arguments
+
+
+def block_lines(file: hunk.File, block: hunk.Block, items: dict[hunk.Kind, Iterator[Any]]) -> Iterator[str]:
+    """The lines of a block, of which the next rows of each list are its items."""
+    flags = [str(it.name).lower() for it in hunk.Flags if it in block.flags]
+    if block.kind.name.startswith("TYPE_"):
+        yield " ".join(["  ADVISORY", str(int(block.kind)), f"{block.content_bytes} bytes", *flags[1:]])
+        return
+    head = " ".join([f"  {block.kind.name}", *flags])
+    if block.kind == hunk.Kind.NAME:
+        yield f"{head} {text_of(file.content(block).split(bytes(1))[0])}"
+    elif block.kind in ITS_WORD:
+        yield f"{head} {getattr(block, ITS_WORD[block.kind])} bytes"
+    elif block.kind == hunk.Kind.END:
+        yield head
+    else:
+        yield f"{head} {block.items}"
+        for it in itertools.islice(items[block.kind], block.items):
+            yield from item_lines(it)
+
+
+def item_lines(it: Any) -> Iterator[str]:
+    """The lines of an item of a block."""
+    if isinstance(it, hunk.Relocation):
+        yield f"    {it.target} 0x{it.offset:08x}"
+    elif isinstance(it, hunk.Symbol):
+        yield f"    0x{it.value:08x} {text_of(it.name)}"
+    elif it.kind <= hunk.EntryKind.ABS:
+        yield f"    {it.kind.name} 0x{it.value:08x} {text_of(it.name)}"
+    else:
+        size = f"{it.value} " if it.kind in COMMON else ""
+        yield f"    {it.kind.name} {size}{len(it.references)} {text_of(it.name)}"
+        yield from (f"      0x{reference.offset:08x}" for reference in it.references)
+
+
+def hunk_lines(file: hunk.File, unit: int, hunks: Iterator[hunk.Hunk], blocks: Iterator[Any],
+               items: dict[hunk.Kind, Iterator[Any]]) -> Iterator[str]:
+    """The lines of the hunks of a unit. The next groups of blocks are theirs."""
+    for row in hunks:
+        attributes = f" 0x{row.attributes:08x}" if row.memory == "attributes" else ""
+        yield f"hunk {row.number} {row.size} bytes" + ("" if file.is_object else f" {row.memory}{attributes}")
+        for block in next(blocks)[1]:
+            yield from block_lines(file, block, items)
+
+
+def lines(file: hunk.File) -> Iterator[str]:
+    """The lines of `hunkinfo show`."""
+    total = sum(it.size for it in file.hunks)
+    yield f"object file {len(file.units)} units" if file.is_object else f"load file {len(file.hunks)} hunks {total} bytes"
+    relocations = iter(file.relocations)
+    items: dict[hunk.Kind, Iterator[Any]] = dict.fromkeys(hunk.Kind, relocations)
+    items.update({hunk.Kind.SYMBOL: iter(file.symbols), hunk.Kind.EXT: iter(file.entries)})
+    blocks = itertools.groupby(file.blocks, lambda it: (it.unit, it.hunk))
+    hunks = iter(file.hunks)
+    for number, unit in enumerate(file.units):
+        yield f"unit {number} {text_of(unit.name)}"
+        yield from hunk_lines(file, number, itertools.islice(hunks, unit.hunks), blocks, items)
+    yield from hunk_lines(file, 0, hunks, blocks, items)
+    if file.size < len(file.data):
+        yield f"rest {len(file.data) - file.size} bytes"
+
+
+def run(options: argparse.Namespace) -> int:
+    has_heads = inputs.are_many(options.names)
+
+    def show(name: str, file: hunk.File) -> None:
+        if has_heads:
+            print("==", name)
+        for line in lines(file):
+            print(line)
+
+    return inputs.each(options, show)
