@@ -4,4 +4,6 @@ import sys
 
 from hunk.command import main
 
-sys.exit(main())
+# A process that `hunk survey` starts may read this file once more.
+if __name__ == "__main__":
+    sys.exit(main())

@@ -14,9 +14,9 @@ import os
 import sys
 from typing import Optional, Sequence
 
-from . import nm, relocs, show, size
+from hunk.command import documents, dump, nm, picture, relocs, show, size
 
-SUBCOMMANDS = (show, size, nm, relocs)
+SUBCOMMANDS = (show, size, nm, relocs, dump, documents, picture)
 CANNOT_WRITE, INTERRUPTED, NOBODY_READS = 3, 130, 141
 
 DESCRIPTION = "Tells what stands in hunk files of AmigaDOS, executables and object files."

@@ -12,8 +12,7 @@ import sys
 from typing import Callable, Iterator, NamedTuple, Optional, Union
 
 import hunk
-
-from . import reasons, words
+from hunk.command import reasons, words
 
 # The library itself has no limit; this is that of the program hunkinfo.
 LIMIT = 67108864

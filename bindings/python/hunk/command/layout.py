@@ -3,7 +3,7 @@
 from __future__ import annotations
 
 import itertools
-from typing import Iterator, NamedTuple
+from typing import Iterator, NamedTuple, Union
 
 import hunk
 
@@ -27,7 +27,7 @@ class Patch(NamedTuple):
     hunk: int
     offset: int
     width: int
-    kind: hunk.Kind | hunk.EntryKind
+    kind: Union[hunk.Kind, hunk.EntryKind]
     target: int
     name: bytes
 
@@ -36,7 +36,7 @@ class Layout:
     """A file with its hunks one after the other from the address `base` on, each by its unit and its number."""
 
     def __init__(self, file: hunk.File, base: int = 0) -> None:
-        self.file = file
+        self.file, self.base = file, base
         contents = (it for it in file.blocks if it.kind in CONTENTS)
         bases = itertools.accumulate((it.size for it in file.hunks), initial=base)
         self.places = {(it.unit, it.number): Place(it, block, start) for it, block, start in zip(file.hunks, contents, bases)}

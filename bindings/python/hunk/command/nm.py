@@ -7,9 +7,8 @@ import sys
 from typing import Iterator, NamedTuple, Optional
 
 import hunk
-
-from . import inputs, words
-from .layout import COMMON, Layout
+from hunk.command import inputs, words
+from hunk.command.layout import COMMON, Layout
 
 NAME = "nm"
 HELP = "the names of files with their values, as GNU nm prints them"

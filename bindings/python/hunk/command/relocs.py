@@ -6,10 +6,9 @@ import argparse
 from typing import Iterator
 
 import hunk
-
-from . import inputs
-from .layout import Layout, Patch, patches
-from .words import hunk_text, place_text, text_of
+from hunk.command import inputs
+from hunk.command.layout import Layout, Patch, patches
+from hunk.command.words import hunk_text, place_text, text_of
 
 NAME = "relocs"
 HELP = "each relocation, with its target and the symbol that stands there"

@@ -7,10 +7,9 @@ import itertools
 from typing import Any, Iterator
 
 import hunk
-
-from . import inputs
-from .layout import COMMON
-from .words import text_of
+from hunk.command import inputs
+from hunk.command.layout import COMMON
+from hunk.command.words import text_of
 
 NAME = "show"
 HELP = "list the hunks and blocks of files, as hunkinfo show does"

@@ -3,11 +3,11 @@
 from __future__ import annotations
 
 import argparse
+from typing import Optional
 
 import hunk
-
-from . import inputs, words
-from .layout import Layout
+from hunk.command import inputs, words
+from hunk.command.layout import Layout
 
 NAME = "size"
 HELP = "how many bytes of memory files need, as GNU size prints it"
@@ -33,7 +33,7 @@ def row(sizes: list[int], name: str) -> str:
     return "\t".join([*(f"{it:7}" for it in sizes), f"{total:7}", f"{total:7x}", name])
 
 
-def print_hunks(name: str, file: hunk.File, base: int | None) -> None:
+def print_hunks(name: str, file: hunk.File, base: Optional[int]) -> None:
     """The SysV form of a file."""
     places = Layout(file, base or 0).places.values()
     rows = [["section", "size", "addr", "memory"]]

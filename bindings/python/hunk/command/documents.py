@@ -1,0 +1,143 @@
+"""Writes what stands in files as JSON."""
+
+from __future__ import annotations
+
+import argparse
+import json
+import pkgutil
+import sys
+from typing import Any, Callable, Dict, Iterator, Sequence
+
+import hunk
+from hunk.command import inputs
+from hunk.command.layout import CONTENTS
+
+NAME = "json"
+HELP = "what stands in files, a document of JSON each"
+DESCRIPTION = """Writes a document of JSON for each file; where several files are named, a list of them. hunk.schema.json
+beside this module says what a document has. Names in files are taken for ISO 8859-1, so each byte of
+them is a character. Of a file that is spelled otherwise (--wide) places are those of the plain spelling."""
+
+Document = Dict[str, Any]
+
+
+class PrintSchema(argparse.Action):
+    """Prints the schema, and ends."""
+
+    def __call__(self, *_: Any) -> None:
+        sys.stdout.write((pkgutil.get_data("hunk.command", "hunk.schema.json") or b"").decode())
+        sys.stdout.flush()
+        sys.exit(0)
+
+
+def add_arguments(parser: argparse.ArgumentParser) -> None:
+    inputs.add_arguments(parser)
+    parser.add_argument("--lines", action="store_true", help="each document on a line of its own, and no list")
+    parser.add_argument("--schema", action=PrintSchema, nargs=0, help="print the JSON Schema of a document")
+
+
+# ---- The parts of a document.
+
+
+def taking(rows: Sequence[Any]) -> Callable[[int, int], Sequence[Any]]:
+    """A call that gives the rows of a hunk, where it is asked for each hunk in the order of the file."""
+    at = 0
+
+    def take(unit: int, number: int) -> Sequence[Any]:
+        nonlocal at
+        start = at
+        while at < len(rows) and (rows[at].hunk, rows[at].unit) == (number, unit):
+            at += 1
+        return rows[start:at]
+
+    return take
+
+
+def text_of(name: bytes) -> str:
+    return name.decode("latin-1")
+
+
+def of_block(file: hunk.File, it: hunk.Block) -> Document:
+    kind = "ADVISORY" if it.kind.name.startswith("TYPE_") else it.kind.name
+    flags = [str(flag.name).lower() for flag in hunk.Flags if flag in it.flags]
+    made = {"place": it.place, "bytes": it.bytes, "type": int(it.kind), "kind": kind, "flags": flags}
+    if it.kind == hunk.Kind.NAME:
+        made["name"] = text_of(file.content(it).split(bytes(1))[0])
+    return made
+
+
+def of_symbol(it: hunk.Symbol) -> Document:
+    return {"place": it.place, "value": it.value, "name": text_of(it.name)}
+
+
+def of_relocation(it: hunk.Relocation) -> Document:
+    return {"place": it.place, "kind": it.kind.name, "offset": it.offset, "width": it.width, "target": it.target}
+
+
+def of_entry(it: hunk.Entry) -> Document:
+    references = [{"place": each.place, "offset": each.offset, "width": each.width} for each in it.references]
+    return {"place": it.place, "kind": it.kind.name, "value": it.value, "name": text_of(it.name), "references": references}
+
+
+def of_hunks(file: hunk.File) -> Iterator[Document]:
+    """The hunks, each with all that it has."""
+    tables = (file.blocks, file.symbols, file.relocations, file.entries)
+    blocks, symbols, relocations, entries = map(taking, tables)
+    for it in file.hunks:
+        which = it.unit, it.number
+        its_blocks = blocks(*which)
+        content = next(block for block in its_blocks if block.kind in CONTENTS)
+        yield {
+            "unit": it.unit, "hunk": it.number, "kind": content.kind.name, "bytes": it.size,
+            "memory": it.memory, "attributes": it.attributes,
+            "content": {"place": content.content, "bytes": content.content_bytes},
+            "blocks": [of_block(file, block) for block in its_blocks],
+            "symbols": [*map(of_symbol, symbols(*which))],
+            "relocations": [*map(of_relocation, relocations(*which))],
+            "entries": [*map(of_entry, entries(*which))],
+        }
+
+
+def of_file(name: str, file: hunk.File) -> Document:
+    """What a document has in front of its hunks."""
+    units = [{"place": it.place, "name": text_of(it.name), "hunks": it.hunks} for it in file.units]
+    findings = [{"place": it.place, "unit": it.unit, "hunk": it.hunk, "offset": it.offset, "fault": it.fault} for it in file.findings]
+    return {
+        "name": name, "kind": "object" if file.is_object else "load",
+        "bytes": file.size, "rest": len(file.data) - file.size,
+        "spelling": {"short_blocks": file.spelling.short_blocks, "ends": file.spelling.ends},
+        "units": units, "findings": findings,
+    }
+
+
+# ---- Writing them.
+
+
+def write(name: str, file: hunk.File, line_end: str) -> None:
+    """Writes a document hunk by hunk, as all of them may be more than memory holds."""
+    head, hunks = of_file(name, file), of_hunks(file)
+    made = json.dumps(head)[:-1] + ', "hunks": ['
+    for it in hunks:
+        sys.stdout.write(made + line_end + json.dumps(it))
+        made = ","
+    # An object file may have no hunks.
+    sys.stdout.write(("" if made == "," else made) + line_end + "]}")
+
+
+def run(options: argparse.Namespace) -> int:
+    is_list = inputs.are_many(options.names) and not options.lines
+    written = 0
+
+    def write_next(name: str, file: hunk.File) -> None:
+        nonlocal written
+        sys.stdout.write(",\n" if written and is_list else "")
+        write(name, file, "" if options.lines else "\n")
+        sys.stdout.write("" if is_list else "\n")
+        written += 1
+
+    if is_list:
+        print("[")
+    status = inputs.each(options, write_next)
+    if is_list:
+        print("\n]" if written else "]")
+    return status
