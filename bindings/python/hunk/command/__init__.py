@@ -10,13 +10,15 @@ nothing more can be written, 130 of ^C, and 141 where nobody reads any more of w
 from __future__ import annotations
 
 import argparse
+import contextlib
+import io
 import os
 import sys
 from typing import Optional, Sequence
 
-from hunk.command import documents, dump, nm, picture, relocs, show, size
+from hunk.command import differences, documents, dump, nm, picture, relocs, show, size, survey
 
-SUBCOMMANDS = (show, size, nm, relocs, dump, documents, picture)
+SUBCOMMANDS = (show, size, nm, relocs, dump, documents, picture, differences, survey)
 CANNOT_WRITE, INTERRUPTED, NOBODY_READS = 3, 130, 141
 
 DESCRIPTION = "Tells what stands in hunk files of AmigaDOS, executables and object files."
@@ -54,13 +56,16 @@ def give_up_output() -> None:
 
 def main(words: Optional[Sequence[str]] = None) -> int:
     """Runs the command with these words, or those of the command line. Answers its status."""
-    sys.stdout.reconfigure(encoding="utf-8", newline="\n")  # type: ignore[union-attr]
+    if isinstance(sys.stdout, io.TextIOWrapper):
+        sys.stdout.reconfigure(encoding="utf-8", newline="\n")
     try:
         options = make_parser().parse_args(words)
         status: int = options.run(options)
         sys.stdout.flush()
         return status
     except KeyboardInterrupt:
+        with contextlib.suppress(OSError):
+            sys.stdout.flush()
         give_up_output()
         return INTERRUPTED
     except BrokenPipeError:

@@ -81,7 +81,7 @@ def of_entry(it: hunk.Entry) -> Document:
 
 def of_hunks(file: hunk.File) -> Iterator[Document]:
     """The hunks, each with all that it has."""
-    tables = (file.blocks, file.symbols, file.relocations, file.entries)
+    tables: tuple[Sequence[Any], ...] = (file.blocks, file.symbols, file.relocations, file.entries)
     blocks, symbols, relocations, entries = map(taking, tables)
     for it in file.hunks:
         which = it.unit, it.number

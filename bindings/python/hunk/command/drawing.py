@@ -11,7 +11,7 @@ STYLE = """
   svg { background: #fff; font: 12px system-ui, sans-serif; --ink: #1c1e21; --soft: #667; --bad: #c5221f }
   @media (prefers-color-scheme: dark) { svg { background: #17191d; --ink: #e4e6ea; --soft: #9aa4b2; --bad: #ff8a80 } }
   text { fill: var(--ink) } .soft { fill: var(--soft) } .on { fill: #fff; font-size: 11px }
-  .tick { stroke: var(--ink) } .bad { fill: var(--bad) } .part { stroke: #0004 } .zero { opacity: .55 }
+  .tick { stroke: var(--ink) } .bad { fill: var(--bad) } .part { stroke: #0004 } .zero { opacity: .75 }
   .arc { stroke: var(--ink); fill: none; opacity: .4 } .arc:hover { opacity: 1; stroke-width: 3 }
 """
 

@@ -54,10 +54,11 @@ class Layout:
     def names(self) -> dict[tuple[int, int, int], list[bytes]]:
         """The names of symbols and definitions, by unit, hunk and value."""
         found: dict[tuple[int, int, int], list[bytes]] = {}
-        definitions = (it for it in self.file.entries if it.kind <= hunk.EntryKind.DEF)
-        for it in itertools.chain(self.file.symbols, definitions):
-            if it.name:
-                found.setdefault((it.unit, it.hunk, it.value), []).append(it.name)
+        keys = [(it.name, it.unit, it.hunk, it.value) for it in self.file.symbols]
+        keys += [(it.name, it.unit, it.hunk, it.value) for it in self.file.entries if it.kind <= hunk.EntryKind.DEF]
+        for name, *key in keys:
+            if name:
+                found.setdefault((key[0], key[1], key[2]), []).append(name)
         return {key: sorted(set(names)) for key, names in found.items()}
 
 

@@ -122,8 +122,8 @@ def draw_memory(layout: Layout, top: int) -> tuple[int, list[str]]:
 def picture_of(name: str, file: hunk.File, base: int) -> tuple[int, list[str]]:
     """The height of a file's picture, and its elements."""
     layout = Layout(file, base)
-    kind, found = "object" if file.is_object else "load", len(file.findings)
-    title = f"{name}: {kind} file, {len(file.hunks)} hunks, {file.size} bytes, {found} findings"
+    kind, hunks, found = "object" if file.is_object else "load", len(file.hunks), len(file.findings)
+    title = f"{name}: {kind} file, {words.counted(hunks, 'hunk')}, {file.size} bytes, {words.counted(found, 'finding')}"
     middle, its_file = draw_file(layout, 50)
     high, its_memory = draw_memory(layout, middle + 14)
     return high, [drawing.heading(title, 24), *its_file, *its_memory]

@@ -1,0 +1,169 @@
+"""Tells what differs between two files."""
+
+from __future__ import annotations
+
+import argparse
+import collections
+import os
+from typing import Any, Hashable, Iterator, List, NamedTuple, Sequence, Tuple
+
+import hunk
+from hunk.command import inputs, show
+from hunk.command.documents import taking
+from hunk.command.layout import Layout, Place
+from hunk.command.words import hunk_text, text_of
+
+NAME = "diff"
+HELP = "what differs between two files: hunks, blocks, symbols, relocations, content"
+DESCRIPTION = """Compares two files hunk by hunk, and prints a line for each thing that differs: hunks and their memory,
+which blocks a hunk has, its names, relocations and references, and its content, with the first offset
+that differs. What only one of them has is counted, and listed with --items, `<` of A and `>` of B.
+The status is 0 where they are the same, 1 where they differ, and 2 where one is refused or can't be read."""
+
+SAME, DIFFER, TROUBLE = 0, 1, 2
+# Blocks whose content is in no other list.
+OWN = (hunk.Kind.NAME, hunk.Kind.DEBUG)
+PIECE = 4096
+Items = Sequence[Tuple[Hashable, str]]
+
+
+def add_arguments(parser: argparse.ArgumentParser) -> None:
+    parser.add_argument("names", metavar="A B", nargs=2, help="two files; - is standard input")
+    parser.add_argument("--wide", action="store_true",
+                        help="read short relocations, and hunks whose END is left out, as their plain spelling")
+    parser.add_argument("--items", action="store_true", help="list the items that only one of them has")
+
+
+class Content(NamedTuple):
+    """A hunk with all that it has: each list by its name, its items with the lines that tell of them."""
+
+    place: Place
+    data: bytes
+    lists: dict[str, Items]
+
+
+# ---- What is compared.
+
+
+def block_item(file: hunk.File, it: hunk.Block) -> tuple[Hashable, str]:
+    """A block without what its hunk tells of it."""
+    is_own = it.kind in OWN or it.kind.name.startswith("TYPE_")
+    its_lines = show.block_lines(file, it, collections.defaultdict(lambda: iter(())))
+    text = next(its_lines).strip() if is_own else " ".join([it.kind.name, *(str(i.name).lower() for i in hunk.Flags if i in it.flags)])
+    return (it.kind, it.flags, file.content(it) if is_own else b""), text
+
+
+def item(it: Any, *key: Hashable) -> tuple[Hashable, str]:
+    """An item by what it says, wherever it stands in the file."""
+    text = " ".join(line.strip() for line in show.item_lines(it))
+    return key, f"{it.kind.name} {text}" if isinstance(it, hunk.Relocation) else text
+
+
+def contents(file: hunk.File) -> dict[tuple[int, int], Content]:
+    """The hunks of a file by unit and number."""
+    layout, found = Layout(file), {}
+    tables: tuple[Sequence[Any], ...] = (file.blocks, file.symbols, file.relocations, file.entries)
+    blocks, symbols, relocations, entries = map(taking, tables)
+    for key, place in layout.places.items():
+        lists: dict[str, Items] = {
+            "blocks": [block_item(file, it) for it in blocks(*key)],
+            "symbols": [item(it, it.value, it.name) for it in symbols(*key)],
+            "relocations": [item(it, it.kind, it.target, it.offset) for it in relocations(*key)],
+            "entries": [item(it, it.kind, it.value, it.name, tuple(i.offset for i in it.references)) for it in entries(*key)],
+        }
+        found[key] = Content(place, layout.content(place), lists)
+    return found
+
+
+# ---- Comparing.
+
+
+def bytes_text(a: bytes, b: bytes) -> str:
+    """How many bytes differ, and the first; nothing where none do."""
+    common, count, first = min(len(a), len(b)), 0, -1
+    for start in range(0, common, PIECE):
+        piece, other = a[start : min(common, start + PIECE)], b[start : min(common, start + PIECE)]
+        if piece == other:
+            continue
+        places = [i for i, (one, two) in enumerate(zip(piece, other)) if one != two]
+        first = start + places[0] if first < 0 else first
+        count += len(places)
+    parts = [f"{count} bytes differ, the first at {first:#010x}"] if count else []
+    if len(a) != len(b):
+        parts.append(f"{abs(len(a) - len(b))} bytes more in {'A' if len(a) > len(b) else 'B'}")
+    return ", ".join(parts)
+
+
+def compare_items(what: str, a: Items, b: Items, is_listed: bool) -> Iterator[str]:
+    """The lines of a list of a hunk."""
+    keys, others = collections.Counter(it for it, _ in a), collections.Counter(it for it, _ in b)
+    only_a, only_b = keys - others, others - keys
+    if not only_a and not only_b:
+        if [it for it, _ in a] != [it for it, _ in b]:
+            yield f"{what} in another order"
+        return
+    yield f"{what}: {sum(only_a.values())} only in A, {sum(only_b.values())} only in B"
+    for sign, items, left in (("<", a, only_a), (">", b, only_b)) if is_listed else ():
+        for key, text in items:
+            if left[key] > 0:
+                left[key] -= 1
+                yield f"  {sign} {text}"
+
+
+def kind_text(it: Content) -> str:
+    row, memory = it.place.hunk, it.place.hunk.memory
+    return f"{it.place.block.kind.name} {row.size} bytes {memory}{f' 0x{row.attributes:08x}' if row.attributes else ''}"
+
+
+def compare_hunks(which: str, a: Content, b: Content, is_listed: bool) -> Iterator[str]:
+    """The lines of a hunk that both have."""
+    if kind_text(a) != kind_text(b):
+        yield f"hunk {which}: {kind_text(a)} in A, {kind_text(b)} in B"
+    told = bytes_text(a.data, b.data)
+    if told:
+        yield f"hunk {which}: content: {told}"
+    for what, items in a.lists.items():
+        for line in compare_items(what, items, b.lists[what], is_listed):
+            yield line if line.startswith("  ") else f"hunk {which}: {line}"
+
+
+def compare_units(a: hunk.File, b: hunk.File) -> Iterator[str]:
+    if len(a.units) != len(b.units):
+        yield f"units: {len(a.units)} in A, {len(b.units)} in B"
+    for number, (one, two) in enumerate(zip(a.units, b.units)):
+        if one.name != two.name:
+            yield f"unit {number}: {text_of(one.name)} in A, {text_of(two.name)} in B"
+
+
+def compare(a: hunk.File, b: hunk.File, is_listed: bool) -> Iterator[str]:
+    """The lines of all that differs."""
+    if a.is_object != b.is_object:
+        yield "A is an object file, B a load file" if a.is_object else "A is a load file, B an object file"
+        return
+    yield from compare_units(a, b)
+    ours, theirs = contents(a), contents(b)
+    for key in sorted({*ours, *theirs}):
+        which, one, two = hunk_text(a, *key), ours.get(key), theirs.get(key)
+        if one and two:
+            yield from compare_hunks(which, one, two, is_listed)
+        elif one or two:
+            yield f"hunk {which}: only in {'A' if one else 'B'}: {kind_text(one or two)}"  # type: ignore[arg-type]
+    told = bytes_text(a.data[a.size :], b.data[b.size :])
+    if told:
+        yield f"rest: {told}"
+
+
+def run(options: argparse.Namespace) -> int:
+    files = [inputs.opened(inputs.Found(os.fsencode(name), True), options.wide) for name in options.names]
+    a, b = files
+    if a is None or b is None:
+        return TROUBLE
+    if a.data == b.data:
+        return SAME
+    told: List[str] = []
+    for line in compare(a, b, options.items):
+        told.append(line)
+        print(line)
+    if not told:
+        print(f"in the file: {bytes_text(a.data, b.data)}")
+    return DIFFER

@@ -1,0 +1,178 @@
+"""Sorts folders of unknown files by what is known of each."""
+
+from __future__ import annotations
+
+import argparse
+import collections
+import contextlib
+import heapq
+import itertools
+import os
+import signal
+import sys
+import time
+from typing import Any, Generator, Iterable, Iterator, List, Optional
+
+from hunk.command import inputs, words
+from hunk.command.inputs import Found
+from hunk.command.judging import CLASSES, Row, judge
+from hunk.command.reasons import NOT_JUDGED
+from hunk.command.table import Table, TableError
+
+NAME = "survey"
+HELP = "sort folders of unknown files by what they are: a row a file"
+DESCRIPTION = """Sorts files, and those in folders and their subfolders, by what is known of each. Standard output gets a row
+a file, sorted by name, of these fields with a tab between them:
+
+  class   load           a load file
+          object         an object file
+          findings       an object file in which an offset is wrong
+          wide           a file that is refused, and that is read with --wide: it is spelled otherwise
+          no hunk file, not supported, damaged, not judged: why a file is refused, as docs/reasons.tsv has it;
+                         what can't be opened or read, or has 64 MiB, is not judged
+  reason  of the refusal, the first finding, or the system's error; - where there is none
+  byte    where the reason was met; - where there is none. Of class wide both are those without --wide
+  rest    the bytes after a file that is accepted; - of any other
+  sha256, first   with --sha256: the sum of the file, and the first name with the same; - where it is the first
+  name    what is no printable text of UTF-8 in it, and the backslash, is `\\x` and two digits for each byte
+
+With --json each row is an object of JSON on a line, null in the place of -. Standard error gets how many
+files each class has, and on a terminal how many are done. The status is 1 where a file was not judged.
+Links to files are followed, and those to folders are not."""
+
+# Few files take less time than processes need to begin.
+FEW, CHUNK, CHUNKS_AHEAD = 256, 32, 4
+SECONDS_BETWEEN = 0.1
+
+
+def add_arguments(parser: argparse.ArgumentParser) -> None:
+    inputs.add_arguments(parser, wide=False)
+    parser.add_argument("--json", action="store_true", help="write each row as an object of JSON")
+    parser.add_argument("--sha256", action="store_true", help="tell the sum of each file, and which have the same bytes")
+    parser.add_argument("--resume", metavar="TABLE",
+                        help="write the rows to this file; what has a row there is not judged again, so an interrupted run goes on")
+    parser.add_argument("--jobs", metavar="N", type=words.count, default=processors(),
+                        help="how many processes judge files [default: %(default)s]")
+
+
+def processors() -> int:
+    """How many this process may use."""
+    try:
+        return len(os.sched_getaffinity(0))
+    except AttributeError:
+        return os.cpu_count() or 1
+
+
+# ---- The rows, in order.
+
+
+def found_below(names: Iterable[str]) -> Iterator[Found]:
+    """What is at the names and below them, by name, each once. A pipe that is named is no file, too."""
+    each = (inputs.found_at(os.fsencode(name)) for name in dict.fromkeys(names))
+    last = None
+    for found in heapq.merge(*each, key=lambda it: it.name):
+        if found.name != last:
+            yield found._replace(is_named=found.name == inputs.STANDARD_INPUT)
+        last = found.name
+
+
+def chunks(found: Iterator[Found]) -> Iterator[List[Found]]:
+    while True:
+        chunk = [*itertools.islice(found, CHUNK)]
+        if not chunk:
+            return
+        yield chunk
+
+
+def judge_chunk(chunk: List[Found], has_sum: bool) -> List[Row]:
+    return [judge(it, has_sum) for it in chunk]
+
+
+def leave_interrupts() -> None:
+    """In a process that judges: the one that started it ends it."""
+    signal.signal(signal.SIGINT, signal.SIG_IGN)
+
+
+@contextlib.contextmanager
+def pool_of(jobs: int) -> Iterator[Optional[Any]]:
+    """Processes that judge files; None where the system has no processes to give."""
+    try:
+        from concurrent.futures import ProcessPoolExecutor
+
+        pool = ProcessPoolExecutor(jobs, initializer=leave_interrupts)
+    except (ImportError, NotImplementedError, OSError):
+        yield None
+        return
+    with pool:
+        yield pool
+
+
+def rows_of(found: Iterator[Found], has_sum: bool, jobs: int) -> Generator[List[Row], None, None]:
+    """The rows of files, some at a time, in their order. Not more are waited for than a few of each process."""
+    yield from (judge_chunk([it], has_sum) for it in itertools.islice(found, FEW))
+    first = next(found, None)
+    if first is None:
+        return
+    rest = chunks(itertools.chain([first], found))
+    with pool_of(jobs) if jobs > 1 else contextlib.nullcontext() as pool:
+        if pool is None:
+            yield from (judge_chunk(it, has_sum) for it in rest)
+            return
+        waiting: collections.deque[Any] = collections.deque()
+        try:
+            for chunk in rest:
+                waiting.append(pool.submit(judge_chunk, chunk, has_sum))
+                if len(waiting) >= CHUNKS_AHEAD * jobs:
+                    yield waiting.popleft().result()
+            while waiting:
+                yield waiting.popleft().result()
+        finally:
+            for it in waiting:
+                it.cancel()
+
+
+# ---- What is told meanwhile.
+
+
+class Progress:
+    """How many files are done, on a terminal that shows nothing else."""
+
+    def __init__(self, is_shown: bool) -> None:
+        self.is_shown, self.last, self.begun = is_shown, 0.0, time.monotonic()
+
+    def tell(self, count: int) -> None:
+        now = time.monotonic()
+        if self.is_shown and now - self.last >= SECONDS_BETWEEN:
+            self.last = now
+            print(f"\r{words.counted(count, 'file')}, {now - self.begun:.0f} s ", end="", file=sys.stderr, flush=True)
+
+    def clear(self) -> None:
+        if self.is_shown and self.last:
+            print("\r\x1b[K", end="", file=sys.stderr, flush=True)
+
+
+def summary(table: Table) -> str:
+    """How many files each class has."""
+    told = f"{words.counted(sum(table.counts.values()), 'file')}: " + ", ".join(f"{table.counts[it]} {it}" for it in CLASSES)
+    return told + (f"; {table.copies} with the bytes of one before" if table.has_sum else "")
+
+
+def run(options: argparse.Namespace) -> int:
+    try:
+        table = Table(options.resume, options.json, options.sha256)
+    except (TableError, OSError) as error:
+        print(f"hunk: {options.resume}: {getattr(error, 'strerror', None) or error}", file=sys.stderr)
+        return 2
+    progress = Progress(sys.stderr.isatty() and (options.resume is not None or not sys.stdout.isatty()))
+    with table:
+        missing = (it for it in found_below(options.names) if not table.has(it.name))
+        with contextlib.closing(rows_of(missing, options.sha256, options.jobs)) as judged:
+            try:
+                for rows in judged:
+                    table.write(rows)
+                    progress.tell(sum(table.counts.values()))
+            finally:
+                progress.clear()
+    sys.stdout.flush()
+    print(summary(table), file=sys.stderr)
+    return 1 if table.counts[NOT_JUDGED] else 0
