@@ -11,11 +11,13 @@ from __future__ import annotations
 
 import argparse
 import contextlib
+import errno
 import io
 import os
 import sys
 from typing import Optional, Sequence
 
+import hunk
 from hunk.command import differences, documents, dump, nm, picture, relocs, show, size, survey
 
 SUBCOMMANDS = (show, size, nm, relocs, dump, documents, picture, differences, survey)
@@ -39,6 +41,7 @@ Exit status:
 def make_parser() -> argparse.ArgumentParser:
     form = argparse.RawDescriptionHelpFormatter
     parser = argparse.ArgumentParser(prog="hunk", description=DESCRIPTION, epilog=EPILOG, formatter_class=form)
+    parser.add_argument("--version", action="version", version=f"hunk {hunk.__version__}")
     made = parser.add_subparsers(title="subcommands", metavar="SUBCOMMAND", required=True)
     for it in SUBCOMMANDS:
         subparser = made.add_parser(it.NAME, help=it.HELP, description=it.DESCRIPTION, formatter_class=form)
@@ -50,19 +53,30 @@ def make_parser() -> argparse.ArgumentParser:
 def give_up_output() -> None:
     """Lets what is printed from now on, and what was not written yet, go nowhere."""
     nowhere = os.open(os.devnull, os.O_WRONLY)
-    for stream in (sys.stdout, sys.stderr):
+    for stream in filter(None, (sys.stdout, sys.stderr)):
         os.dup2(nowhere, stream.fileno())
 
 
-def main(words: Optional[Sequence[str]] = None) -> int:
-    """Runs the command with these words, or those of the command line. Answers its status."""
+def run(words: Optional[Sequence[str]]) -> int:
+    """Does what the words say, and answers the status. All that is printed is then written."""
+    if sys.stdout is None:
+        raise OSError(errno.EBADF, os.strerror(errno.EBADF))
     if isinstance(sys.stdout, io.TextIOWrapper):
         sys.stdout.reconfigure(encoding="utf-8", newline="\n")
     try:
         options = make_parser().parse_args(words)
-        status: int = options.run(options)
-        sys.stdout.flush()
-        return status
+        status = options.run(options)
+    except SystemExit as ended:
+        # Help was printed, or what is wrong with the words.
+        status = ended.code
+    sys.stdout.flush()
+    return int(status)
+
+
+def main(words: Optional[Sequence[str]] = None) -> int:
+    """Runs the command with these words, or those of the command line. Answers its status."""
+    try:
+        return run(words)
     except KeyboardInterrupt:
         with contextlib.suppress(OSError):
             sys.stdout.flush()

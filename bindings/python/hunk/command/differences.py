@@ -11,7 +11,7 @@ import hunk
 from hunk.command import inputs, show
 from hunk.command.documents import taking
 from hunk.command.layout import Layout, Place
-from hunk.command.words import hunk_text, text_of
+from hunk.command.words import counted, flag_words, hunk_text, kind_word, text_of
 
 NAME = "diff"
 HELP = "what differs between two files: hunks, blocks, symbols, relocations, content"
@@ -22,7 +22,7 @@ The status is 0 where they are the same, 1 where they differ, and 2 where one is
 
 SAME, DIFFER, TROUBLE = 0, 1, 2
 # Blocks whose content is in no other list.
-OWN = (hunk.Kind.NAME, hunk.Kind.DEBUG)
+OWN = ("NAME", "DEBUG", "ADVISORY")
 PIECE = 4096
 Items = Sequence[Tuple[Hashable, str]]
 
@@ -47,9 +47,10 @@ class Content(NamedTuple):
 
 def block_item(file: hunk.File, it: hunk.Block) -> tuple[Hashable, str]:
     """A block without what its hunk tells of it."""
-    is_own = it.kind in OWN or it.kind.name.startswith("TYPE_")
+    kind = kind_word(it.kind)
+    is_own = kind in OWN
     its_lines = show.block_lines(file, it, collections.defaultdict(lambda: iter(())))
-    text = next(its_lines).strip() if is_own else " ".join([it.kind.name, *(str(i.name).lower() for i in hunk.Flags if i in it.flags)])
+    text = next(its_lines).strip() if is_own else " ".join([kind, *flag_words(it.flags)])
     return (it.kind, it.flags, file.content(it) if is_own else b""), text
 
 
@@ -88,9 +89,9 @@ def bytes_text(a: bytes, b: bytes) -> str:
         places = [i for i, (one, two) in enumerate(zip(piece, other)) if one != two]
         first = start + places[0] if first < 0 else first
         count += len(places)
-    parts = [f"{count} bytes differ, the first at {first:#010x}"] if count else []
+    parts = [f"1 byte differs, at {first:#010x}" if count == 1 else f"{count} bytes differ, the first at {first:#010x}"] if count else []
     if len(a) != len(b):
-        parts.append(f"{abs(len(a) - len(b))} bytes more in {'A' if len(a) > len(b) else 'B'}")
+        parts.append(f"{counted(abs(len(a) - len(b)), 'byte')} more in {'A' if len(a) > len(b) else 'B'}")
     return ", ".join(parts)
 
 

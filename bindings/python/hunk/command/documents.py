@@ -11,6 +11,7 @@ from typing import Any, Callable, Dict, Iterator, Sequence
 import hunk
 from hunk.command import inputs
 from hunk.command.layout import CONTENTS
+from hunk.command.words import flag_words, kind_word
 
 NAME = "json"
 HELP = "what stands in files, a document of JSON each"
@@ -58,9 +59,7 @@ def text_of(name: bytes) -> str:
 
 
 def of_block(file: hunk.File, it: hunk.Block) -> Document:
-    kind = "ADVISORY" if it.kind.name.startswith("TYPE_") else it.kind.name
-    flags = [str(flag.name).lower() for flag in hunk.Flags if flag in it.flags]
-    made = {"place": it.place, "bytes": it.bytes, "type": int(it.kind), "kind": kind, "flags": flags}
+    made: Document = {"place": it.place, "bytes": it.bytes, "type": int(it.kind), "kind": kind_word(it.kind), "flags": flag_words(it.flags)}
     if it.kind == hunk.Kind.NAME:
         made["name"] = text_of(file.content(it).split(bytes(1))[0])
     return made
@@ -88,7 +87,7 @@ def of_hunks(file: hunk.File) -> Iterator[Document]:
         its_blocks = blocks(*which)
         content = next(block for block in its_blocks if block.kind in CONTENTS)
         yield {
-            "unit": it.unit, "hunk": it.number, "kind": content.kind.name, "bytes": it.size,
+            "unit": it.unit, "hunk": it.number, "kind": kind_word(content.kind), "bytes": it.size,
             "memory": it.memory, "attributes": it.attributes,
             "content": {"place": content.content, "bytes": content.content_bytes},
             "blocks": [of_block(file, block) for block in its_blocks],
@@ -115,10 +114,9 @@ def of_file(name: str, file: hunk.File) -> Document:
 
 def write(name: str, file: hunk.File, line_end: str) -> None:
     """Writes a document hunk by hunk, as all of them may be more than memory holds."""
-    head, hunks = of_file(name, file), of_hunks(file)
-    made = json.dumps(head)[:-1] + ', "hunks": ['
-    for it in hunks:
-        sys.stdout.write(made + line_end + json.dumps(it))
+    text, made = json.JSONEncoder().encode, json.dumps(of_file(name, file))[:-1] + ', "hunks": ['
+    for it in of_hunks(file):
+        sys.stdout.write(made + line_end + text(it))
         made = ","
     # An object file may have no hunks.
     sys.stdout.write(("" if made == "," else made) + line_end + "]}")

@@ -108,12 +108,18 @@ def read_regular(file: io.FileIO, size: int) -> bytes:
     return file.readall()
 
 
+def read_standard_input() -> bytes:
+    if sys.stdin is None:
+        raise OSError(errno.EBADF, os.strerror(errno.EBADF))
+    return sys.stdin.buffer.read(LIMIT)
+
+
 def read_bytes(found: Found) -> bytes:
     """The bytes of a file. One that stands in a folder has to be a file proper: reading a pipe there might never end."""
     if found.error:
         raise found.error
     if found.name == STANDARD_INPUT and found.is_named:
-        data = sys.stdin.buffer.read(LIMIT)
+        data = read_standard_input()
     else:
         if not found.is_named and not stat.S_ISREG(os.stat(found.name).st_mode):
             raise NoFile

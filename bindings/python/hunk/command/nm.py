@@ -3,7 +3,6 @@
 from __future__ import annotations
 
 import argparse
-import sys
 from typing import Iterator, NamedTuple, Optional
 
 import hunk
@@ -76,12 +75,10 @@ def line(name: Name) -> str:
 
 def print_names(name: str, file: hunk.File, options: argparse.Namespace, head: Optional[str]) -> None:
     """The names of a file that are asked for."""
-    found = [it for it in names_of(file, options.base) if it.is_external >= options.external]
+    found = [*names_of(file, options.base)]
     if not found:
-        sys.stdout.flush()
         inputs.say(name, "no symbols")
-    if options.undefined:
-        found = [it for it in found if it.letter == "U"]
+    found = [it for it in found if it.is_external >= options.external and (it.letter == "U" or not options.undefined)]
     if head is not None and not options.with_file:
         print(head)
     for it in sorted(found, key=by_value if options.by_value else None):

@@ -9,7 +9,7 @@ from typing import Any, Iterator
 import hunk
 from hunk.command import inputs
 from hunk.command.layout import COMMON
-from hunk.command.words import text_of
+from hunk.command.words import flag_words, kind_word, text_of
 
 NAME = "show"
 HELP = "list the hunks and blocks of files, as hunkinfo show does"
@@ -22,11 +22,11 @@ add_arguments = inputs.add_arguments
 
 def block_lines(file: hunk.File, block: hunk.Block, items: dict[hunk.Kind, Iterator[Any]]) -> Iterator[str]:
     """The lines of a block, of which the next rows of each list are its items."""
-    flags = [str(it.name).lower() for it in hunk.Flags if it in block.flags]
-    if block.kind.name.startswith("TYPE_"):
+    kind, flags = kind_word(block.kind), flag_words(block.flags)
+    if kind == "ADVISORY":
         yield " ".join(["  ADVISORY", str(int(block.kind)), f"{block.content_bytes} bytes", *flags[1:]])
         return
-    head = " ".join([f"  {block.kind.name}", *flags])
+    head = " ".join([f"  {kind}", *flags])
     if block.kind == hunk.Kind.NAME:
         yield f"{head} {text_of(file.content(block).split(bytes(1))[0])}"
     elif block.kind in ITS_WORD:

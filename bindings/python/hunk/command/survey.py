@@ -40,8 +40,9 @@ With --json each row is an object of JSON on a line, null in the place of -. Sta
 files each class has, and on a terminal how many are done. The status is 1 where a file was not judged.
 Links to files are followed, and those to folders are not."""
 
-# Few files take less time than processes need to begin.
-FEW, CHUNK, CHUNKS_AHEAD = 256, 32, 4
+# What takes less is not worth the time that processes need to begin.
+SECONDS_ALONE = 1.0
+CHUNK, CHUNKS_AHEAD = 32, 4
 SECONDS_BETWEEN = 0.1
 
 
@@ -51,8 +52,8 @@ def add_arguments(parser: argparse.ArgumentParser) -> None:
     parser.add_argument("--sha256", action="store_true", help="tell the sum of each file, and which have the same bytes")
     parser.add_argument("--resume", metavar="TABLE",
                         help="write the rows to this file; what has a row there is not judged again, so an interrupted run goes on")
-    parser.add_argument("--jobs", metavar="N", type=words.count, default=processors(),
-                        help="how many processes judge files [default: %(default)s]")
+    parser.add_argument("--jobs", metavar="N", type=words.count,
+                        help="how many processes judge files [default: one, and after a second one for each processor]")
 
 
 def processors() -> int:
@@ -107,28 +108,49 @@ def pool_of(jobs: int) -> Iterator[Optional[Any]]:
         yield pool
 
 
-def rows_of(found: Iterator[Found], has_sum: bool, jobs: int) -> Generator[List[Row], None, None]:
-    """The rows of files, some at a time, in their order. Not more are waited for than a few of each process."""
-    yield from (judge_chunk([it], has_sum) for it in itertools.islice(found, FEW))
+def judge_alone(found: Iterator[Found], has_sum: bool, seconds: float) -> Iterator[List[Row]]:
+    """The rows of the files of so many seconds."""
+    begun = time.monotonic()
+    for it in found:
+        yield judge_chunk([it], has_sum)
+        if time.monotonic() - begun > seconds:
+            return
+
+
+def judge_by(pool: Any, found: Iterator[Found], has_sum: bool, ahead: int) -> Iterator[List[Row]]:
+    """The rows of files that processes judge, of which so many chunks are waited for."""
+    waiting: collections.deque[Any] = collections.deque()
+    try:
+        for chunk in chunks(found):
+            # Other processes have no standard input.
+            is_ours = any(it.name == inputs.STANDARD_INPUT for it in chunk)
+            while waiting and (is_ours or len(waiting) >= ahead):
+                yield waiting.popleft().result()
+            if is_ours:
+                yield judge_chunk(chunk, has_sum)
+            else:
+                waiting.append(pool.submit(judge_chunk, chunk, has_sum))
+        while waiting:
+            yield waiting.popleft().result()
+    finally:
+        for it in waiting:
+            it.cancel()
+
+
+def rows_of(found: Iterator[Found], has_sum: bool, jobs: Optional[int]) -> Generator[List[Row], None, None]:
+    """The rows of files, some at a time, in their order."""
+    if jobs is None:
+        yield from judge_alone(found, has_sum, SECONDS_ALONE)
+        jobs = processors()
     first = next(found, None)
     if first is None:
         return
-    rest = chunks(itertools.chain([first], found))
+    found = itertools.chain([first], found)
     with pool_of(jobs) if jobs > 1 else contextlib.nullcontext() as pool:
         if pool is None:
-            yield from (judge_chunk(it, has_sum) for it in rest)
-            return
-        waiting: collections.deque[Any] = collections.deque()
-        try:
-            for chunk in rest:
-                waiting.append(pool.submit(judge_chunk, chunk, has_sum))
-                if len(waiting) >= CHUNKS_AHEAD * jobs:
-                    yield waiting.popleft().result()
-            while waiting:
-                yield waiting.popleft().result()
-        finally:
-            for it in waiting:
-                it.cancel()
+            yield from judge_alone(found, has_sum, float("inf"))
+        else:
+            yield from judge_by(pool, found, has_sum, CHUNKS_AHEAD * jobs)
 
 
 # ---- What is told meanwhile.

@@ -3,6 +3,7 @@
 from __future__ import annotations
 
 import argparse
+from functools import lru_cache
 
 import hunk
 
@@ -23,6 +24,18 @@ def text_of(name: bytes) -> str:
 
 def counted(count: int, what: str) -> str:
     return f"{count} {what}" if count == 1 else f"{count} {what}s"
+
+
+@lru_cache(maxsize=None)
+def flag_words(flags: hunk.Flags) -> tuple[str, ...]:
+    """The flags of a block. An enumeration is slow to ask."""
+    return tuple(str(it.name).lower() for it in hunk.Flags if it in flags)
+
+
+@lru_cache(maxsize=1024)
+def kind_word(kind: hunk.Kind) -> str:
+    """The name of a block's type. One that is not known is of an advisory block."""
+    return "ADVISORY" if kind.name.startswith("TYPE_") else kind.name
 
 
 def hunk_text(file: hunk.File, unit: int, number: int) -> str:

@@ -1,0 +1,54 @@
+"""Files for tests of the command `hunk`, and the call of it."""
+
+import os
+import pathlib
+import signal
+import subprocess
+import sys
+
+TOP = pathlib.Path(__file__).resolve().parents[2]
+COMMAND = [sys.executable, "-W", "error", "-m", "hunk"]
+ENVIRONMENT = {**os.environ, "PYTHONPATH": str(TOP / "bindings/python"), "PYTHONDONTWRITEBYTECODE": "1"}
+
+# A unit `a` of two hunks: CODE of 16 bytes in chip memory, with a relocation at 2 of what stands 8 bytes on in hunk 1, and an EXT
+# block that defines _a and _c, and refers to _b at 8 and to the common block _d at 12; and a BSS of 16 bytes with a symbol.
+OBJECT = """000003e7 00000001 61000000
+    400003e9 00000004 4eb90000 00084eb9 00000000 00000000
+    000003ec 00000001 00000001 00000002 00000000
+    000003ef 01000001 5f610000 00000004 81000001 5f620000 00000001 00000008
+    02000001 5f630000 00001234 82000001 5f640000 00000010 00000001 0000000c 00000000 000003f2
+    000003eb 00000004 000003f0 00000001 62756600 00000008 00000000 000003f2"""
+# A load file with a short block, and without its last END.
+WIDE = "000003f3 00000000 00000001 00000000 00000000 00000002 000003e9 00000002 00000004 00000000 000003fc 0001000000000000"
+
+
+def suite(table):
+    """The files of a table of the conformance suite, by name."""
+    lines = (TOP / f"vectors/{table}.tsv").read_text(encoding="utf-8").splitlines()[1:]
+    return {name: bytes.fromhex(text) for _, name, text, *_ in (line.split("\t") for line in lines)}
+
+
+def make(folder):
+    """Makes the files that the tests name."""
+    load, objects = suite("load"), suite("objects")
+    folder.mkdir()
+    sum_text = (TOP / "bindings/c/examples/sum.hex").read_text(encoding="utf-8")
+    made = {
+        "sum": bytes.fromhex(sum_text), "part.o": bytes.fromhex(OBJECT), "wide": bytes.fromhex(WIDE), "symbol": load["symbol"],
+        "attributes": load["attributes-and-two-contents"], "text": b"text", "empty": b"", "overlay": load["overlay"],
+        "unknown": load["unknown-block"], "behind": load["bytes-behind"], "findings.o": objects["two-findings"],
+    }
+    for name, data in made.items():
+        (folder / name).write_bytes(data)
+
+
+def start(words, folder, **streams):
+    """The command with these words, as it runs. ^C ends it, also where the test itself leaves it alone."""
+    return subprocess.Popen([*COMMAND, *words], cwd=folder, env=ENVIRONMENT, bufsize=0,
+                            preexec_fn=lambda: signal.signal(signal.SIGINT, signal.SIG_DFL), **streams)
+
+
+def hunk(*words, folder, given=b""):
+    """What the command prints, says, and its status."""
+    ran = subprocess.run([*COMMAND, *words], cwd=folder, env=ENVIRONMENT, input=given, capture_output=True, timeout=120)
+    return ran.stdout.decode(), ran.stderr.decode(), ran.returncode

@@ -1,0 +1,100 @@
+"""What the command `hunk` has to print of the files that files.make makes: words, lines of standard output, lines of standard error,
+and the status. It is written by hand, from the texts of the files, docs/OUTPUT.md, and the formats of GNU size and nm."""
+
+SHOWN_SYMBOL = """load file 1 hunks 4 bytes
+hunk 0 4 bytes any
+  CODE 4 bytes
+  SYMBOL 1
+    0x00000000 _m
+  END
+"""
+SHOWN_OBJECT = """object file 1 units
+unit 0 a
+hunk 0 16 bytes
+  CODE chip 16 bytes
+  RELOC32 1
+    1 0x00000002
+  EXT 4
+    DEF 0x00000004 _a
+    REF32 1 _b
+      0x00000008
+    ABS 0x00001234 _c
+    COMMON 16 1 _d
+      0x0000000c
+  END
+hunk 1 16 bytes
+  BSS 16 bytes
+  SYMBOL 1
+    0x00000008 buf
+  END
+"""
+SHOWN_WIDE = """load file 1 hunks 8 bytes
+hunk 0 8 bytes any
+  CODE 8 bytes
+  RELOC32 1
+    0 0x00000000
+  END
+"""
+HEAD = "   text\t   data\t    bss\t    dec\t    hex\tfilename\n"
+NO_HUNK_FILE = "refused at byte 0: NotLoadFile: the first longword is not 3F3 (no hunk file)"
+REFUSED = f"""hunk: text: {NO_HUNK_FILE}
+hunk: empty: refused at byte 0: Truncated: the input ends too soon (no hunk file)
+hunk: overlay: refused at byte 36: Overlay: an OVERLAY block, of a file with overlays (not supported)
+hunk: unknown: refused at byte 36: UnknownBlock: a type of block that is not known, without the bit of advisory blocks (damaged)
+hunk: none: ENOENT: No such file or directory (not judged)
+"""
+
+RUNS = [
+    ("show symbol", SHOWN_SYMBOL, "", 0),
+    ("show part.o", SHOWN_OBJECT, "", 0),
+    ("show symbol part.o behind", f"== symbol\n{SHOWN_SYMBOL}== part.o\n{SHOWN_OBJECT}== behind\n"
+     "load file 1 hunks 4 bytes\nhunk 0 4 bytes any\n  CODE 4 bytes\n  END\nrest 7 bytes\n", "", 0),
+    ("show text empty overlay unknown none symbol", f"== symbol\n{SHOWN_SYMBOL}", REFUSED, 1),
+    ("show wide", "", "hunk: wide: refused at byte 40: ShortReloc: a block of short relocations, whose offsets have 16 bits"
+     " (not supported); its spelling is one that --wide reads\n", 1),
+    ("show --wide wide", SHOWN_WIDE, "hunk: wide: 1 block of short relocations, 1 END put in\n", 0),
+    ("size sum part.o attributes", f"{HEAD}     48\t      0\t     12\t     60\t     3c\tsum\n"
+     "     16\t      0\t     16\t     32\t     20\tpart.o\n      8\t      0\t      4\t     12\t      c\tattributes\n", "", 0),
+    ("size -t sum text sum", f"{HEAD}     48\t      0\t     12\t     60\t     3c\tsum\n     48\t      0\t     12\t     60\t     3c\tsum\n"
+     "     96\t      0\t     24\t    120\t     78\t(TOTALS)\n", f"hunk: text: {NO_HUNK_FILE}\n", 1),
+    ("size -A part.o", "part.o  :\nsection    size   addr   memory\n0.0:CODE     16      0   chip\n0.1:BSS      16      0   any\n"
+     "Total        32\n\n\n", "", 0),
+    ("size -A --base 1000 attributes", "attributes  :\nsection   size   addr   memory\n0:CODE       8   4096   attributes 0x00010004\n"
+     "1:BSS        4   4104   any\nTotal       12\n\n\n", "", 0),
+    ("nm part.o", "00000004 T _a\n         U _b\n00001234 A _c\n00000010 C _d\n00000018 B buf\n", "", 0),
+    ("nm -n part.o", "         U _b\n00000010 C _d\n00000004 T _a\n00000018 B buf\n00001234 A _c\n", "", 0),
+    ("nm -g --base 21000 part.o", "00021004 T _a\n         U _b\n00001234 A _c\n00000010 C _d\n", "", 0),
+    ("nm -u part.o", "         U _b\n", "", 0),
+    ("nm -A -u part.o symbol", "part.o:         U _b\n", "", 0),
+    ("nm symbol sum", "\nsymbol:\n00000000 T _m\n\nsum:\n", "hunk: sum: no symbols\n", 0),
+    ("relocs sum", "    0 0x00000002 4 RELOC32    0+0x20\n    0 0x00000008 4 RELOC32    1+0x4\n", "", 0),
+    ("relocs part.o symbol", "== part.o\n  0.0 0x00000002 4 RELOC32    0.1+0x8 buf\n  0.0 0x00000008 4 REF32      _b\n"
+     "  0.0 0x0000000c 4 COMMON     _d\n== symbol\n", "", 0),
+    ("dump part.o", "hunk 0.0 CODE 16 bytes chip\n"
+     "  00000000  4e b9[00 00 00 08]4e b9[00 00 00 00|00 00 00 00] |N.....N.........|\n"
+     "hunk 0.1 BSS 16 bytes\n  and 16 zero bytes that the file does not have\n", "", 0),
+    ("dump --base 21000 sum", "hunk 0 CODE 48 bytes at 00021000\n"
+     "  00021000  41 f9[00 02 10 20]43 f9[00 02 10 34]72 03 20 18  |A.... C....4r. .|\n"
+     "  00021010  d1 91 51 c9 ff fa 20 11 93 c8 d0 89 4e 75 4e 71  |..Q... .....NuNq|\n"
+     "  00021020  11 11 11 11 02 22 22 22 00 33 33 33 00 04 44 44  |.....\"\"\".333..DD|\n"
+     "hunk 1 BSS 12 bytes at 00021030\n"
+     "  00021030  00 00 00 00 00 00 00 00 00 00 00 00              |............|\n", "", 0),
+    ("dump --base 1000 part.o", "", "hunk: part.o: refused at byte 0: IsObject: a load file is needed, and this is an object file:"
+     " link it first (not supported)\n", 1),
+    ("dump --base 1000 --budget 59 sum", "", "hunk: sum: refused at byte 24: Budget: the hunks declare more bytes than the budget"
+     " allows (not judged)\n", 1),
+    ("dump --base fffffff8 sum", "", "hunk: sum: refused at byte 28: NoBase of hunk 0: a hunk has no base, or would pass the address"
+     " 2^32 (not judged)\n", 1),
+    ("diff sum sum", "", "", 0),
+    ("diff sum text", "", f"hunk: text: {NO_HUNK_FILE}\n", 2),
+    ("diff part.o sum", "A is an object file, B a load file\n", "", 1),
+    ("diff symbol behind", "hunk 0: blocks: 1 only in A, 0 only in B\nhunk 0: symbols: 1 only in A, 0 only in B\n"
+     "rest: 7 bytes more in B\n", "", 1),
+    ("diff --items symbol attributes", "hunk 0: CODE 4 bytes any in A, CODE 8 bytes attributes 0x00010004 in B\n"
+     "hunk 0: content: 1 byte differs, at 0x00000001, 4 bytes more in B\n"
+     "hunk 0: blocks: 1 only in A, 0 only in B\n  < SYMBOL\nhunk 0: symbols: 1 only in A, 0 only in B\n  < 0x00000000 _m\n"
+     "hunk 1: only in B: BSS 4 bytes any\n", "", 1),
+]
+# Words that are refused, and whether what is said then names the subcommand.
+REFUSED_WORDS = ["", "none sum", "show", "show --no sum", "dump --base xyz sum", "dump --base 100000000 sum", "dump --budget -1 sum",
+                 "diff sum", "survey --jobs x sum"]
