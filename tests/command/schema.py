@@ -10,7 +10,7 @@ def faults(value, schema, top, where="document"):
     """What is wrong with the value, each in a line."""
     for word, wanted in schema.items():
         if word == "$ref":
-            yield from faults(value, top["$defs"][wanted.removeprefix("#/$defs/")], top, where)
+            yield from faults(value, top["$defs"][wanted.split("/")[-1]], top, where)
         elif word == "type":
             if not isinstance(value, TYPES[wanted]) or isinstance(value, bool):
                 yield f"{where}: {value!r} is no {wanted}"

@@ -1,5 +1,5 @@
-"""What the command `hunk` has to print of the files that files.make makes: words, lines of standard output, lines of standard error,
-and the status. It is written by hand, from the texts of the files, docs/OUTPUT.md, and the formats of GNU size and nm."""
+"""What the command `hunk` has to print of the files that files.make makes: its words, standard output, standard error, and the
+status. It is written by hand, from the texts of the files, docs/OUTPUT.md, and the formats of GNU size and nm."""
 
 SHOWN_SYMBOL = """load file 1 hunks 4 bytes
 hunk 0 4 bytes any
@@ -36,6 +36,7 @@ hunk 0 8 bytes any
   END
 """
 HEAD = "   text\t   data\t    bss\t    dec\t    hex\tfilename\n"
+SIZE_OF_SUM = "     48\t      0\t     12\t     60\t     3c\tsum\n"
 NO_HUNK_FILE = "refused at byte 0: NotLoadFile: the first longword is not 3F3 (no hunk file)"
 REFUSED = f"""hunk: text: {NO_HUNK_FILE}
 hunk: empty: refused at byte 0: Truncated: the input ends too soon (no hunk file)
@@ -53,14 +54,14 @@ RUNS = [
     ("show wide", "", "hunk: wide: refused at byte 40: ShortReloc: a block of short relocations, whose offsets have 16 bits"
      " (not supported); its spelling is one that --wide reads\n", 1),
     ("show --wide wide", SHOWN_WIDE, "hunk: wide: 1 block of short relocations, 1 END put in\n", 0),
-    ("size sum part.o attributes", f"{HEAD}     48\t      0\t     12\t     60\t     3c\tsum\n"
+    ("size sum part.o attributes", f"{HEAD}{SIZE_OF_SUM}"
      "     16\t      0\t     16\t     32\t     20\tpart.o\n      8\t      0\t      4\t     12\t      c\tattributes\n", "", 0),
-    ("size -t sum text sum", f"{HEAD}     48\t      0\t     12\t     60\t     3c\tsum\n     48\t      0\t     12\t     60\t     3c\tsum\n"
+    ("size -t sum text sum", f"{HEAD}{SIZE_OF_SUM}{SIZE_OF_SUM}"
      "     96\t      0\t     24\t    120\t     78\t(TOTALS)\n", f"hunk: text: {NO_HUNK_FILE}\n", 1),
     ("size -A part.o", "part.o  :\nsection    size   addr   memory\n0.0:CODE     16      0   chip\n0.1:BSS      16      0   any\n"
      "Total        32\n\n\n", "", 0),
-    ("size -A --base 1000 attributes", "attributes  :\nsection   size   addr   memory\n0:CODE       8   4096   attributes 0x00010004\n"
-     "1:BSS        4   4104   any\nTotal       12\n\n\n", "", 0),
+    ("size -A --base 1000 attributes", "attributes  :\nsection   size   addr   memory\n"
+     "0:CODE       8   4096   attributes 0x00010004\n1:BSS        4   4104   any\nTotal       12\n\n\n", "", 0),
     ("nm part.o", "00000004 T _a\n         U _b\n00001234 A _c\n00000010 C _d\n00000018 B buf\n", "", 0),
     ("nm -n part.o", "         U _b\n00000010 C _d\n00000004 T _a\n00000018 B buf\n00001234 A _c\n", "", 0),
     ("nm -g --base 21000 part.o", "00021004 T _a\n         U _b\n00001234 A _c\n00000010 C _d\n", "", 0),
@@ -79,12 +80,12 @@ RUNS = [
      "  00021020  11 11 11 11 02 22 22 22 00 33 33 33 00 04 44 44  |.....\"\"\".333..DD|\n"
      "hunk 1 BSS 12 bytes at 00021030\n"
      "  00021030  00 00 00 00 00 00 00 00 00 00 00 00              |............|\n", "", 0),
-    ("dump --base 1000 part.o", "", "hunk: part.o: refused at byte 0: IsObject: a load file is needed, and this is an object file:"
-     " link it first (not supported)\n", 1),
+    ("dump --base 1000 part.o", "", "hunk: part.o: refused at byte 0: IsObject: a load file is needed, and this is an object"
+     " file: link it first (not supported)\n", 1),
     ("dump --base 1000 --budget 59 sum", "", "hunk: sum: refused at byte 24: Budget: the hunks declare more bytes than the budget"
      " allows (not judged)\n", 1),
-    ("dump --base fffffff8 sum", "", "hunk: sum: refused at byte 28: NoBase of hunk 0: a hunk has no base, or would pass the address"
-     " 2^32 (not judged)\n", 1),
+    ("dump --base fffffff8 sum", "", "hunk: sum: refused at byte 28: NoBase of hunk 0: a hunk has no base, or would pass the"
+     " address 2^32 (not judged)\n", 1),
     ("diff sum sum", "", "", 0),
     ("diff sum text", "", f"hunk: text: {NO_HUNK_FILE}\n", 2),
     ("diff part.o sum", "A is an object file, B a load file\n", "", 1),
@@ -95,6 +96,5 @@ RUNS = [
      "hunk 0: blocks: 1 only in A, 0 only in B\n  < SYMBOL\nhunk 0: symbols: 1 only in A, 0 only in B\n  < 0x00000000 _m\n"
      "hunk 1: only in B: BSS 4 bytes any\n", "", 1),
 ]
-# Words that are refused, and whether what is said then names the subcommand.
-REFUSED_WORDS = ["", "none sum", "show", "show --no sum", "dump --base xyz sum", "dump --base 100000000 sum", "dump --budget -1 sum",
-                 "diff sum", "survey --jobs x sum"]
+REFUSED_WORDS = ["", "none sum", "show", "show --no sum", "dump --base xyz sum", "dump --base 100000000 sum",
+                 "dump --budget -1 sum", "diff sum", "survey --jobs x sum"]

@@ -89,7 +89,8 @@ def bytes_text(a: bytes, b: bytes) -> str:
         places = [i for i, (one, two) in enumerate(zip(piece, other)) if one != two]
         first = start + places[0] if first < 0 else first
         count += len(places)
-    parts = [f"1 byte differs, at {first:#010x}" if count == 1 else f"{count} bytes differ, the first at {first:#010x}"] if count else []
+    told = f"1 byte differs, at {first:#010x}" if count == 1 else f"{count} bytes differ, the first at {first:#010x}"
+    parts = [told] if count else []
     if len(a) != len(b):
         parts.append(f"{counted(abs(len(a) - len(b)), 'byte')} more in {'A' if len(a) > len(b) else 'B'}")
     return ", ".join(parts)

@@ -59,7 +59,8 @@ def text_of(name: bytes) -> str:
 
 
 def of_block(file: hunk.File, it: hunk.Block) -> Document:
-    made: Document = {"place": it.place, "bytes": it.bytes, "type": int(it.kind), "kind": kind_word(it.kind), "flags": flag_words(it.flags)}
+    made: Document = {"place": it.place, "bytes": it.bytes, "type": int(it.kind), "kind": kind_word(it.kind)}
+    made["flags"] = flag_words(it.flags)
     if it.kind == hunk.Kind.NAME:
         made["name"] = text_of(file.content(it).split(bytes(1))[0])
     return made
@@ -100,12 +101,11 @@ def of_hunks(file: hunk.File) -> Iterator[Document]:
 def of_file(name: str, file: hunk.File) -> Document:
     """What a document has in front of its hunks."""
     units = [{"place": it.place, "name": text_of(it.name), "hunks": it.hunks} for it in file.units]
-    findings = [{"place": it.place, "unit": it.unit, "hunk": it.hunk, "offset": it.offset, "fault": it.fault} for it in file.findings]
     return {
         "name": name, "kind": "object" if file.is_object else "load",
         "bytes": file.size, "rest": len(file.data) - file.size,
         "spelling": {"short_blocks": file.spelling.short_blocks, "ends": file.spelling.ends},
-        "units": units, "findings": findings,
+        "units": units, "findings": [it._asdict() for it in file.findings],
     }
 
 

@@ -65,8 +65,8 @@ class Strip:
     def box(self, x: float, y: int, wide: float, part: Part) -> None:
         if wide < 1 and self.is_taken("box", x, y):
             return
-        self.out.append(f'<g><title>{escaped(part.told)}</title><rect class="{part.style}" x="{x:.1f}" y="{y}" width="{wide:.1f}" '
-                        f'height="{HIGH}" fill="{part.color}"/>')
+        self.out.append(f'<g><title>{escaped(part.told)}</title><rect class="{part.style}" x="{x:.1f}" y="{y}" '
+                        f'width="{wide:.1f}" height="{HIGH}" fill="{part.color}"/>')
         if wide > 7 * len(part.label):
             self.out.append(f'<text class="on" x="{x + 4:.1f}" y="{y + 17}">{escaped(part.label)}</text>')
         self.out.append("</g>")
@@ -90,8 +90,8 @@ class Strip:
             return False
         y, to_y = y + HIGH, to_y + HIGH
         bend = 12 + abs(to_x - x) / 40
-        self.out.append(f'<path class="arc" d="M{x:.0f} {y}C{x:.0f} {y + bend:.0f} {to_x:.0f} {to_y + bend:.0f} {to_x:.0f} {to_y}">'
-                        f"<title>{escaped(told)}</title></path>")
+        curve = f"M{x:.0f} {y}C{x:.0f} {y + bend:.0f} {to_x:.0f} {to_y + bend:.0f} {to_x:.0f} {to_y}"
+        self.out.append(f'<path class="arc" d="{curve}"><title>{escaped(told)}</title></path>')
         return True
 
     def text(self) -> Iterator[str]:
@@ -109,7 +109,8 @@ def legend(rows: Sequence[tuple[str, str]], top: int) -> Iterator[str]:
     """Texts with their colors, six in a line."""
     for i, (text, color) in enumerate(rows):
         x, y = LEFT + i % 6 * 160, top + i // 6 * 22
-        yield f'<rect x="{x}" y="{y - 10}" width="12" height="12" fill="{color}"/><text x="{x + 18}" y="{y}">{escaped(text)}</text>'
+        yield f'<rect x="{x}" y="{y - 10}" width="12" height="12" fill="{color}"/>'
+        yield f'<text x="{x + 18}" y="{y}">{escaped(text)}</text>'
 
 
 def document(pictures: Sequence[tuple[int, list[str]]]) -> Iterator[str]:

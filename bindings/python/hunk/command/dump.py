@@ -20,6 +20,7 @@ a load file is loaded: each line has its address, and all bytes of memory are th
 with symbols as labels and what relocated longwords point to. It needs the package capstone."""
 
 WIDTH = 16
+NO_CAPSTONE = "--disassemble needs Capstone: the package capstone of PyPI, or python3-capstone of Debian"
 
 
 def add_arguments(parser: argparse.ArgumentParser) -> None:
@@ -105,7 +106,7 @@ def run(options: argparse.Namespace) -> int:
         try:
             from hunk.command import disassembly
         except ImportError:
-            print("hunk: --disassemble needs Capstone, the package capstone of PyPI, or python3-capstone of Debian", file=sys.stderr)
+            print(f"hunk: {NO_CAPSTONE}", file=sys.stderr)
             return 2
 
     def dump(name: str, file: hunk.File) -> None:

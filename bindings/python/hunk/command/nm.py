@@ -32,7 +32,7 @@ def add_arguments(parser: argparse.ArgumentParser) -> None:
     parser.add_argument("-A", "-o", "--print-file-name", dest="with_file", action="store_true", help="the file before each name")
     parser.add_argument("-g", "--extern-only", dest="external", action="store_true", help="only names of EXT blocks")
     parser.add_argument("-n", "--numeric-sort", dest="by_value", action="store_true", help="sorted by value")
-    parser.add_argument("-u", "--undefined-only", dest="undefined", action="store_true", help="only names that are not defined there")
+    parser.add_argument("-u", "--undefined-only", dest="undefined", action="store_true", help="only names that are not defined")
     parser.add_argument("--base", metavar="HEX", type=words.address, default=0, help="the address of the first hunk")
 
 

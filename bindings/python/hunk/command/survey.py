@@ -51,7 +51,7 @@ def add_arguments(parser: argparse.ArgumentParser) -> None:
     parser.add_argument("--json", action="store_true", help="write each row as an object of JSON")
     parser.add_argument("--sha256", action="store_true", help="tell the sum of each file, and which have the same bytes")
     parser.add_argument("--resume", metavar="TABLE",
-                        help="write the rows to this file; what has a row there is not judged again, so an interrupted run goes on")
+                        help="write the rows to this file, and pass over what has one there: so an interrupted run goes on")
     parser.add_argument("--jobs", metavar="N", type=words.count,
                         help="how many processes judge files [default: one, and after a second one for each processor]")
 
@@ -98,9 +98,12 @@ def leave_interrupts() -> None:
 def pool_of(jobs: int) -> Iterator[Optional[Any]]:
     """Processes that judge files; None where the system has no processes to give."""
     try:
+        import multiprocessing
         from concurrent.futures import ProcessPoolExecutor
 
-        pool = ProcessPoolExecutor(jobs, initializer=leave_interrupts)
+        # Elsewhere a process reads anew what this one was started by.
+        context = multiprocessing.get_context("fork" if sys.platform == "linux" else None)
+        pool = ProcessPoolExecutor(jobs, context, leave_interrupts)
     except (ImportError, NotImplementedError, OSError):
         yield None
         return

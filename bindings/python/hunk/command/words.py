@@ -9,7 +9,7 @@ import hunk
 
 
 def printed(name: bytes) -> str:
-    """The name of a file on one line: what is no printable text of UTF-8 in it, and the backslash, is `\\x` and two digits a byte."""
+    """The name of a file on one line. What is no printable text of UTF-8, and the backslash, is `\\x` and two digits a byte."""
     def spelled(character: str) -> str:
         kept = character.isprintable() and character != "\\"
         return character if kept else "".join(f"\\x{byte:02x}" for byte in character.encode("utf-8", "surrogateescape"))
