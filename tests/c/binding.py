@@ -1,7 +1,7 @@
 """binding.py VECTORS..: holds the package of bindings/python to the conformance suite, vectors/load.tsv and vectors/objects.tsv.
 Prints each row with another answer, and ends with status 1 where there is one.
 
-binding.py --show FILE..: prints what stands in the files, by the package, in the words of `hunkinfo show`, after `== FILE` for each.
+binding.py --show FILE..: prints what `hunk show` prints of the files, in the words of `hunkinfo show`, after `== FILE` for each.
 It ends with status 1 where something does not stand at the place that its row has."""
 
 import ctypes
@@ -14,9 +14,8 @@ sys.path.insert(0, str(pathlib.Path(__file__).resolve().parents[2] / "bindings/p
 import hunk
 import hunk.library
 import hunk.stream
+from hunk.command import show
 
-ITS_WORD = {hunk.Kind.CODE: "memory", hunk.Kind.DATA: "memory", hunk.Kind.BSS: "memory", hunk.Kind.DEBUG: "content_bytes"}
-COMMON = (hunk.EntryKind.COMMON, hunk.EntryKind.RELCOMMON)
 # What docs/FORMAT.md says of the bytes at an offset, where they are not 4.
 WIDTHS = {
     "RELOC16": 2, "DREL16": 2, "ABSRELOC16": 2, "RELOC8": 1, "DREL8": 1,
@@ -85,64 +84,6 @@ def wrong_rows(path):
 # ---- What stands in files.
 
 
-def text_of(name):
-    return "".join(chr(it) if 0x20 <= it < 0x7F and it != 0x5C else f"\\x{it:02x}" for it in name)
-
-
-def shown_block(file, block, items):
-    """The lines of a block, of which the next rows of each list are its items."""
-    flags = [it.name.lower() for it in hunk.Flags if it in block.flags]
-    if block.kind.name.startswith("TYPE_"):
-        yield " ".join(["  ADVISORY", str(int(block.kind)), f"{block.content_bytes} bytes", *flags[1:]])
-        return
-    head = " ".join([f"  {block.kind.name}", *flags])
-    if block.kind == hunk.Kind.NAME:
-        yield f"{head} {text_of(file.content(block).split(bytes(1))[0])}"
-    elif block.kind in ITS_WORD:
-        yield f"{head} {getattr(block, ITS_WORD[block.kind])} bytes"
-    elif block.kind == hunk.Kind.END:
-        yield head
-    else:
-        yield f"{head} {block.items}"
-        for it in itertools.islice(items[block.kind], block.items):
-            yield from shown_item(it)
-
-
-def shown_item(it):
-    """The lines of an item of a block."""
-    if isinstance(it, hunk.Relocation):
-        yield f"    {it.target} 0x{it.offset:08x}"
-    elif isinstance(it, hunk.Symbol):
-        yield f"    0x{it.value:08x} {text_of(it.name)}"
-    elif it.kind <= hunk.EntryKind.ABS:
-        yield f"    {it.kind.name} 0x{it.value:08x} {text_of(it.name)}"
-    else:
-        size = f"{it.value} " if it.kind in COMMON else ""
-        yield f"    {it.kind.name} {size}{len(it.references)} {text_of(it.name)}"
-        yield from (f"      0x{reference.offset:08x}" for reference in it.references)
-
-
-def shown(data):
-    """The lines of `hunkinfo show`."""
-    file = hunk.read(data)
-    total = sum(it.size for it in file.hunks)
-    yield f"object file {len(file.units)} units" if file.is_object else f"load file {len(file.hunks)} hunks {total} bytes"
-    relocations = iter(file.relocations)
-    items = dict.fromkeys(hunk.Kind, relocations)
-    items.update({hunk.Kind.SYMBOL: iter(file.symbols), hunk.Kind.EXT: iter(file.entries)})
-    for number, unit in enumerate(file.units or [None]):
-        if unit:
-            yield f"unit {number} {text_of(unit.name)}"
-        for row in (it for it in file.hunks if it.unit == number):
-            attributes = f" 0x{row.attributes:08x}" if row.memory == "attributes" else ""
-            yield f"hunk {row.number} {row.size} bytes" + ("" if file.is_object else f" {row.memory}{attributes}")
-            for block in file.blocks:
-                if (block.unit, block.hunk) == (number, row.number):
-                    yield from shown_block(file, block, items)
-    if file.size < len(data):
-        yield f"rest {len(data) - file.size} bytes"
-
-
 def wrong_places(data):
     """The rows whose place is not where the file has what they say, or whose width is not that of their kind."""
     file = hunk.read(data)
@@ -175,7 +116,7 @@ def show_files(paths):
         data = pathlib.Path(path).read_bytes()
         print("==", path)
         try:
-            print(*shown(data), sep="\n")
+            print(*show.lines(hunk.read(data)), sep="\n")
             wrong = list(wrong_places(data))
         except hunk.HunkError as error:
             print(error)
