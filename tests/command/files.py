@@ -28,6 +28,12 @@ def suite(table):
     return {name: bytes.fromhex(text) for _, name, text, *_ in (line.split("\t") for line in lines)}
 
 
+def with_symbols(data):
+    """sum.hex with a symbol in front of the END of each hunk."""
+    blocks = ("000003f0 00000002 7461626c 65000000 00000020 00000000", "000003f0 00000001 73756d00 00000004 00000000")
+    return data[:116] + bytes.fromhex(blocks[0]) + data[116:128] + bytes.fromhex(blocks[1]) + data[128:]
+
+
 def make(folder):
     """Makes the files that the tests name."""
     load, objects = suite("load"), suite("objects")
