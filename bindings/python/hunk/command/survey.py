@@ -120,21 +120,38 @@ def judge_alone(found: Iterator[Found], has_sum: bool, seconds: float) -> Iterat
             return
 
 
+class Judged:
+    """The rows of a chunk that another process judges. Where that was ended, they are judged here."""
+
+    def __init__(self, pool: Any, chunk: List[Found], has_sum: bool) -> None:
+        self.chunk, self.has_sum, self.answer = chunk, has_sum, None
+        # A pool that has lost a process takes nothing more. And other processes have no standard input.
+        with contextlib.suppress(RuntimeError):
+            if all(it.name != inputs.STANDARD_INPUT for it in chunk):
+                self.answer = pool.submit(judge_chunk, chunk, has_sum)
+
+    def rows(self) -> List[Row]:
+        with contextlib.suppress(RuntimeError):
+            if self.answer:
+                return list(self.answer.result())
+        return judge_chunk(self.chunk, self.has_sum)
+
+    def cancel(self) -> None:
+        if self.answer:
+            self.answer.cancel()
+
+
 def judge_by(pool: Any, found: Iterator[Found], has_sum: bool, ahead: int) -> Iterator[List[Row]]:
     """The rows of files that processes judge, of which so many chunks are waited for."""
-    waiting: collections.deque[Any] = collections.deque()
+    waiting: collections.deque[Judged] = collections.deque()
     try:
         for chunk in chunks(found):
-            # Other processes have no standard input.
-            is_ours = any(it.name == inputs.STANDARD_INPUT for it in chunk)
-            while waiting and (is_ours or len(waiting) >= ahead):
-                yield waiting.popleft().result()
-            if is_ours:
-                yield judge_chunk(chunk, has_sum)
-            else:
-                waiting.append(pool.submit(judge_chunk, chunk, has_sum))
+            waiting.append(Judged(pool, chunk, has_sum))
+            # What is judged here may be waited for, after what came before it.
+            while waiting and (waiting[-1].answer is None or len(waiting) >= ahead):
+                yield waiting.popleft().rows()
         while waiting:
-            yield waiting.popleft().result()
+            yield waiting.popleft().rows()
     finally:
         for it in waiting:
             it.cancel()
