@@ -19,6 +19,7 @@ LIMIT = 67108864
 STANDARD_INPUT = b"-"
 # The first longword says whether a file begins as a hunk file.
 LONGWORD = 4
+PIECE = 1 << 20
 
 
 class NoFile(Exception):
@@ -102,10 +103,18 @@ def refuse_first(first: bytes) -> None:
     raise too_large()
 
 
-def read_regular(file: io.FileIO, size: int) -> bytes:
-    if size >= LIMIT:
-        refuse_first(file.read(LONGWORD))
-    return file.readall()
+def read_opened(file: io.FileIO) -> bytes:
+    """The bytes of a file, or what a pipe gives, up to the limit."""
+    state = os.fstat(file.fileno())
+    if stat.S_ISREG(state.st_mode):
+        if state.st_size >= LIMIT:
+            refuse_first(file.read(LONGWORD))
+        return file.readall()
+    pieces, left = [], LIMIT
+    while left and (piece := file.read(min(left, PIECE))):
+        pieces.append(piece)
+        left -= len(piece)
+    return b"".join(pieces)
 
 
 def read_standard_input() -> bytes:
@@ -124,9 +133,7 @@ def read_bytes(found: Found) -> bytes:
         if not found.is_named and not stat.S_ISREG(os.stat(found.name).st_mode):
             raise NoFile
         with open(found.name, "rb", buffering=0) as file:
-            state = os.fstat(file.fileno())
-            is_regular = stat.S_ISREG(state.st_mode)
-            data = read_regular(file, state.st_size) if is_regular else io.BufferedReader(file).read(LIMIT)
+            data = read_opened(file)
     if len(data) >= LIMIT:
         refuse_first(data[:LONGWORD])
     return data
