@@ -38,6 +38,9 @@ hunk 0 8 bytes any
 HEAD = "   text\t   data\t    bss\t    dec\t    hex\tfilename\n"
 SIZE_OF_SUM = "     48\t      0\t     12\t     60\t     3c\tsum\n"
 NO_HUNK_FILE = "refused at byte 0: NotLoadFile: the first longword is not 3F3 (no hunk file)"
+NONE_BETWEEN = "0 object, 0 findings, 0 wide"
+# What sha256sum says of it.
+SUM_OF_TEXT = "982d9e3eb996f559e633f4d194def3761d909f5a3b647d1a851fead67c32c9d1"
 REFUSED = f"""hunk: text: {NO_HUNK_FILE}
 hunk: empty: refused at byte 0: Truncated: the input ends too soon (no hunk file)
 hunk: overlay: refused at byte 36: Overlay: an OVERLAY block, of a file with overlays (not supported)
@@ -95,6 +98,13 @@ RUNS = [
      "hunk 0: content: 1 byte differs, at 0x00000001, 4 bytes more in B\n"
      "hunk 0: blocks: 1 only in A, 0 only in B\n  < SYMBOL\nhunk 0: symbols: 1 only in A, 0 only in B\n  < 0x00000000 _m\n"
      "hunk 1: only in B: BSS 4 bytes any\n", "", 1),
+    ("survey --json text symbol", '{"class": "load", "reason": null, "byte": null, "rest": 0, "name": "symbol"}\n'
+     '{"class": "no hunk file", "reason": "NotLoadFile", "byte": 0, "rest": null, "name": "text"}\n',
+     f"2 files: 1 load, {NONE_BETWEEN}, 1 no hunk file, 0 not supported, 0 damaged, 0 not judged\n", 0),
+    ("survey --sha256 ./text text", f"no hunk file\tNotLoadFile\t0\t-\t{SUM_OF_TEXT}\t-\t./text\n"
+     f"no hunk file\tNotLoadFile\t0\t-\t{SUM_OF_TEXT}\t./text\ttext\n", f"2 files: 0 load, {NONE_BETWEEN}, 2 no hunk file,"
+     " 0 not supported, 0 damaged, 0 not judged; 1 with the bytes of one before\n", 0),
 ]
+# Words that are refused.
 REFUSED_WORDS = ["", "none sum", "show", "show --no sum", "dump --base xyz sum", "dump --base 100000000 sum",
                  "dump --budget -1 sum", "diff sum", "survey --jobs x sum"]

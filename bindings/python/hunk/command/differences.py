@@ -28,7 +28,8 @@ Items = Sequence[Tuple[Hashable, str]]
 
 
 def add_arguments(parser: argparse.ArgumentParser) -> None:
-    parser.add_argument("names", metavar="A B", nargs=2, help="two files; - is standard input")
+    parser.add_argument("first", metavar="A", help="a file; - is standard input")
+    parser.add_argument("second", metavar="B", help="another")
     parser.add_argument("--wide", action="store_true",
                         help="read short relocations, and hunks whose END is left out, as their plain spelling")
     parser.add_argument("--items", action="store_true", help="list the items that only one of them has")
@@ -156,8 +157,8 @@ def compare(a: hunk.File, b: hunk.File, is_listed: bool) -> Iterator[str]:
 
 
 def run(options: argparse.Namespace) -> int:
-    files = [inputs.opened(inputs.Found(os.fsencode(name), True), options.wide) for name in options.names]
-    a, b = files
+    names = map(os.fsencode, (options.first, options.second))
+    a, b = [inputs.opened(inputs.Found(name, True), options.wide) for name in names]
     if a is None or b is None:
         return TROUBLE
     if a.data == b.data:

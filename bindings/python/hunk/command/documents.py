@@ -15,9 +15,9 @@ from hunk.command.words import flag_words, kind_word
 
 NAME = "json"
 HELP = "what stands in files, a document of JSON each"
-DESCRIPTION = """Writes a document of JSON for each file; where several files are named, a list of them. hunk.schema.json
-beside this module says what a document has. Names in files are taken for ISO 8859-1, so each byte of
-them is a character. Of a file that is spelled otherwise (--wide) places are those of the plain spelling."""
+DESCRIPTION = """Writes a document of JSON for each file; where several files are named, a list of them. --schema says what
+a document has. Names in files are taken for ISO 8859-1, so each byte of them is a character. Of a file
+that is spelled otherwise (--wide) places are those of the plain spelling."""
 
 Document = Dict[str, Any]
 
