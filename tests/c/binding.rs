@@ -1,11 +1,8 @@
-//! binding LOAD OBJECTS: holds bindings/rust/hunk.rs to the conformance suite, vectors/load.tsv and vectors/objects.tsv. Prints
-//! each row with another answer, and ends with status 1 where there is one.
+//! binding LOAD OBJECTS: holds the package of bindings/rust to the conformance suite, vectors/load.tsv and vectors/objects.tsv.
+//! Prints each row with another answer, and ends with status 1 where there is one.
 //!
-//! binding --show FILE..: prints what stands in the files by hunk.rs in the words of `hunkinfo show`, after `== FILE` for each.
-//! It ends with status 1 where something does not stand at the place that its row has.
-
-#[path = "../../bindings/rust/hunk.rs"]
-mod hunk;
+//! binding --show FILE..: prints what stands in the files by the package, in the words of `hunkinfo show` after `== FILE` for
+//! each. It ends with status 1 where something does not stand at the place that its row has.
 
 use hunk::{Block, Entry, EntryKind, Error, Fault, File, Finding, Hunk, Kind, Memory, Plain, Reference, Relocation, Spelling, Symbol,
     BUDGET};
