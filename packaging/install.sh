@@ -34,7 +34,8 @@ abi=$(sed -n 's/^#define HUNK_ABI \(UINT32_C(\)\{0,1\}\([0-9][0-9]*\).*/\2/p' bi
 soname=libhunk.so.$abi
 shared=libhunk.so.$version
 files="bin/hunkinfo include/hunk.h lib/libhunk.a lib/$shared lib/$soname lib/libhunk.so lib/pkgconfig/hunk.pc
-  share/man/man1/hunkinfo.1 share/misc/magic.d/hunk share/doc/hunkinfo/OUTPUT.md share/doc/hunkinfo/FORMAT.md"
+  lib/cmake/hunk/hunkConfig.cmake lib/cmake/hunk/hunkConfigVersion.cmake share/man/man1/hunkinfo.1 share/misc/magic.d/hunk
+  share/doc/hunkinfo/OUTPUT.md share/doc/hunkinfo/FORMAT.md"
 # The folders below PREFIX that were made, PREFIX itself as /, each one before the one that it is in.
 record=$to/share/doc/hunkinfo/folders
 if [ $# = 1 ]; then
@@ -98,10 +99,11 @@ Version: $version
 Cflags: -I"\${includedir}"
 Libs: -L"\${libdir}" -lhunk
 END
+sed "s/@VERSION@/$version/" packaging/hunkConfigVersion.cmake > "$work/hunkConfigVersion.cmake"
 
 made=
-for folder in / bin include lib lib/pkgconfig share share/man share/man/man1 share/misc share/misc/magic.d share/doc \
-  share/doc/hunkinfo; do
+for folder in / bin include lib lib/pkgconfig lib/cmake lib/cmake/hunk share share/man share/man/man1 share/misc \
+  share/misc/magic.d share/doc share/doc/hunkinfo; do
   [ -d "$to/$folder" ] || made="$folder $made"
   mkdir -p "$to/$folder"
 done
@@ -114,6 +116,7 @@ install -m 755 "$work/$shared" "$to/lib/$shared"
 ln -sf "$shared" "$to/lib/$soname"
 ln -sf "$soname" "$to/lib/libhunk.so"
 install -m 644 "$work/hunk.pc" "$to/lib/pkgconfig/hunk.pc"
+install -m 644 packaging/hunkConfig.cmake "$work/hunkConfigVersion.cmake" "$to/lib/cmake/hunk"
 install -m 644 docs/hunkinfo.1 "$to/share/man/man1/hunkinfo.1"
 install -m 644 docs/hunk.magic "$to/share/misc/magic.d/hunk"
 install -m 644 docs/OUTPUT.md docs/FORMAT.md "$to/share/doc/hunkinfo"

@@ -1,0 +1,38 @@
+# hunkConfig.cmake: what find_package(hunk) reads. It makes the imported targets hunk::static, the static library, and hunk::hunk,
+# the shared library, or the static one where there is no shared one. It finds them and hunk.h by its own place, so all of them
+# may be moved together: it stands in lib/cmake/hunk, or for Debian in lib/TRIPLET/cmake/hunk, two folders below the libraries.
+if(TARGET hunk::hunk)
+  return()
+endif()
+get_filename_component(_hunk_lib "${CMAKE_CURRENT_LIST_DIR}/../.." REALPATH)
+get_filename_component(_hunk_include "${_hunk_lib}/../include" ABSOLUTE)
+if(NOT EXISTS "${_hunk_include}/hunk.h")
+  get_filename_component(_hunk_include "${_hunk_lib}/../../include" ABSOLUTE)
+endif()
+
+# One of them is there, as the compiler of the machine names it.
+foreach(_hunk_name IN ITEMS libhunk.a hunk.lib)
+  if(NOT TARGET hunk::static AND EXISTS "${_hunk_lib}/${_hunk_name}")
+    add_library(hunk::static STATIC IMPORTED)
+    set_target_properties(hunk::static PROPERTIES
+      IMPORTED_LOCATION "${_hunk_lib}/${_hunk_name}"
+      INTERFACE_INCLUDE_DIRECTORIES "${_hunk_include}")
+  endif()
+endforeach()
+if(EXISTS "${_hunk_lib}/libhunk.so")
+  add_library(hunk::hunk SHARED IMPORTED)
+  set_target_properties(hunk::hunk PROPERTIES
+    IMPORTED_LOCATION "${_hunk_lib}/libhunk.so"
+    INTERFACE_INCLUDE_DIRECTORIES "${_hunk_include}")
+elseif(TARGET hunk::static)
+  add_library(hunk::hunk INTERFACE IMPORTED)
+  set_target_properties(hunk::hunk PROPERTIES INTERFACE_LINK_LIBRARIES hunk::static)
+endif()
+
+if(NOT TARGET hunk::hunk OR NOT EXISTS "${_hunk_include}/hunk.h")
+  set(hunk_FOUND FALSE)
+  set(hunk_NOT_FOUND_MESSAGE "hunk.h or the library is not beside ${CMAKE_CURRENT_LIST_DIR}")
+endif()
+unset(_hunk_lib)
+unset(_hunk_include)
+unset(_hunk_name)
