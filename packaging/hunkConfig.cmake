@@ -10,19 +10,28 @@ if(NOT EXISTS "${_hunk_include}/hunk.h")
   get_filename_component(_hunk_include "${_hunk_lib}/../../include" ABSOLUTE)
 endif()
 
-# One of them is there, as the compiler of the machine names it.
-foreach(_hunk_name IN ITEMS libhunk.a hunk.lib)
-  if(NOT TARGET hunk::static AND EXISTS "${_hunk_lib}/${_hunk_name}")
-    add_library(hunk::static STATIC IMPORTED)
-    set_target_properties(hunk::static PROPERTIES
-      IMPORTED_LOCATION "${_hunk_lib}/${_hunk_name}"
-      INTERFACE_INCLUDE_DIRECTORIES "${_hunk_include}")
+# On Windows the DLL stands in bin, and MSVC's linker, by which it was not tried, takes hunk.lib as the static library.
+set(_hunk_static "${_hunk_lib}/libhunk.a")
+set(_hunk_shared "${_hunk_lib}/libhunk.so")
+set(_hunk_implib "")
+if(WIN32)
+  if(MSVC)
+    set(_hunk_static "${_hunk_lib}/hunk.lib")
   endif()
-endforeach()
-if(EXISTS "${_hunk_lib}/libhunk.so")
+  get_filename_component(_hunk_shared "${_hunk_lib}/../bin/hunk.dll" ABSOLUTE)
+  set(_hunk_implib "${_hunk_lib}/libhunk.dll.a")
+endif()
+if(EXISTS "${_hunk_static}")
+  add_library(hunk::static STATIC IMPORTED)
+  set_target_properties(hunk::static PROPERTIES
+    IMPORTED_LOCATION "${_hunk_static}"
+    INTERFACE_INCLUDE_DIRECTORIES "${_hunk_include}")
+endif()
+if(EXISTS "${_hunk_shared}")
   add_library(hunk::hunk SHARED IMPORTED)
   set_target_properties(hunk::hunk PROPERTIES
-    IMPORTED_LOCATION "${_hunk_lib}/libhunk.so"
+    IMPORTED_LOCATION "${_hunk_shared}"
+    IMPORTED_IMPLIB "${_hunk_implib}"
     INTERFACE_INCLUDE_DIRECTORIES "${_hunk_include}")
 elseif(TARGET hunk::static)
   add_library(hunk::hunk INTERFACE IMPORTED)
@@ -33,6 +42,6 @@ if(NOT TARGET hunk::hunk OR NOT EXISTS "${_hunk_include}/hunk.h")
   set(hunk_FOUND FALSE)
   set(hunk_NOT_FOUND_MESSAGE "hunk.h or the library is not beside ${CMAKE_CURRENT_LIST_DIR}")
 endif()
-unset(_hunk_lib)
-unset(_hunk_include)
-unset(_hunk_name)
+foreach(_hunk_name IN ITEMS lib include static shared implib)
+  unset(_hunk_${_hunk_name})
+endforeach()

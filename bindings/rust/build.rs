@@ -4,13 +4,18 @@
 
 use std::path::{Path, PathBuf};
 use std::process::{exit, Command};
-use std::{env, fmt};
+use std::{env, fmt, fs};
 
-/// The files that a build leaves, and what a linker calls each: of Linux, of Windows by MSVC, and of a clone.
-const STATIC: [(&str, &str); 3] = [("libhunk.a", "hunk"), ("hunk.lib", "hunk"), ("libhunk_c.a", "hunk_c")];
-/// Those that stand for the shared library: of Linux, macOS, and Windows by gcc and by MSVC.
-const SHARED: [(&str, &str); 4] =
-    [("libhunk.so", "hunk"), ("libhunk.dylib", "hunk"), ("libhunk.dll.a", "hunk"), ("hunk.dll.lib", "hunk.dll")];
+/// The files of a library, and what a linker calls each.
+type Files = &'static [(&'static str, &'static str)];
+
+/// What a build leaves of the static library: everywhere, and in a clone.
+const STATIC: Files = &[("libhunk.a", "hunk"), ("libhunk_c.a", "hunk_c")];
+/// What stands for the shared one: of Linux, macOS, and Windows by gcc.
+const SHARED: Files = &[("libhunk.so", "hunk"), ("libhunk.dylib", "hunk"), ("libhunk.dll.a", "hunk")];
+/// The same for MSVC's linker, which was not tried.
+const STATIC_MSVC: Files = &[("hunk.lib", "hunk")];
+const SHARED_MSVC: Files = &[("hunk.dll.lib", "hunk.dll")];
 
 /// What the script goes by, beside the program of pkg-config.
 const SETTINGS: [&str; 7] = ["HUNK_LIB_DIR", "HUNK_STATIC", "DOCS_RS", "PKG_CONFIG", "PKG_CONFIG_PATH", "PKG_CONFIG_LIBDIR",
@@ -40,34 +45,42 @@ fn told(name: &str) -> String {
 
 /// The library in a folder: the static one where there is a choice and none was made.
 fn library_in(folder: &Path) -> Option<Library> {
-    let chosen = env::var("HUNK_STATIC").ok().map(|it| it != "0");
     let is_shared = env::var_os("CARGO_FEATURE_SHARED").is_some();
-    let (takes_static, takes_shared) = match chosen {
-        Some(is_static) => (is_static, !is_static),
-        None => (!is_shared, true),
+    let (takes_static, takes_shared) = match env::var("HUNK_STATIC") {
+        Ok(chosen) => (chosen != "0", chosen == "0"),
+        Err(_) => (!is_shared, true),
     };
-    let files = STATIC.iter().map(|it| (takes_static, "static", it)).chain(SHARED.iter().map(|it| (takes_shared, "dylib", it)));
-    let mut there = files.filter(|(taken, _, it)| *taken && folder.join(it.0).is_file());
-    let (_, kind, &(file, name)) = there.next()?;
-    Some(Library { folder: folder.into(), file, name, kind })
+    let (of_static, of_shared) = match told("CARGO_CFG_TARGET_ENV").as_str() {
+        "msvc" => (STATIC_MSVC, SHARED_MSVC),
+        _ => (STATIC, SHARED),
+    };
+    let first = |kind, files: Files| {
+        let &(file, name) = files.iter().find(|it| folder.join(it.0).is_file())?;
+        Some(Library { folder: folder.into(), file, name, kind })
+    };
+    let found = if takes_static { first("static", of_static) } else { None };
+    found.or_else(|| if takes_shared { first("dylib", of_shared) } else { None })
 }
 
-/// Whether the target runs the code of this machine.
+/// Whether the target has the processor and the system of this machine.
 fn is_native() -> bool {
-    let host = told("HOST");
-    host.starts_with(&told("CARGO_CFG_TARGET_ARCH")) && host.contains(&told("CARGO_CFG_TARGET_OS"))
+    let (host, target) = (told("HOST"), told("TARGET"));
+    host.split('-').next() == target.split('-').next() && host.contains(&told("CARGO_CFG_TARGET_OS"))
 }
 
-/// The folders that belong to this package. What an archive has, and a build of a clone, is for this machine.
+/// The folders that belong to this package. What an archive has, and a build of a clone, is for this machine, but for what the
+/// clone has in a folder for each other machine, whose name the target begins with.
 fn own_folders() -> Vec<PathBuf> {
     let package = PathBuf::from(told("CARGO_MANIFEST_DIR"));
-    let (target, arch, system) = (told("TARGET"), told("CARGO_CFG_TARGET_ARCH"), told("CARGO_CFG_TARGET_OS"));
+    let target = told("TARGET");
     let mut folders = Vec::new();
     if is_native() {
-        let debian = format!("../../../lib/{arch}-{system}-{}", told("CARGO_CFG_TARGET_ENV"));
+        let (arch, system) = (told("CARGO_CFG_TARGET_ARCH"), told("CARGO_CFG_TARGET_OS"));
+        let debian = format!("../../../lib/{arch}-{system}-{}", target.rsplit('-').next().unwrap_or_default());
         folders.extend(["../../../lib", &debian, "../../crates/hunk_c/out"].map(|it| package.join(it)));
     }
-    folders.push(package.join("../../ports/out").join(&target));
+    let ported = fs::read_dir(package.join("../../ports/out")).into_iter().flatten().flatten();
+    folders.extend(ported.filter(|it| target.starts_with(&*it.file_name().to_string_lossy())).map(|it| it.path()));
     folders.push(package.join("native").join(&target));
     folders
 }
@@ -114,7 +127,7 @@ fn main() {
         Ok(library) => println!("{library}"),
         Err(lacking) => {
             eprintln!("hunk: {lacking}.");
-            eprintln!("Set HUNK_LIB_DIR to a folder with libhunk.a or hunk.lib, or with HUNK_STATIC=0 the shared library.");
+            eprintln!("Set HUNK_LIB_DIR to a folder with libhunk.a (MSVC: hunk.lib), or with HUNK_STATIC=0 the shared library.");
             eprintln!("Or install libhunk, and have pkg-config find its hunk.pc by PKG_CONFIG_PATH.");
             exit(1);
         }
