@@ -1,7 +1,7 @@
 //! Reads, checks, loads and strips hunk files, the executables and object files of AmigaDOS.
 //!
-//! The C library `libhunk` does it, whose code is proved to keep its contracts, whatever the bytes are. This package only hands
-//! slices over to it.
+//! The C library `libhunk` does it, whose code is proved to keep its contracts, whatever the bytes are. This package, which hands
+//! slices over to it and makes rows of the answers, is tested, and not proved.
 //!
 //! ```
 //! // A load file in longwords: the header, a hunk of CODE with a relocation and a symbol, and a hunk of DATA.
