@@ -1,12 +1,19 @@
 /* The heap of hunkinfo on processors for which the kit has no C: it stands in for heap.pic.o of the kit's
  * c/liblibc_c.a, which is for x86-64 alone. Trusted, as that is: what it answers is what the contracts of the
- * kit's crate libc say. The library libhunk has no heap, and takes none of this. */
-#include <stdbool.h>
-#include <stdlib.h>
+ * kit's crate libc say. The library libhunk has no heap, and takes none of this.
+ *
+ * The program wants a `struct tried` where LLVM puts it, which on some machines is not where C does. For those the
+ * kit's clang makes a module of this file for x86-64, which ports/retarget.py writes anew. That clang has no headers,
+ * so none is included. */
+typedef __SIZE_TYPE__ size;
+
+void *malloc(size);
+void *realloc(void *, size);
+void free(void *);
 
 /* Whether there was memory, and where; where there was none, a place of no use that is no null pointer. */
 struct tried {
-    bool ok;
+    _Bool ok;
     void *place;
 };
 
@@ -14,20 +21,20 @@ static _Alignas(16) char nothing[16];
 
 static struct tried tried(void *place)
 {
-    struct tried answer = {place != NULL, place != NULL ? place : nothing};
+    struct tried answer = {place != 0, place != 0 ? place : nothing};
     return answer;
 }
 
 /* Alignments divide 16, which malloc keeps to. A block of no bytes has to have a place of its own, too. */
-struct tried rattle_alloc(size_t size, size_t alignment)
+struct tried rattle_alloc(size len, size alignment)
 {
-    return tried(malloc(size != 0 ? size : alignment));
+    return tried(malloc(len != 0 ? len : alignment));
 }
 
-struct tried rattle_realloc(void *place, size_t kept, size_t size, size_t alignment)
+struct tried rattle_realloc(void *place, size kept, size len, size alignment)
 {
     (void)kept;
-    return tried(realloc(place, size != 0 ? size : alignment));
+    return tried(realloc(place, len != 0 ? len : alignment));
 }
 
 void rattle_dealloc(void *place)
