@@ -2,9 +2,9 @@
  * c/liblibc_c.a, which is for x86-64 alone. Trusted, as that is: what it answers is what the contracts of the
  * kit's crate libc say. The library libhunk has no heap, and takes none of this.
  *
- * The program wants a `struct tried` where LLVM puts it, which on some machines is not where C does. For those the
- * kit's clang makes a module of this file for x86-64, which ports/retarget.py writes anew. That clang has no headers,
- * so none is included. */
+ * The program wants an answer where LLVM puts two numbers of 64 bits, which on some machines is not where C puts a
+ * struct of them. For those the kit's clang makes a module of this file for x86-64, which ports/retarget.py writes
+ * anew. That clang has no headers, so none is included. */
 typedef __SIZE_TYPE__ size;
 
 void *malloc(size);
@@ -13,15 +13,14 @@ void free(void *);
 
 /* Whether there was memory, and where; where there was none, a place of no use that is no null pointer. */
 struct tried {
-    _Bool ok;
-    void *place;
+    size ok, place;
 };
 
 static _Alignas(16) char nothing[16];
 
 static struct tried tried(void *place)
 {
-    struct tried answer = {place != 0, place != 0 ? place : nothing};
+    struct tried answer = {place != 0, (size)(place != 0 ? place : nothing)};
     return answer;
 }
 

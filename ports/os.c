@@ -2,6 +2,7 @@
  * args.pic.o and errno.pic.o of the kit's c/libos_c.a, which is for x86-64 alone. Trusted, as those are. */
 #include <errno.h>
 #include <stddef.h>
+#include <stdint.h>
 
 static int count;
 static char **words;
@@ -13,18 +14,18 @@ __attribute__((constructor)) static void keep(int argc, char **argv)
 }
 
 /* Copies a word of the command line to the room, and answers its length: -1 where there is no such word, and
- * -2 where it is longer than the room. */
-ptrdiff_t rattle_arg(size_t number, unsigned char *room, size_t room_len)
+ * -2 where it is longer than the room. Numbers have 64 bits on every machine. */
+int64_t rattle_arg(uint64_t number, unsigned char *room, uint64_t room_len)
 {
-    if (number >= (size_t)count || words[number] == NULL)
+    if (number >= (uint64_t)count || words[number] == NULL)
         return -1;
-    size_t len = 0;
+    uint64_t len = 0;
     for (; words[number][len] != 0; len++) {
         if (len == room_len)
             return -2;
         room[len] = (unsigned char)words[number][len];
     }
-    return (ptrdiff_t)len;
+    return (int64_t)len;
 }
 
 int rattle_errno(void)

@@ -21,7 +21,7 @@ class Machine:
 
 
 LINUX = {
-    "armv7": Machine("armv7-unknown-linux-gnueabihf", ["-mfpu=vfpv3-d16", "-mfloat-abi=hard", "-O3", "-fPIC"]),
+    "armv7": Machine("armv7-unknown-linux-gnueabihf", ["-mthumb", "-mfpu=vfpv3-d16", "-mfloat-abi=hard", "-O3", "-fPIC"]),
     "armv6": Machine("armv6-unknown-linux-gnueabihf", ["-mcpu=arm1176jzf-s", "-mfloat-abi=hard", "-O3", "-fPIC"]),
     "riscv64": Machine("riscv64-unknown-linux-gnu", ["-march=rv64gc", "-mabi=lp64d", "-O3", "-fPIC"]),
 }
