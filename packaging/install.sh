@@ -2,8 +2,9 @@
 # [DESTDIR=..] [PREFIX=..] [TARGET=..] packaging/install.sh [uninstall]: puts the program, the C library with its header, the manual
 # page, two pages and the lines for `file` where a distribution has them, below PREFIX (/usr/local), all of that below DESTDIR where
 # one is given; or takes them away, with the folders that it made, where these are empty then. They are what `rt run` in
-# crates/hunkinfo and `rt lib` in crates/hunk_c have built, or where TARGET is aarch64-unknown-linux-gnu what `ports/build` has for
-# it; PROGRAM and LIBRARY name others. It needs a C compiler for that machine (CC, with options or without), for libhunk.so.
+# crates/hunkinfo and `rt lib` in crates/hunk_c have built, or where TARGET is aarch64-unknown-linux-gnu, armv7 or riscv64 what
+# `ports/build` has for it; PROGRAM and LIBRARY name others. It needs a C compiler for that machine (CC, with options or without), for
+# libhunk.so.
 set -eu
 umask 022
 lack() {
@@ -61,10 +62,13 @@ case ${TARGET:-} in
     library_by='(cd crates/hunk_c && rt lib)'
     program_by='(cd crates/hunkinfo && rt run < stdin)'
     ;;
-  aarch64-unknown-linux-gnu)
+  aarch64-unknown-linux-gnu | armv7 | riscv64)
     LIBRARY=${LIBRARY:-ports/out/$TARGET/libhunk.a}
     PROGRAM=${PROGRAM:-ports/out/$TARGET/hunkinfo}
-    CC=${CC:-aarch64-linux-gnu-gcc}
+    case $TARGET in
+      armv7) CC=${CC:-arm-linux-gnueabihf-gcc} ;;
+      *) CC=${CC:-${TARGET%%-*}-linux-gnu-gcc} ;;
+    esac
     library_by="ports/build $TARGET"
     program_by=$library_by
     ;;

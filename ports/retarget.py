@@ -51,7 +51,7 @@ BYTES = r'\[[0-9]+ x i8\] (?:c"[^"]*"|zeroinitializer)'
 # A line of a module that stays as it is.
 STAYS = [re.compile(form) for form in (
     r"|;.*|source_filename = .*|![0-9]+ = .*|!llvm\.ident = .*|\}",
-    rf"{NAME} = (?:private |internal )?(?:unnamed_addr )?constant \[[0-9]+ x i8\] (?:c\".*\"|zeroinitializer), align [0-9]+",
+    rf"{NAME} = (?:private |internal )?(?:unnamed_addr )?(?:constant|global) {BYTES}, align [0-9]+",
     rf"declare{SAID} {RESULT} {NAME}{PARAMETERS}(?: #[0-9]+)?",
     rf"define(?: internal| dso_local)?{SAID} {RESULT} {NAME}{PARAMETERS}(?: #[0-9]+)? \{{",
     rf"{WORD}:(?: *;.*)?",

@@ -1,9 +1,12 @@
-/* How much stack each call needs: no more than hunk.h says. Status 1 where one needs more. */
+/* How much stack each call needs: no more than hunk.h says. Status 1 where one needs more. With a word after its name it
+ * prints how much. */
 #include "guarded.h"
 #include <pthread.h>
 
 #define STACK (1 << 18)
+#ifndef ALL
 #define ALL 1024           /* bytes that each call may need */
+#endif
 #define PACKED (6 * 1024)  /* that hunk_load_packed may */
 #define HUNKS 2
 #define HEADER 28
@@ -165,8 +168,9 @@ static size_t stack_of(void (*make)(void))
     return STACK - unused;
 }
 
-int main(void)
+int main(int argc, char **argv)
 {
+    (void)argv;
     put_longs(file, load_longs, sizeof file);
     put_longs(wide, wide_longs, sizeof wide);
     put_longs(object, object_longs, sizeof object);
@@ -174,6 +178,8 @@ int main(void)
     size_t none = stack_of(nothing);
     for (size_t i = 0; i < sizeof calls / sizeof *calls; i++) {
         size_t needed = stack_of(calls[i].make) - none;
+        if (argc > 1)
+            printf("%zu %s\n", needed, calls[i].name);
         expect(answer.number == HUNK_OK, calls[i].name, "an answer");
         expect(needed <= calls[i].most, calls[i].name, "the stack");
     }

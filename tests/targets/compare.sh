@@ -62,12 +62,16 @@ both() {
     lack "tests/c/$name.c fails on $what"
   same "tests/c/$name.c on $what" "$work/here.$name" "$work/there.$name"
 }
-# compares WHAT: the library of the machine with that of this one, by each answer and each row
-compares() {
+# dumps WHAT: what tests/targets/dump.c prints of the files, on the machine
+dumps() {
   compiles dump "$here/dump.c"
   # shellcheck disable=SC2086
-  (cd "$work/files" && $emulator "$work/there-dump" < "$work/names") > "$work/there"
+  (cd "$work/files" && $emulator "$work/there-dump" < "$work/names") > "$work/there" || lack "tests/targets/dump.c fails on $1"
   same "the library on $1" "$work/native" "$work/there"
+}
+# compares WHAT: the library of the machine with that of this one, by each answer and each row
+compares() {
+  dumps "$1"
   mkdir -p "$work/stripped"
   both "$1" "$work/names" checks "$work/stripped"
   both "$1" "$work/names" tables

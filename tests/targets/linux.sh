@@ -1,47 +1,72 @@
 # shellcheck shell=sh disable=SC2154,SC2034
-# Linux on other processors, under qemu: a part of tests/targets/run.
+# Linux on other processors, under qemu: a part of tests/targets/run. With --few armv6 is left to a full run, and riscv64's library is
+# held to the answers and the header alone. Debian's C library for 32-bit Arm is for ARMv7: for armv6 the library is tried, not the program.
 
-# linux TARGET COMPILER EMULATOR: holds what is built for TARGET to what is here
-linux() {
+# machine TARGET: sets what names its tools and its library; where a tool is not there, a line says so
+machine() {
+  case $1 in
+    arm*) system=arm-linux-gnueabihf processor=arm ;;
+    *) system=${1%%-*}-linux-gnu processor=${1%%-*} ;;
+  esac
   target=$1
-  compiler="$2 -static"
-  emulator=$3
-  has "$target" "$2" "$3" || return 0
-  builds "$target"
+  emulator=qemu-$processor
+  compiler="$system-gcc -static"
+  # What each call may need of stack, but for hunk_load_packed: 64 bytes more where the code is Arm's own, and not Thumb-2.
+  [ "$1" != armv6 ] || compiler="$compiler -DALL=1088"
   archive=$top/ports/out/$target/libhunk.a
+  has "$target" "$system-gcc" "$emulator"
+}
+# linux: holds the library to what is here
+linux() {
   compares "$target"
   holds "$target" header 'the header and the library differ'
   holds "$target" stack 'a call needs more stack than hunk.h says'
   [ -z "$few" ] || return 0
   holds "$target" large 'an answer about a large file is not what hunk.h says'
 }
-# program TARGET EMULATOR: holds the program for TARGET to what the one of this machine says of every input
+# briefly: the answers, and the header
+briefly() {
+  dumps "$target"
+  holds "$target" header 'the header and the library differ'
+}
+# program: holds the program to what the one of this machine says of every input
 program() {
-  made=$top/ports/out/$1/hunkinfo
-  printf '#!/bin/sh\nexec %s %s "$@"\n' "$2" "$made" > "$work/hunkinfo"
+  made=$top/ports/out/$target/hunkinfo
+  printf '#!/bin/sh\nexec %s %s "$@"\n' "$emulator" "$made" > "$work/hunkinfo"
   chmod +x "$work/hunkinfo"
   vectors/every "$work/hunkinfo" > "$work/every.there"
-  same "hunkinfo on $1" "$work/every" "$work/every.there"
+  same "hunkinfo on $target" "$work/every" "$work/every.there"
 }
-# As ports/README.md installs it; the shared library is linked by the system of that machine.
-installed_arm() {
-  CC='' TARGET=aarch64-unknown-linux-gnu PREFIX=/usr DESTDIR=$work/there.root packaging/install.sh
-  aarch64-linux-gnu-gcc -std=c99 -O1 -I"$work/there.root/usr/include" bindings/c/examples/check.c -L"$work/there.root/usr/lib" \
+# installed: as ports/README.md installs it; the shared library is linked by the system of that machine
+installed() {
+  rm -rf "$work/there.root"
+  CC='' TARGET=$target PREFIX=/usr DESTDIR=$work/there.root packaging/install.sh
+  "$system-gcc" -std=c99 -O1 -I"$work/there.root/usr/include" bindings/c/examples/check.c -L"$work/there.root/usr/lib" \
     -lhunk -o "$work/check"
   printf 'unit 0 hunk 0 offset 2: %s\n' 'no such target' 'outside of the hunk' > "$work/wanted"
   echo 'object file: 2 findings' >> "$work/wanted"
-  qemu-aarch64 -L /usr/aarch64-linux-gnu -E "LD_LIBRARY_PATH=$work/there.root/usr/lib" "$work/check" \
+  "$emulator" -L "/usr/$system" -E "LD_LIBRARY_PATH=$work/there.root/usr/lib" "$work/check" \
     "$work/files/29-two-findings" > "$work/said" || true
-  same 'libhunk.so on aarch64' "$work/wanted" "$work/said"
+  same "libhunk.so on $target" "$work/wanted" "$work/said"
 }
 
-linux aarch64-unknown-linux-gnu aarch64-linux-gnu-gcc qemu-aarch64
-linux armv7 arm-linux-gnueabihf-gcc qemu-arm
-linux armv6 arm-linux-gnueabihf-gcc qemu-arm
-linux riscv64 riscv64-linux-gnu-gcc qemu-riscv64
-if [ "$few" ]; then
-  echo 'tests/targets: hunkinfo was not tried on other processors (--few)'
-elif has 'hunkinfo on aarch64' aarch64-linux-gnu-gcc qemu-aarch64; then
-  program aarch64-unknown-linux-gnu qemu-aarch64
-  installed_arm
-fi
+targets=
+for target in aarch64-unknown-linux-gnu armv7 riscv64 ${few:-armv6}; do
+  case $target in --*) continue ;; esac
+  machine "$target" || continue
+  targets="$targets $target"
+done
+# shellcheck disable=SC2086
+[ -z "$targets" ] || builds $targets
+for target in $targets; do
+  machine "$target"
+  case $few$target in
+    --*riscv64) briefly ;;
+    *) linux ;;
+  esac
+  [ "$few" ] || [ ! -x "ports/out/$target/hunkinfo" ] || {
+    program
+    installed
+  }
+done
+[ -z "$few" ] || echo 'tests/targets: armv6, and hunkinfo on other processors, were not tried (--few)'
