@@ -28,7 +28,8 @@ class Machine:
 
 # The code for ARMv7 is Thumb-2: two thirds of the bytes, and a little less stack. Debian's C library for 32-bit Arm is for ARMv7.
 LINUX = {
-    "armv7": Machine("armv7-unknown-linux-gnueabihf", ["-mthumb", "-mfpu=vfpv3-d16", "-mfloat-abi=hard", "-O3", "-fPIC"], "arm-linux-gnueabihf"),
+    "armv7": Machine("armv7-unknown-linux-gnueabihf", ["-mthumb", "-mfpu=vfpv3-d16", "-mfloat-abi=hard", "-O3", "-fPIC"],
+                     "arm-linux-gnueabihf"),
     "armv6": Machine("armv6-unknown-linux-gnueabihf", ["-mcpu=arm1176jzf-s", "-mfloat-abi=hard", "-O3", "-fPIC"]),
     "riscv64": Machine("riscv64-unknown-linux-gnu", ["-march=rv64gc", "-mabi=lp64d", "-O3", "-fPIC"], "riscv64-linux-gnu"),
 }

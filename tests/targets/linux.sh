@@ -1,6 +1,7 @@
 # shellcheck shell=sh disable=SC2154,SC2034
-# Linux on other processors, under qemu: a part of tests/targets/run. With --few armv6 is left to a full run, and riscv64's library is
-# held to the answers and the header alone. Debian's C library for 32-bit Arm is for ARMv7: for armv6 the library is tried, not the program.
+# Linux on other processors, under qemu: a part of tests/targets/run. With --few armv6 is left to a full run, and riscv64's
+# library is held to the answers and the header alone. Debian's C library for 32-bit Arm is for ARMv7: for armv6 the library is
+# tried, not the program.
 
 # machine TARGET: sets what names its tools and its library; where a tool is not there, a line says so
 machine() {
