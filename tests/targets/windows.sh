@@ -1,0 +1,60 @@
+# shellcheck shell=sh disable=SC2154,SC2034
+# Windows on x86-64, under wine: a part of tests/targets/run. The folder windows has what the tests from C take in place of Linux's.
+
+windows=x86_64-pc-windows
+# starts_wine: makes a folder of wine's own, so that nothing of the user's is touched, and sees to it that nothing of it stays
+starts_wine() {
+  export WINEPREFIX="$work/wine" WINEDEBUG=-all WINEDLLOVERRIDES='mscoree,mshtml='
+  trap 'wineserver -k 2> /dev/null || true; rm -rf "$work"' EXIT
+  wine cmd /c ver > "$work/log" 2>&1 || lack "wine does not start: $(tail -n 1 "$work/log")"
+  # What xargs gives to a program is more than a command line of Windows takes: windows/words.h reads it from a file.
+  cat > "$work/on-wine" << END
+#!/bin/sh
+program=\$1
+shift
+[ \$# -gt 0 ] || exec wine "\$program"
+printf '%s\n' "\$@" > '$work/words'
+exec wine "\$program" '@$work/words'
+END
+  chmod +x "$work/on-wine"
+}
+# links WHAT LIBRARY..: each answer and each row, by another library of the same
+links() {
+  what=$1
+  shift
+  # shellcheck disable=SC2086
+  $compiler -std=c99 -O1 -Ibindings/c "$here/dump.c" "$@" -o "$work/there-linked.exe" > "$work/log" 2>&1 ||
+    lack "tests/targets/dump.c with $what: $(head -n 1 "$work/log")"
+  (cd "$work/files" && $emulator "$work/there-linked.exe" < "$work/names") > "$work/there"
+  same "$what" "$work/native" "$work/there"
+}
+
+if has Windows x86_64-w64-mingw32-gcc wine wineserver; then
+  builds "$windows"
+  # What each call may need of stack, but for hunk_load_packed: the caller keeps 32 bytes for each call there, and a function more.
+  compiler="x86_64-w64-mingw32-gcc -I$here/windows -include $here/windows/words.h -DALL=1408"
+  archive=$top/ports/out/$windows/libhunk.a
+  emulator=$work/on-wine
+  starts_wine
+  compares Windows
+  holds Windows header 'the header and the library differ'
+  holds Windows stack 'a call needs more stack than hunk.h says'
+  cp "ports/out/$windows/hunk.dll" "$work"
+  links hunk.dll "ports/out/$windows/libhunk.dll.a"
+  # Its name of the stack probe is that of the C library of MSVC.
+  links hunk.lib "ports/out/$windows/hunk.lib" -Wl,--defsym=__chkstk=___chkstk_ms
+  if [ "$few" ]; then
+    echo 'tests/targets: hunkinfo was not tried on Windows (--few)'
+  else
+    holds Windows large 'an answer about a large file is not what hunk.h says'
+    x86_64-w64-mingw32-gcc -municode -O1 "$here/windows/word.c" -o "$work/word.exe"
+    "$here/windows_program" "$program" "ports/out/$windows/hunkinfo.exe" "$work/files" "$work/word.exe" > "$work/told" ||
+      lack "hunkinfo.exe: $(head -n 1 "$work/told")"
+    cat "$work/told"
+    pass
+    printf '#!/bin/sh\nexec wine %s "$@"\n' "$top/ports/out/$windows/hunkinfo.exe" > "$work/hunkinfo"
+    chmod +x "$work/hunkinfo"
+    vectors/every "$work/hunkinfo" > "$work/every.there"
+    same 'hunkinfo.exe' "$work/every" "$work/every.there"
+  fi
+fi
