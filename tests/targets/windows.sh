@@ -12,9 +12,9 @@ starts_wine() {
 #!/bin/sh
 program=\$1
 shift
-[ \$# -gt 0 ] || exec wine "\$program"
+[ \$# -gt 0 ] || exec wine "\$program.exe"
 printf '%s\n' "\$@" > '$work/words'
-exec wine "\$program" '@$work/words'
+exec wine "\$program.exe" '@$work/words'
 END
   chmod +x "$work/on-wine"
 }
@@ -23,9 +23,9 @@ links() {
   what=$1
   shift
   # shellcheck disable=SC2086
-  $compiler -std=c99 -O1 -Ibindings/c "$here/dump.c" "$@" -o "$work/there-linked.exe" > "$work/log" 2>&1 ||
+  $compiler -std=c99 -O1 -Ibindings/c "$here/dump.c" "$@" -o "$work/there-linked" > "$work/log" 2>&1 ||
     lack "tests/targets/dump.c with $what: $(head -n 1 "$work/log")"
-  (cd "$work/files" && $emulator "$work/there-linked.exe" < "$work/names") > "$work/there"
+  (cd "$work/files" && $emulator "$work/there-linked" < "$work/names") > "$work/there"
   same "$what" "$work/native" "$work/there"
 }
 
