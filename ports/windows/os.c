@@ -1,7 +1,9 @@
-/* What hunkinfo asks of the system, on Windows: what the C library and the kit's c/libos_c.a answer on Linux. Trusted, as those are.
+/* What hunkinfo asks of the system, on Windows: what the C library and the kit's c/libos_c.a answer
+ * on Linux. Trusted, as those are.
  *
- * Names and words are UTF-8 on the side of the program, and UTF-16 on that of Windows. A number of a file is its handle,
- * which Windows keeps within 32 bits; 0, 1 and 2 are the standard streams. Bytes stay as they are in both directions. */
+ * Names and words are UTF-8 on the side of the program, and UTF-16 on that of Windows. A number of
+ * a file is its handle, which Windows keeps within 32 bits; 0, 1 and 2 are the standard streams.
+ * Bytes stay as they are in both directions. */
 #define UNICODE
 #define WIN32_LEAN_AND_MEAN
 #include <windows.h>
@@ -18,7 +20,8 @@
 #define TO_READ 02000400
 #define TO_OVERWRITE 02001501
 
-/* The errors that Linux has, too, by its numbers, which the program knows. Those of errno.h are the same there. */
+/* The errors that Linux has, too, by its numbers, which the program knows. Those of errno.h are the
+ * same there. */
 #define LONG_NAME 36
 static const struct {
     int number;
@@ -79,9 +82,11 @@ int __xpg_strerror_r(int number, char *room, int64_t room_len)
             lstrcpynA(room, errors[i].text, (int)room_len);
             return 0;
         }
-    DWORD how = FORMAT_MESSAGE_FROM_SYSTEM | FORMAT_MESSAGE_IGNORE_INSERTS | FORMAT_MESSAGE_MAX_WIDTH_MASK;
+    DWORD how = FORMAT_MESSAGE_FROM_SYSTEM | FORMAT_MESSAGE_IGNORE_INSERTS |
+                FORMAT_MESSAGE_MAX_WIDTH_MASK;
     DWORD english = MAKELANGID(LANG_ENGLISH, SUBLANG_ENGLISH_US);
-    DWORD len = FormatMessageA(how, NULL, (DWORD)(number - OF_WINDOWS), english, room, (DWORD)room_len, NULL);
+    DWORD len = FormatMessageA(how, NULL, (DWORD)(number - OF_WINDOWS), english, room,
+                               (DWORD)room_len, NULL);
     if (len == 0)
         lstrcpynA(room, "an error of Windows", (int)room_len);
     for (; len > 0 && (room[len - 1] == ' ' || room[len - 1] == '.'); len--)
@@ -89,8 +94,9 @@ int __xpg_strerror_r(int number, char *room, int64_t room_len)
     return 0;
 }
 
-/* Puts a word of the command line into the room, and answers its length: -1 where there is no such word, and -2 where it is
- * longer than the room. One that is no Unicode becomes a byte that is no UTF-8, which the program refuses. */
+/* Puts a word of the command line into the room, and answers its length: -1 where there is no such
+ * word, and -2 where it is longer than the room. One that is no Unicode becomes a byte that is no
+ * UTF-8, which the program refuses. */
 int64_t rattle_arg(int64_t number, char *room, int64_t room_len)
 {
     static int count;
@@ -102,7 +108,8 @@ int64_t rattle_arg(int64_t number, char *room, int64_t room_len)
     if (room_len == 0)
         return -2;
     const wchar_t *word = number == 0 ? L"hunkinfo" : words != NULL ? words[number] : L"\xD800";
-    int len = WideCharToMultiByte(CP_UTF8, WC_ERR_INVALID_CHARS, word, -1, room, (int)room_len, NULL, NULL);
+    int len = WideCharToMultiByte(CP_UTF8, WC_ERR_INVALID_CHARS, word, -1, room, (int)room_len,
+                                  NULL, NULL);
     if (len > 0)
         return len - 1;
     if (GetLastError() == ERROR_INSUFFICIENT_BUFFER)
@@ -135,7 +142,9 @@ int open(const char *path, int flags, ...)
         return (int)(intptr_t)file;
     failed();
     DWORD is = GetFileAttributesW(name);
-    return last == EACCES && is != INVALID_FILE_ATTRIBUTES && is & FILE_ATTRIBUTE_DIRECTORY ? fails(EISDIR) : -1;
+    if (last == EACCES && is != INVALID_FILE_ATTRIBUTES && is & FILE_ATTRIBUTE_DIRECTORY)
+        last = EISDIR;
+    return -1;
 }
 
 int close(int fd)
@@ -208,8 +217,8 @@ struct statx {
 
 _Static_assert(sizeof(struct statx) == 256, "as on Linux");
 
-/* Two files of a volume have two numbers, but where they have more than 64 bits, as on ReFS: there, that two are the same is likely
- * and not sure. */
+/* A file's number and that of its volume tell whether two names are of one file. On ReFS, whose
+ * numbers have 128 bits, two files may have the same 64. */
 static int describe(HANDLE file, struct statx *found)
 {
     BY_HANDLE_FILE_INFORMATION is;
@@ -233,7 +242,8 @@ int statx(int fd, const char *path, int flags, int mask, struct statx *found)
     wchar_t name[PATH_LEN];
     if (!widen(path, name))
         return failed();
-    HANDLE file = CreateFileW(name, 0, SHARED, NULL, OPEN_EXISTING, FILE_FLAG_BACKUP_SEMANTICS, NULL);
+    HANDLE file = CreateFileW(name, 0, SHARED, NULL, OPEN_EXISTING, FILE_FLAG_BACKUP_SEMANTICS,
+                              NULL);
     if (file == INVALID_HANDLE_VALUE)
         return failed();
     int answer = describe(file, found);

@@ -1,5 +1,6 @@
 # shellcheck shell=sh disable=SC2154,SC2034
-# Windows on x86-64, under wine: a part of tests/targets/run. The folder windows has what the tests from C take in place of Linux's.
+# Windows on x86-64, under wine: a part of tests/targets/run. The folder windows has what the tests from C take in place of
+# Linux's.
 
 windows=x86_64-pc-windows
 # starts_wine: makes a folder of wine's own, so that nothing of the user's is touched, and sees to it that nothing of it stays
@@ -31,8 +32,8 @@ links() {
 
 if has Windows x86_64-w64-mingw32-gcc wine wineserver; then
   builds "$windows"
-  # What each call may need of stack, but for hunk_load_packed: the caller keeps 32 bytes for each call there, and a function more.
-  compiler="x86_64-w64-mingw32-gcc -I$here/windows -include $here/windows/words.h -DALL=1408"
+  # What each call may need of stack, but for hunk_load_packed: a caller keeps room there for what it calls.
+  compiler="x86_64-w64-mingw32-gcc -I$here/windows -include $here/windows/words.h -DALL=1536"
   archive=$top/ports/out/$windows/libhunk.a
   emulator=$work/on-wine
   starts_wine

@@ -1,5 +1,5 @@
-/* What tests/c/stack.c asks of threads, for Windows, where no thread runs on a stack that is given to it: a function that
- * runs there, and then the caller goes on. */
+/* What tests/c/stack.c asks of threads, for Windows, where no thread runs on a stack that is given
+ * to it: here the function runs on that stack, and the caller waits. */
 #ifndef PTHREAD_H
 #define PTHREAD_H
 
@@ -22,7 +22,8 @@ static inline int pthread_attr_setstack(pthread_attr_t *attributes, void *stack,
     return 0;
 }
 
-/* The caller's stack is kept where a call keeps what it finds. Below the top is room for the function's arguments. */
+/* The caller's stack pointer is kept in a register that a call leaves as it is. Below the top is
+ * room for what the function may keep with its caller. */
 static inline int pthread_create(pthread_t *thread, const pthread_attr_t *attributes,
                                  void *(*run)(void *), void *argument)
 {

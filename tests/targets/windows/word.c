@@ -1,4 +1,5 @@
-/* word PROGRAM: runs it on `show` and a word that is no Unicode, half of a character in UTF-16, and ends with its status. */
+/* word PROGRAM: runs it on `show` and a word that is no Unicode, half of a character in UTF-16, and
+ * ends with its status. */
 #include <stdio.h>
 #include <wchar.h>
 #include <windows.h>

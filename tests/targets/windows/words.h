@@ -1,5 +1,6 @@
-/* What each test includes first for Windows. Standard input and output are binary, as on Linux. A command line takes 32,767
- * characters there, which the names of all files exceed: the words of `@FILE` are the lines of this file. */
+/* What each test includes first for Windows. Standard input and output are binary, as on Linux. A
+ * command line takes 32,767 characters there, and the names of all files have more: the words of
+ * `@FILE` are the lines of this file. */
 #include <fcntl.h>
 #include <io.h>
 #include <stdio.h>
