@@ -40,6 +40,9 @@ if has Windows x86_64-w64-mingw32-gcc wine wineserver; then
   compares Windows
   holds Windows header 'the header and the library differ'
   holds Windows stack 'a call needs more stack than hunk.h says'
+  needed=$(x86_64-w64-mingw32-objdump -p "ports/out/$windows/hunk.dll" | sed -n 's/.*DLL Name: //p')
+  [ "$needed" = ntdll.dll ] || lack "hunk.dll needs $needed"
+  pass
   cp "ports/out/$windows/hunk.dll" "$work"
   links hunk.dll "ports/out/$windows/libhunk.dll.a"
   # Its name of the stack probe is that of the C library of MSVC.
