@@ -11,6 +11,9 @@ AR = KIT / "toolchain/bin/llvm-ar"
 # The functions of the C library that the program asks, which ports/system.c asks in its place.
 ASKED = ["open", "close", "read", "write", "lseek", "fsync", "statx", "__xpg_strerror_r", "__sysv_signal"]
 ALLOCATES = ["malloc", "realloc", "free"]
+LINKER = KIT / "toolchain/bin/ld.lld"
+# The calls that load a file piece by piece; hunk_want is left out, which a loader can do without.
+STREAM = ["hunk_table", "hunk_begin", "hunk_feed", "hunk_end"]
 # What `rattle` has clang do on each machine.
 SAME = ["--no-default-config", "-no-canonical-prefixes", "-fno-crash-diagnostics", "-Werror", "-ffunction-sections", "-fdata-sections"]
 for pass_ in ("no-trap-after-noreturn", "trap-unreachable", "disable-machine-licm", "disable-postra-machine-licm", "sink-common-insts=false"):
@@ -33,11 +36,13 @@ LINUX = {
     "armv6": Machine("armv6-unknown-linux-gnueabihf", ["-mcpu=arm1176jzf-s", "-mfloat-abi=hard", "-O3", "-fPIC"]),
     "riscv64": Machine("riscv64-unknown-linux-gnu", ["-march=rv64gc", "-mabi=lp64d", "-O3", "-fPIC"], "riscv64-linux-gnu"),
 }
+# The functions of a module do not say that they are to be small, and without that -Os is nearly -O2.
+SMALL = ["-Os", "-mllvm", "-force-attribute=optsize"]
 # On Arm the library is to ask for memcpy, memmove and memset by these names, as everywhere, so -meabi gnu.
 BOARDS = {
-    "cortex-m4": Machine("thumbv7em-none-eabi", ["-mcpu=cortex-m4", "-Os", "-meabi", "gnu"]),
-    "cortex-m0": Machine("thumbv6m-none-eabi", ["-mcpu=cortex-m0", "-Os", "-meabi", "gnu"]),
-    "riscv32": Machine("riscv32-unknown-elf", ["-march=rv32imac", "-mabi=ilp32", "-Os"]),
+    "cortex-m4": Machine("thumbv7em-none-eabi", ["-mcpu=cortex-m4", *SMALL, "-meabi", "gnu"]),
+    "cortex-m0": Machine("thumbv6m-none-eabi", ["-mcpu=cortex-m0", *SMALL, "-meabi", "gnu"]),
+    "riscv32": Machine("riscv32-unknown-elf", ["-march=rv32imac", "-mabi=ilp32", *SMALL]),
 }
 
 
@@ -74,10 +79,20 @@ def build_program(module, machine, to):
         run([compiler, "-static", "-s", "-Wl,--gc-sections", "hunkinfo.o", "heap.o", *c, "-o", to / "hunkinfo"], folder)
 
 
+def archive(made, member):
+    """An archive of one object file, as on each run."""
+    made.unlink(missing_ok=True)
+    run([AR, "rcsD", made, member.name], member.parent)
+
+
 def build_library(module, machine, to):
-    """libhunk.a, of hunk_c's module."""
+    """libhunk.a, of hunk_c's module. On a board also libhunk-stream.a, of what STREAM's calls need alone, for a linker that does not
+    drop sections."""
     with tempfile.TemporaryDirectory() as name:
-        compile_module(module, machine, pathlib.Path(name) / "hunk.o")
-        made = to / "libhunk.a"
-        made.unlink(missing_ok=True)
-        run([AR, "rcsD", made, "hunk.o"], name)
+        whole, stream = pathlib.Path(name) / "hunk.o", pathlib.Path(name) / "hunk-stream.o"
+        compile_module(module, machine, whole)
+        archive(to / "libhunk.a", whole)
+        if machine in BOARDS.values():
+            needed = [word for call in STREAM for word in ("-u", call)]
+            run([LINKER, "-r", "--gc-sections", *needed, whole, "-o", stream], name)
+            archive(to / "libhunk-stream.a", stream)
