@@ -86,8 +86,8 @@ def archive(made, member):
 
 
 def build_library(module, machine, to):
-    """libhunk.a, of hunk_c's module. On a board also libhunk-stream.a, of what STREAM's calls need alone, for a linker that does not
-    drop sections."""
+    """libhunk.a, of hunk_c's module. On a board also libhunk-stream.a, of what STREAM's calls need alone, for a linker that drops no
+    sections."""
     with tempfile.TemporaryDirectory() as name:
         whole, stream = pathlib.Path(name) / "hunk.o", pathlib.Path(name) / "hunk-stream.o"
         compile_module(module, machine, whole)

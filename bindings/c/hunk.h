@@ -5,7 +5,7 @@
  * is in docs/PROVED.md of the source tree. A call reads and writes only what its arguments point
  * to, asks for no memory, and keeps nothing between two calls. So threads may call at the same
  * time, as long as no call writes memory that another one uses. hunk_load_packed needs 6 KiB of
- * stack, each other call less than 1 KiB, or on Windows 1.5 KiB.
+ * stack. Each other call needs less than 1 KiB, on Arm of 32 bits 1.25, and on Windows 1.5.
  *
  * What the caller has to make sure of:
  * - Each pointer points to as many elements as its length says, aligned for their type. Where the

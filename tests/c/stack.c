@@ -1,11 +1,16 @@
-/* How much stack each call needs: no more than hunk.h says. Status 1 where one needs more. With a word after its name it
- * prints how much. */
+/* How much stack each call needs: no more than hunk.h says. Status 1 where one needs more. With
+ * SHOW_STACK defined it prints the bytes and the name of each call. */
 #include "guarded.h"
-#include <pthread.h>
+#include "painted.h"
 
-#define STACK (1 << 18)
-#ifndef ALL
-#define ALL 1024           /* bytes that each call may need */
+/* The bytes that each call may need, as hunk.h has them. */
+#if defined ALL
+#elif defined _WIN32
+#define ALL 1536
+#elif defined __arm__
+#define ALL 1280
+#else
+#define ALL 1024
 #endif
 #define PACKED (6 * 1024)  /* that hunk_load_packed may */
 #define HUNKS 2
@@ -146,31 +151,8 @@ static const struct {
     {"hunk_reason_text", meaning, ALL},
 };
 
-static void *run(void *make)
+int main(void)
 {
-    (*(void (**)(void))make)();
-    return NULL;
-}
-
-/* The bytes of a thread's stack that it changes. */
-static size_t stack_of(void (*make)(void))
-{
-    static uint8_t stack[STACK];
-    pthread_t thread;
-    pthread_attr_t attributes;
-    memset(stack, MARK, STACK);
-    if (pthread_attr_init(&attributes) || pthread_attr_setstack(&attributes, stack, STACK) ||
-        pthread_create(&thread, &attributes, run, &make) || pthread_join(thread, NULL))
-        exit(3);
-    size_t unused = 0;
-    while (stack[unused] == MARK)
-        unused++;
-    return STACK - unused;
-}
-
-int main(int argc, char **argv)
-{
-    (void)argv;
     put_longs(file, load_longs, sizeof file);
     put_longs(wide, wide_longs, sizeof wide);
     put_longs(object, object_longs, sizeof object);
@@ -178,8 +160,9 @@ int main(int argc, char **argv)
     size_t none = stack_of(nothing);
     for (size_t i = 0; i < sizeof calls / sizeof *calls; i++) {
         size_t needed = stack_of(calls[i].make) - none;
-        if (argc > 1)
-            printf("%zu %s\n", needed, calls[i].name);
+#ifdef SHOW_STACK
+        printf("%5lu %s\n", (unsigned long)needed, calls[i].name);
+#endif
         expect(answer.number == HUNK_OK, calls[i].name, "an answer");
         expect(needed <= calls[i].most, calls[i].name, "the stack");
     }

@@ -12,8 +12,6 @@ machine() {
   target=$1
   emulator=qemu-$processor
   compiler="$system-gcc -static"
-  # What each call may need of stack, but for hunk_load_packed: 64 bytes more where the code is Arm's own, and not Thumb-2.
-  [ "$1" != armv6 ] || compiler="$compiler -DALL=1088"
   archive=$top/ports/out/$target/libhunk.a
   has "$target" "$system-gcc" "$emulator"
 }

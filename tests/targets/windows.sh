@@ -32,8 +32,7 @@ links() {
 
 if has Windows x86_64-w64-mingw32-gcc wine wineserver; then
   builds "$windows"
-  # What each call may need of stack, but for hunk_load_packed: a caller keeps room there for what it calls.
-  compiler="x86_64-w64-mingw32-gcc -I$here/windows -include $here/windows/words.h -DALL=1536"
+  compiler="x86_64-w64-mingw32-gcc -I$here/windows -include $here/windows/words.h"
   archive=$top/ports/out/$windows/libhunk.a
   emulator=$work/on-wine
   starts_wine

@@ -1,0 +1,139 @@
+# shellcheck shell=sh disable=SC2154,SC2034
+# Systems without an operating system, under qemu, by semihosting: a part of tests/targets/run. The Cortex-M0's code runs on a Cortex-M3,
+# as no board with a Cortex-M0 has the memory. boards/ has what takes the place of a system there, and the ceilings of sizes and stack.
+boards=$here/boards
+qemu='-nographic -monitor none -serial none -semihosting-config enable=on,target=native'
+
+# on_board NAME SOURCE NAMES WORD OPTION..: compiles a test for the board, which takes WORD and the names of a file
+on_board() {
+  name=$1
+  source=$2
+  names=$3
+  word=$4
+  shift 4
+  # shellcheck disable=SC2086
+  $compiler -std=c99 -O1 -I"$boards" -Ibindings/c -include "$boards/names.h" "-DNAMES=\"$names\"" "-DWORD=\"$word\"" "$source" \
+    $start "$archive" "$@" -o "$work/there-$name" > "$work/log" 2>&1 || lack "$source by $compiler: $(grep -m 1 error "$work/log")"
+}
+# shellcheck disable=SC2086
+# runs NAME: a test on the board, in the folder of the files
+runs() {
+  (cd "$work/files" && timeout 600 $emulator "$work/there-$1")
+}
+# tells NAME NAMES WORD..: a test on the files of these names has to print what it does here
+tells() {
+  name=$1
+  names=$2
+  shift 2
+  told "$work/$names" "$name" "$@"
+  on_board "$name" "tests/c/$name.c" "../$names" "$(echo "${1:-}" | sed "s|^$work|..|")" -Dmain=main_of_test \
+    -x c "$boards/start.c"
+  runs "$name" > "$work/there.$name" || lack "tests/c/$name.c fails on $target"
+  same "tests/c/$name.c on $target" "$work/here.$name" "$work/there.$name"
+}
+# below WHAT IS MOST: holds a number of bytes to its ceiling
+below() {
+  [ "$MEASURE" ] && echo "$target: $1: $2 bytes"
+  [ "$2" -le "$3" ] || lack "$target: $1: $2 bytes, where $3 are the most"
+}
+# bytes_of ARCHIVE: its code and constants
+bytes_of() {
+  "${tools}size" -A "$1" | awk '/^\.(text|rodata|srodata)/ { sum += $2 } END { print sum }'
+}
+# asks ARCHIVE NAME..: it needs these functions of others, and no more
+asks() {
+  asked=$("${tools}nm" -u "$1" | awk '$1 == "U" { print $2 }' | LC_ALL=C sort | xargs)
+  shift
+  [ "$asked" = "$*" ] || lack "$target: an archive asks for $asked, not for $*"
+}
+# small: the archives, by their sizes and what they ask for, and the stack of each call
+small() {
+  stream=$top/ports/out/$target/libhunk-stream.a
+  read -r most_library most_stream most_stack most_other most_flash most_used << END
+$(sed -n "s/^$target //p" "$boards/ceilings")
+END
+  # shellcheck disable=SC2086
+  asks "$archive" $more memcpy memmove memset
+  asks "$stream" memcpy memmove memset
+  below libhunk.a "$(bytes_of "$archive")" "$most_library"
+  below libhunk-stream.a "$(bytes_of "$stream")" "$most_stream"
+  on_board stack tests/c/stack.c ../names '' -DSHOW_STACK "-DALL=$most_other"
+  runs stack > "$work/stack.$target" || lack "a call needs more stack on $target than its ceiling"
+  [ -z "$MEASURE" ] || cat "$work/stack.$target"
+  for call in hunk_table hunk_begin hunk_feed hunk_end; do
+    below "the stack of $call" "$(awk -v call=$call '$2 == call && NF == 2 { print $1 }' "$work/stack.$target")" "$most_stack"
+  done
+  pass
+}
+# answers_alike: each answer and each row, as on this machine
+answers_alike() {
+  on_board dump "$here/dump.c" ../names ''
+  runs dump > "$work/there" || lack "tests/targets/dump.c fails on $target"
+  same "the library on $target" "$work/native" "$work/there"
+  mkdir -p "$work/stripped"
+  tells checks names "$work/stripped"
+  tells tables names
+}
+# examples: load.c of ports/small, with libhunk-stream.a alone, loads the sum of bindings/c as the program does, and refuses a part of it
+# shellcheck disable=SC2086
+examples() {
+  arm-none-eabi-gcc $processor -std=c99 -Os -Wall -Wextra -Werror -ffreestanding -nostartfiles -T ports/small/mps2.ld -Ibindings/c \
+    ports/small/*.c "$stream" -o "$work/load.elf" > "$work/log" 2>&1 || lack "ports/small: $(grep -m 1 error "$work/log")"
+  mkdir -p "$work/flash"
+  cp "$work/files/sum" "$work/flash/file"
+  (cd "$work/flash" && timeout 60 $emulator "$work/load.elf") > "$work/loaded" 2>&1 || lack "ports/small/load.c fails on $target"
+  "$program" relocate --base 00021000 "$work/flash/file" |
+    awk '/^hunk/ { printf "%s%s ", sep, "hunk " substr($4, 3); sep = "\n"; next } { printf "%s", $1 } END { print "" }' > "$work/wanted"
+  grep -v '^stack ' "$work/loaded" > "$work/told"
+  same "ports/small/load.c on $target" "$work/wanted" "$work/told"
+  below 'the flash of ports/small/load.c' "$("${tools}size" "$work/load.elf" | awk 'NR == 2 { print $1 + $2 }')" "$most_flash"
+  below 'the stack of ports/small/load.c' $((0x$(sed -n 's/^stack //p' "$work/loaded"))) "$most_used"
+  head -c 50 "$work/files/sum" > "$work/flash/file"
+  (cd "$work/flash" && timeout 60 $emulator "$work/load.elf") > "$work/loaded" 2>&1 && lack "ports/small/load.c takes a part on $target"
+  printf 'refused 0000001a\n' > "$work/wanted"
+  grep -v '^stack ' "$work/loaded" > "$work/told"
+  same "ports/small/load.c on $target" "$work/wanted" "$work/told"
+}
+# cortex TARGET MACHINE NAME..: a board of Arm, with newlib; NAMEs are what else the library asks for
+cortex() {
+  target=$1
+  has "$target" arm-none-eabi-gcc qemu-system-arm || return 0
+  processor="-mthumb -mcpu=$target"
+  compiler="arm-none-eabi-gcc $processor --specs=rdimon.specs -T $top/ports/small/mps2.ld"
+  start=$top/ports/small/vectors.c
+  tools=arm-none-eabi-
+  emulator="qemu-system-arm -M $2 $qemu -kernel"
+  archive=$top/ports/out/$target/libhunk.a
+  more=${3:-}
+  builds "$target"
+  small
+  answers_alike
+  examples
+}
+# riscv: a board of 32-bit RISC-V, with picolibc, and memory for all tests
+riscv() {
+  target=riscv32
+  has "$target" riscv64-unknown-elf-gcc qemu-system-riscv32 || return 0
+  compiler='riscv64-unknown-elf-gcc --specs=picolibc.specs --crt0=semihost --oslib=semihost -march=rv32imac -mabi=ilp32'
+  compiler="$compiler -mcmodel=medany -Wl,--defsym=__flash=0x80000000,--defsym=__flash_size=4M,--defsym=__ram=0x80400000"
+  compiler="$compiler -Wl,--defsym=__ram_size=1000M"
+  start=
+  tools=riscv64-unknown-elf-
+  emulator="qemu-system-riscv32 -M virt -m 1024M $qemu -bios none -kernel"
+  archive=$top/ports/out/$target/libhunk.a
+  more=
+  builds "$target"
+  small
+  answers_alike
+  tells answers names 00021000
+  tells streams all 00021000
+  tells places names
+  [ -z "$few" ] || return 0
+  on_board large tests/c/large.c ../names ''
+  runs large || lack "an answer about a large file is not what hunk.h says on $target"
+  pass
+}
+MEASURE=${MEASURE:-}
+cortex cortex-m4 mps2-an386
+cortex cortex-m0 mps2-an385 __aeabi_lmul
+riscv
