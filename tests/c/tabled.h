@@ -4,7 +4,9 @@
 
 #include "guarded.h"
 
+#ifndef MOST_ROWS
 #define MOST_ROWS 65536
+#endif
 
 /* The tables, in the order of hunk.h. */
 enum { UNITS, BLOCKS, SYMBOLS, RELOCATIONS, ENTRIES, REFERENCES, TABLES };

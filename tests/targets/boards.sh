@@ -16,18 +16,14 @@ on_board() {
     $start "$archive" "$@" -o "$work/there-$name" > "$work/log" 2>&1 || lack "$source by $compiler: $(grep -m 1 error "$work/log")"
 }
 # shellcheck disable=SC2086
-# runs NAME: a test on the board, in the folder of the files
+# runs NAME: a test on the board, in the folder of the files; picolibc prints where qemu has its standard error
 runs() {
-  (cd "$work/files" && timeout 600 $emulator "$work/there-$1")
+  (cd "$work/files" && timeout 600 $emulator "$work/there-$1") 2>&1
 }
-# tells NAME NAMES WORD..: a test on the files of these names has to print what it does here
+# tells NAMES NAME WORD..: a test on the files of these names has to print what it does here
 tells() {
-  name=$1
-  names=$2
-  shift 2
-  told "$work/$names" "$name" "$@"
-  on_board "$name" "tests/c/$name.c" "../$names" "$(echo "${1:-}" | sed "s|^$work|..|")" -Dmain=main_of_test \
-    -x c "$boards/start.c"
+  told "$@"
+  on_board "$name" "tests/c/$name.c" "$names" "${3:-}" -Dmain=main_of_test -DMOST_ROWS=8192 -x c "$boards/start.c"
   runs "$name" > "$work/there.$name" || lack "tests/c/$name.c fails on $target"
   same "tests/c/$name.c on $target" "$work/here.$name" "$work/there.$name"
 }
@@ -57,7 +53,7 @@ END
   asks "$stream" memcpy memmove memset
   below libhunk.a "$(bytes_of "$archive")" "$most_library"
   below libhunk-stream.a "$(bytes_of "$stream")" "$most_stream"
-  on_board stack tests/c/stack.c ../names '' -DSHOW_STACK "-DALL=$most_other"
+  on_board stack tests/c/stack.c "$work/names" '' -DSHOW_STACK "-DALL=$most_other"
   runs stack > "$work/stack.$target" || lack "a call needs more stack on $target than its ceiling"
   [ -z "$MEASURE" ] || cat "$work/stack.$target"
   for call in hunk_table hunk_begin hunk_feed hunk_end; do
@@ -67,12 +63,12 @@ END
 }
 # answers_alike: each answer and each row, as on this machine
 answers_alike() {
-  on_board dump "$here/dump.c" ../names ''
+  on_board dump "$here/dump.c" "$work/names" ''
   runs dump > "$work/there" || lack "tests/targets/dump.c fails on $target"
   same "the library on $target" "$work/native" "$work/there"
   mkdir -p "$work/stripped"
-  tells checks names "$work/stripped"
-  tells tables names
+  tells "$work/names" checks "$work/stripped"
+  tells "$work/names" tables
 }
 # examples: load.c of ports/small, with libhunk-stream.a alone, loads the sum of bindings/c as the program does, and refuses a part of it
 # shellcheck disable=SC2086
@@ -125,11 +121,11 @@ riscv() {
   builds "$target"
   small
   answers_alike
-  tells answers names 00021000
-  tells streams all 00021000
-  tells places names
+  tells "$work/names" answers 00021000
+  tells "$work/all" streams 00021000
+  tells "$work/names" places
   [ -z "$few" ] || return 0
-  on_board large tests/c/large.c ../names ''
+  on_board large tests/c/large.c "$work/names" ''
   runs large || lack "an answer about a large file is not what hunk.h says on $target"
   pass
 }

@@ -2,6 +2,8 @@
 #include <stdio.h>
 #include <string.h>
 
+/* The test has its main under this name. */
+#undef main
 #define MOST 4096
 int main_of_test(int argc, char **argv);
 
