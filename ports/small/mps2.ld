@@ -1,5 +1,5 @@
-/* The board mps2-an386 of qemu-system-arm (Cortex-M4), and mps2-an385 (Cortex-M3): code at 0, as in flash, and all else in a RAM of 16 MiB,
- * from whose end the stack goes down. What is initialized lies in RAM at once; a real board copies it there from flash. */
+/* The board mps2-an386 of qemu-system-arm (Cortex-M4), and mps2-an385 (Cortex-M3): code at 0, as in flash, and all else in a RAM
+ * of 16 MiB, from whose end the stack goes down. What is initialized lies in RAM at once; a real board copies it there from flash. */
 ENTRY(_start)
 MEMORY { code (rx) : ORIGIN = 0, LENGTH = 4M  ram (rwx) : ORIGIN = 0x21000000, LENGTH = 16M }
 SECTIONS {

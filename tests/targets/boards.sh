@@ -1,6 +1,7 @@
 # shellcheck shell=sh disable=SC2154,SC2034
-# Systems without an operating system, under qemu, by semihosting: a part of tests/targets/run. The Cortex-M0's code runs on a Cortex-M3,
-# as no board with a Cortex-M0 has the memory. boards/ has what takes the place of a system there, and the ceilings of sizes and stack.
+# Systems without an operating system, under qemu, by semihosting: a part of tests/targets/run. The Cortex-M0's code runs on a
+# Cortex-M3: the one board with a Cortex-M0, the microbit, has memory for load.c of ports/small alone, which runs there. boards/
+# has what takes the place of a system, and the ceilings of sizes and stack. With MEASURE set each of these is printed.
 boards=$here/boards
 qemu='-nographic -monitor none -serial none -semihosting-config enable=on,target=native'
 
@@ -13,7 +14,8 @@ on_board() {
   shift 4
   # shellcheck disable=SC2086
   $compiler -std=c99 -O1 -I"$boards" -Ibindings/c -include "$boards/names.h" "-DNAMES=\"$names\"" "-DWORD=\"$word\"" "$source" \
-    $start "$archive" "$@" -o "$work/there-$name" > "$work/log" 2>&1 || lack "$source by $compiler: $(grep -m 1 error "$work/log")"
+    $start "$archive" "$@" -o "$work/there-$name" > "$work/log" 2>&1 ||
+    lack "$source by $compiler: $(grep -m 1 error "$work/log")"
 }
 # shellcheck disable=SC2086
 # runs NAME: a test on the board, in the folder of the files; picolibc prints where qemu has its standard error
@@ -70,22 +72,26 @@ answers_alike() {
   tells "$work/names" checks "$work/stripped"
   tells "$work/names" tables
 }
-# examples: load.c of ports/small, with libhunk-stream.a alone, loads the sum of bindings/c as the program does, and refuses a part of it
+# examples SCRIPT MACHINE: load.c of ports/small, with libhunk-stream.a alone, loads the sum of bindings/c as the program does,
+# and refuses a part of it
 # shellcheck disable=SC2086
 examples() {
-  arm-none-eabi-gcc $processor -std=c99 -Os -Wall -Wextra -Werror -ffreestanding -nostartfiles -T ports/small/mps2.ld -Ibindings/c \
+  emulator="qemu-system-arm -M $2 $qemu -kernel"
+  arm-none-eabi-gcc $processor -std=c99 -Os -Wall -Wextra -Werror -ffreestanding -nostartfiles -T "$1" -Ibindings/c \
     ports/small/*.c "$stream" -o "$work/load.elf" > "$work/log" 2>&1 || lack "ports/small: $(grep -m 1 error "$work/log")"
   mkdir -p "$work/flash"
   cp "$work/files/sum" "$work/flash/file"
   (cd "$work/flash" && timeout 60 $emulator "$work/load.elf") > "$work/loaded" 2>&1 || lack "ports/small/load.c fails on $target"
   "$program" relocate --base 00021000 "$work/flash/file" |
-    awk '/^hunk/ { printf "%s%s ", sep, "hunk " substr($4, 3); sep = "\n"; next } { printf "%s", $1 } END { print "" }' > "$work/wanted"
+    awk '/^hunk/ { printf "%shunk %s ", end, substr($4, 3); end = "\n"; next } { printf "%s", $1 } END { print "" }' \
+      > "$work/wanted"
   grep -v '^stack ' "$work/loaded" > "$work/told"
   same "ports/small/load.c on $target" "$work/wanted" "$work/told"
   below 'the flash of ports/small/load.c' "$("${tools}size" "$work/load.elf" | awk 'NR == 2 { print $1 + $2 }')" "$most_flash"
   below 'the stack of ports/small/load.c' $((0x$(sed -n 's/^stack //p' "$work/loaded"))) "$most_used"
   head -c 50 "$work/files/sum" > "$work/flash/file"
-  (cd "$work/flash" && timeout 60 $emulator "$work/load.elf") > "$work/loaded" 2>&1 && lack "ports/small/load.c takes a part on $target"
+  (cd "$work/flash" && timeout 60 $emulator "$work/load.elf") > "$work/loaded" 2>&1 &&
+    lack "ports/small/load.c takes a part on $target"
   printf 'refused 0000001a\n' > "$work/wanted"
   grep -v '^stack ' "$work/loaded" > "$work/told"
   same "ports/small/load.c on $target" "$work/wanted" "$work/told"
@@ -93,7 +99,6 @@ examples() {
 # cortex TARGET MACHINE NAME..: a board of Arm, with newlib; NAMEs are what else the library asks for
 cortex() {
   target=$1
-  has "$target" arm-none-eabi-gcc qemu-system-arm || return 0
   processor="-mthumb -mcpu=$target"
   compiler="arm-none-eabi-gcc $processor --specs=rdimon.specs -T $top/ports/small/mps2.ld"
   start=$top/ports/small/vectors.c
@@ -104,7 +109,6 @@ cortex() {
   builds "$target"
   small
   answers_alike
-  examples
 }
 # riscv: a board of 32-bit RISC-V, with picolibc, and memory for all tests
 riscv() {
@@ -130,6 +134,12 @@ riscv() {
   pass
 }
 MEASURE=${MEASURE:-}
-cortex cortex-m4 mps2-an386
-cortex cortex-m0 mps2-an385 __aeabi_lmul
+if has 'small systems of Arm' arm-none-eabi-gcc qemu-system-arm; then
+  cortex cortex-m4 mps2-an386
+  examples ports/small/mps2.ld mps2-an386
+  cortex cortex-m0 mps2-an385 __aeabi_lmul
+  sed 's/LENGTH = 4M/LENGTH = 256K/; s/0x21000000, LENGTH = 16M/0x20000000, LENGTH = 16K/' ports/small/mps2.ld \
+    > "$work/microbit.ld"
+  examples "$work/microbit.ld" microbit
+fi
 riscv

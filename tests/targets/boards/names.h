@@ -1,4 +1,5 @@
-/* For a test on a board, whose input by semihosting does not end: the names come from the file NAMES. newlib has no PRIu64 for C99. */
+/* For a test on a board, whose input by semihosting does not end: the names come from the file
+ * NAMES. newlib has no PRIu64 for C99. */
 #include <inttypes.h>
 #include <stdio.h>
 #ifndef PRIu64

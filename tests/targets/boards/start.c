@@ -1,4 +1,5 @@
-/* Starts a test on a board, which has no command line: its words are WORD, where it is not empty, and the names of the file NAMES. */
+/* Starts a test on a board, which has no command line: its words are WORD, where it is not empty,
+ * and the names of the file NAMES. */
 #include <stdio.h>
 #include <string.h>
 

@@ -1,4 +1,5 @@
-/* Of this header of a system what tests/c/guarded.h uses, for boards that have none: plain memory, after which no page faults. */
+/* Of this header of a system what tests/c/guarded.h uses, for boards that have none: plain memory,
+ * after which no page faults. */
 #ifndef MMAN_H
 #define MMAN_H
 
