@@ -9,7 +9,7 @@ from retarget import machine_of, retarget
 
 AR = KIT / "toolchain/bin/llvm-ar"
 # The functions of the C library that the program asks, which ports/system.c asks in its place.
-ASKED = ["open", "close", "read", "write", "lseek", "fsync", "statx", "__xpg_strerror_r", "__sysv_signal"]
+ASKED = ["open", "close", "read", "write", "lseek", "isatty", "fsync", "statx", "__xpg_strerror_r", "__sysv_signal"]
 ALLOCATES = ["malloc", "realloc", "free"]
 LINKER = KIT / "toolchain/bin/ld.lld"
 # The calls that load a file piece by piece; hunk_want is left out, which a loader can do without.

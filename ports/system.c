@@ -64,6 +64,11 @@ int64_t system_lseek(number file, int64_t to, number from)
     return lseek((int)file, to, (int)from);
 }
 
+int system_isatty(number file)
+{
+    return isatty((int)file);
+}
+
 int system_fsync(number file)
 {
     return fsync((int)file);

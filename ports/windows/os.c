@@ -186,6 +186,13 @@ int64_t write(int fd, const void *bytes, int64_t len)
     return WriteFile(file, bytes, at_most(len, 1 << 30), &moved, NULL) ? (int64_t)moved : failed();
 }
 
+/* Whether a person types there. */
+int isatty(int fd)
+{
+    DWORD mode;
+    return GetConsoleMode(file_of(fd), &mode) != 0;
+}
+
 int64_t lseek(int fd, int64_t to, int from)
 {
     LARGE_INTEGER asked = {.QuadPart = to}, at;
