@@ -1,5 +1,5 @@
 /** Hunk files of AmigaDOS: the calls of hunk.h, which says what each answers when. Counts, and places in a file,
- * are numbers, and exact up to 2^53. All of them count from 0. */
+ * are numbers, and exact up to 2^53. All of them count from 0. No types of a browser or of node are needed. */
 
 export const ABI: number;
 export const BUDGET: number;
@@ -7,13 +7,65 @@ export const BUDGET: number;
 /** How the structs of hunk.h are laid out. */
 export const LAYOUTS: Record<string, { size: number; fields: Record<string, { at: number; bytes: number }> }>;
 
-/** The rows of a table. A row is made when it is asked for; `[...rows]` makes all of them. */
+/** The types of blocks, by their names: KINDS.CODE is 0x3E9. An advisory block may have any other number. */
+export const KINDS: Readonly<Record<
+  | "UNIT" | "NAME" | "CODE" | "DATA" | "BSS" | "RELOC32" | "RELOC16" | "RELOC8" | "EXT" | "SYMBOL" | "DEBUG" | "END"
+  | "HEADER" | "OVERLAY" | "BREAK" | "DREL32" | "DREL16" | "DREL8" | "LIB" | "INDEX" | "RELOC32SHORT" | "RELRELOC32"
+  | "ABSRELOC16",
+  number
+>>;
+
+/** The types of EXT entries: SYMB, DEF and ABS define their name, all others refer to it. */
+export const ENTRY_KINDS: Readonly<Record<
+  | "SYMB" | "DEF" | "ABS" | "REF32" | "COMMON" | "REF16" | "REF8" | "DEXT32" | "DEXT16" | "DEXT8" | "RELREF32"
+  | "RELCOMMON" | "ABSREF16" | "ABSREF8",
+  number
+>>;
+
+/** The flags of a block's word. */
+export const FLAGS: Readonly<Record<"ADVISORY" | "CHIP" | "FAST", number>>;
+
+/** What is wrong with an offset of an object file. */
+export const FAULTS: Readonly<Record<"BadTarget" | "OutsideHunk", number>>;
+
+/** The memory that a hunk asks for, by the number in its row of the table. */
+export const MEMORIES: readonly ["any", "chip", "fast", "attributes"];
+
+/** The name of a block's type, as "CODE"; of one that is in no table "ADVISORY" and its number. */
+export function kindName(kind: number): string;
+/** The name of an EXT entry's type, as "REF32". */
+export function entryKindName(kind: number): string;
+/** The names of the flags that are set, as ["chip"]. */
+export function flagNames(flags: number): string[];
+/** The name of a finding's fault, as "BadTarget". */
+export function faultName(fault: number): string;
+
+/** The rows of a table. A row is made when it is asked for; `[...rows]` makes all of them. Those of an Input stand in its
+ * memory, and end with it: to read them then throws. */
 export class Rows<Row> implements Iterable<Row> {
+  private constructor();
   readonly length: number;
   at(i: number): Row;
   get(i: number, name: keyof Row & string): number;
+  /** The same rows in memory of their own, which stay when an Input is freed. */
+  copy(): Rows<Row>;
   [Symbol.iterator](): IterableIterator<Row>;
 }
+
+/** Bytes in the module's memory, which the caller fills, and which calls take without a copy. */
+export class Input {
+  private constructor();
+  readonly length: number;
+  /** A view of them, made anew by each look. One that was kept is invalid, with a length of 0, once the module's memory has
+   * grown, as a call or another Input may make it; no call takes it then for an empty file, but throws. */
+  readonly bytes: Uint8Array;
+  /** Gives the memory back. The Input and its rows end by that: to use them throws. A view of it that was kept shows then what
+   * later calls write there. */
+  free(): void;
+}
+
+/** A file, or a part of one. */
+export type Bytes = Uint8Array | Input;
 
 /** Says that a call refused its bytes. */
 export class HunkError extends Error {
@@ -30,11 +82,11 @@ export class HunkError extends Error {
   readonly count: number;
 }
 
-/** A hunk of the table of a load file. `memory`: 0 any, 1 chip, 2 fast, 3 by the attributes in `extra`. */
+/** A hunk of the table of a load file. `memory` is a place in MEMORIES; 3 is by the attributes in `extra`. */
 export interface TableRow { word: number; extra: number; bytes: number; memory: number }
 
-/** What is wrong with an offset of an object file, and the byte where that stands. `fault`: 1 the target is no hunk of the
- * unit, 2 the bytes there go past the end of the hunk. */
+/** What is wrong with an offset of an object file, and the byte where that stands. `fault` is one of FAULTS: the target is no
+ * hunk of the unit, or the bytes there go past the end of the hunk. */
 export interface Finding { place: number; unit: number; hunk: number; offset: number; fault: number }
 
 export interface Unit { place: number; name: number; nameBytes: number; hunks: number }
@@ -48,9 +100,9 @@ export interface Block {
   contentBytes: number;
   memory: number;
   items: number;
-  /** 0x3E9 is CODE. */
+  /** One of KINDS, or the number of an advisory block. */
   kind: number;
-  /** 1 advisory, 2 chip memory, 4 fast memory. */
+  /** Those of FLAGS, added. */
   flags: number;
 }
 
@@ -73,6 +125,7 @@ export interface Entry extends Named {
   hunk: number;
   references: number;
   value: number;
+  /** One of ENTRY_KINDS. */
   kind: number;
 }
 
@@ -96,39 +149,58 @@ export interface Loaded extends FileAnswer { memory: Uint8Array }
 export interface Spelling { bytes: number; shortBlocks: number; ends: number }
 
 /** The bytes of a row's name, each as a character. */
-export function nameOf(bytes: Uint8Array, row: Named): string;
+export function nameOf(bytes: Bytes, row: Named): string;
 
 /** A load file that comes piece by piece; `Hunk.begin` makes one. The pieces are those after the header. */
 export class Loader {
+  private constructor();
+  /** 65,536 bytes for the next piece: what the caller puts there is fed without a copy. */
+  readonly buffer: Uint8Array;
   feed(bytes: Uint8Array): number;
   want(): { bytes: number; place: number; hunks: number };
   end(): { hunks: number; bytes: number; size: number };
+  /** A view of the loader's memory. Nobody writes to it before the file is whole. */
   memory(): Uint8Array;
 }
 
-type Source = BufferSource | WebAssembly.Module | Response;
+/** What `fetch` answers, as far as it is asked. A module that is named as `application/wasm` is compiled while it comes. */
+export interface Fetched {
+  arrayBuffer(): Promise<ArrayBuffer>;
+}
+
+/** A module: its bytes, what `fetch` answers, or a WebAssembly.Module, which only the types of a browser know. */
+export type Source = ArrayBuffer | ArrayBufferView | Fetched | object;
+
+/** Whether the engine takes hunk.wasm, which has a 64-bit memory; hunk32.wasm is for the others. */
+export function takesMemory64(): boolean;
 
 export class Hunk {
+  private constructor();
   static open(source: Source | Promise<Source>): Promise<Hunk>;
   abi(): number;
+  /** So many bytes in the module's memory, for the caller to fill. What is there is not cleared. */
+  alloc(length: number): Input;
+  /** A copy of the bytes in the module's memory, for more than one call. */
+  put(bytes: Uint8Array): Input;
   reason(number: number): string;
   reasonText(number: number): string;
-  table(bytes: Uint8Array, budget?: number): Table;
-  load(bytes: Uint8Array, bases: ArrayLike<number>, budget?: number): Loaded;
-  /** `size`: the bytes of the hunks together. The memory is written, and where the call throws it is as it was. */
-  loadAt(bytes: Uint8Array, bases: ArrayLike<number>, start: number, memory: Uint8Array): FileAnswer & { size: number };
-  loadPacked(bytes: Uint8Array, base: number, budget?: number): Loaded;
+  table(bytes: Bytes, budget?: number): Table;
+  load(bytes: Bytes, bases: ArrayLike<number>, budget?: number): Loaded;
+  /** `size`: the bytes of the hunks together. The memory is written, and where the call throws it is as it was. An Input, or a
+   * view of one, is written without a copy; it has to be another one than the file's. */
+  loadAt(bytes: Bytes, bases: ArrayLike<number>, start: number, memory: Bytes): FileAnswer & { size: number };
+  loadPacked(bytes: Bytes, base: number, budget?: number): Loaded;
   begin(table: Table, bases: ArrayLike<number>): Loader;
-  check(bytes: Uint8Array, most?: number): Listed<Finding>;
-  units(bytes: Uint8Array, most?: number): Listed<Unit>;
-  blocks(bytes: Uint8Array, most?: number): Listed<Block>;
-  symbols(bytes: Uint8Array, most?: number): Listed<HunkSymbol>;
-  relocations(bytes: Uint8Array, most?: number): Listed<Relocation>;
-  entries(bytes: Uint8Array, most?: number): Listed<Entry>;
-  references(bytes: Uint8Array, most?: number): Listed<Reference>;
-  spelling(bytes: Uint8Array): Spelling;
-  plain(bytes: Uint8Array): Uint8Array;
-  inputPlace(bytes: Uint8Array, place: number): number;
-  wide<Answer>(bytes: Uint8Array, call: (plain: Uint8Array) => Answer): Answer;
-  strip(bytes: Uint8Array): FileAnswer & { text: Uint8Array };
+  check(bytes: Bytes, most?: number): Listed<Finding>;
+  units(bytes: Bytes, most?: number): Listed<Unit>;
+  blocks(bytes: Bytes, most?: number): Listed<Block>;
+  symbols(bytes: Bytes, most?: number): Listed<HunkSymbol>;
+  relocations(bytes: Bytes, most?: number): Listed<Relocation>;
+  entries(bytes: Bytes, most?: number): Listed<Entry>;
+  references(bytes: Bytes, most?: number): Listed<Reference>;
+  spelling(bytes: Bytes): Spelling;
+  plain(bytes: Bytes): Uint8Array;
+  inputPlace(bytes: Bytes, place: number): number;
+  wide<Answer>(bytes: Bytes, call: (plain: Uint8Array) => Answer): Answer;
+  strip(bytes: Bytes): FileAnswer & { text: Uint8Array };
 }

@@ -1,5 +1,6 @@
 // Each answer of a module on files, and all that it writes, as dump.c prints them of the library:
-// node dump.mjs MODULE.wasm < NAMES, of files in this folder.
+// node dump.mjs MODULE.wasm [in-place] < NAMES, of files in this folder. With in-place each file is read into the module's memory
+// once, and so is the memory that hunks are loaded to.
 import { readFileSync } from "node:fs";
 import { Hunk, HunkError, nameOf } from "../../bindings/javascript/hunk.js";
 
@@ -69,7 +70,7 @@ function feedAll(loader, bytes, from) {
 
 function stream(hunk, bytes, table, bases) {
   const loader = hunk.begin(table, bases);
-  const { wants, error } = feedAll(loader, bytes, table.header);
+  const { wants, error } = feedAll(loader, bytes.bytes ?? bytes, table.header);
   const loaded = attempt("stream", () => {
     if (error) throw error;
     return { ...loader.end(), memory: loader.memory() };
@@ -87,9 +88,10 @@ function place(hunk, bytes, table) {
     bases[h] = at;
     at += table.rows.get(h, "bytes");
   }
-  const memory = new Uint8Array(table.size);
+  const memory = isInPlace ? hunk.put(new Uint8Array(table.size)) : new Uint8Array(table.size);
   const placed = attempt("at", () => hunk.loadAt(bytes, bases, start, memory));
-  sayLoaded("at", placed && { ...placed, memory });
+  sayLoaded("at", placed && { ...placed, memory: memory.bytes ?? memory });
+  if (isInPlace) memory.free();
 }
 
 function loadFile(hunk, bytes) {
@@ -117,16 +119,20 @@ function plainFile(hunk, bytes) {
   say(`  ${sum(hunk.plain(bytes))} ${hunk.inputPlace(bytes, length)}`);
 }
 
-const hunk = await Hunk.open(readFileSync(process.argv[2]));
+const [module, way] = process.argv.slice(2);
+const isInPlace = way === "in-place";
+const hunk = await Hunk.open(readFileSync(module));
 say(`abi ${hunk.abi()}`);
 for (let number = 0; number < 40; number++) say(`${number} ${hunk.reason(number)}: ${hunk.reasonText(number)}`);
 for (const name of readFileSync(0, "utf8").split("\n").filter(Boolean)) {
-  const bytes = new Uint8Array(readFileSync(name));
+  const file = new Uint8Array(readFileSync(name));
+  const bytes = isInPlace ? hunk.put(file) : file;
   say(`== ${name}`);
   for (const table of TABLES) list(hunk, table, bytes);
   stripFile(hunk, bytes);
   plainFile(hunk, bytes);
   loadFile(hunk, bytes);
+  if (isInPlace) bytes.free();
   if (lines.length > 100000) process.stdout.write(lines.splice(0).join("\n") + "\n");
 }
 process.stdout.write(lines.join("\n") + "\n");

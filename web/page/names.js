@@ -1,56 +1,18 @@
 // The names of the format's numbers, and how numbers are shown.
 
-const BLOCKS = {
-  0x3e8: "NAME",
-  0x3e9: "CODE",
-  0x3ea: "DATA",
-  0x3eb: "BSS",
-  0x3ec: "RELOC32",
-  0x3ed: "RELOC16",
-  0x3ee: "RELOC8",
-  0x3ef: "EXT",
-  0x3f0: "SYMBOL",
-  0x3f1: "DEBUG",
-  0x3f2: "END",
-  0x3f7: "DREL32",
-  0x3f8: "DREL16",
-  0x3f9: "DREL8",
-  0x3fd: "RELRELOC32",
-  0x3fe: "ABSRELOC16",
-};
-const ENTRIES = {
-  0: "SYMB",
-  1: "DEF",
-  2: "ABS",
-  129: "REF32",
-  130: "COMMON",
-  131: "REF16",
-  132: "REF8",
-  133: "DEXT32",
-  134: "DEXT16",
-  135: "DEXT8",
-  136: "RELREF32",
-  137: "RELCOMMON",
-  138: "ABSREF16",
-  139: "ABSREF8",
-};
-const FLAGS = [
-  [1, "advisory"],
-  [2, "chip"],
-  [4, "fast"],
-];
+import { entryKindName, flagNames, kindName, MEMORIES } from "../../bindings/javascript/kinds.js";
+
 const FAULTS = {
   1: "the target is no hunk of the unit",
   2: "the bytes there go past the end of the hunk",
 };
-const MEMORIES = ["any", "chip", "fast", "attributes"];
 
 export const hex = (number, digits = 8) => number.toString(16).padStart(digits, "0");
 export const counted = (number, what) => `${number.toLocaleString("en")} ${what}${number === 1 ? "" : "s"}`;
-export const blockName = (kind) => BLOCKS[kind] ?? `ADVISORY ${kind}`;
-export const entryName = (kind) => ENTRIES[kind] ?? `type ${kind}`;
+export const blockName = kindName;
+export const entryName = entryKindName;
 export const faultText = (fault) => FAULTS[fault] ?? `fault ${fault}`;
-export const flagsText = (flags) => FLAGS.filter(([bit]) => flags & bit).map(([, name]) => name).join(" ");
+export const flagsText = (flags) => flagNames(flags).join(" ");
 export const memoryText = (row) => MEMORIES[row.memory] + (row.memory === 3 ? ` ${hex(row.extra)}` : "");
 
 /** A name as it may be shown: bytes that are no printable ASCII, and the backslash, as `\x` and two digits. */

@@ -1,0 +1,72 @@
+// The names of the format's numbers, as the tables of docs/FORMAT.md have them. The page of web/ shows these, too.
+
+/** The types of blocks. An advisory block may have any other number. */
+export const KINDS = Object.freeze({
+  UNIT: 0x3e7,
+  NAME: 0x3e8,
+  CODE: 0x3e9,
+  DATA: 0x3ea,
+  BSS: 0x3eb,
+  RELOC32: 0x3ec,
+  RELOC16: 0x3ed,
+  RELOC8: 0x3ee,
+  EXT: 0x3ef,
+  SYMBOL: 0x3f0,
+  DEBUG: 0x3f1,
+  END: 0x3f2,
+  HEADER: 0x3f3,
+  OVERLAY: 0x3f5,
+  BREAK: 0x3f6,
+  DREL32: 0x3f7,
+  DREL16: 0x3f8,
+  DREL8: 0x3f9,
+  LIB: 0x3fa,
+  INDEX: 0x3fb,
+  RELOC32SHORT: 0x3fc,
+  RELRELOC32: 0x3fd,
+  ABSRELOC16: 0x3fe,
+});
+
+/** The types of EXT entries: SYMB, DEF and ABS define their name, all others refer to it. */
+export const ENTRY_KINDS = Object.freeze({
+  SYMB: 0,
+  DEF: 1,
+  ABS: 2,
+  REF32: 129,
+  COMMON: 130,
+  REF16: 131,
+  REF8: 132,
+  DEXT32: 133,
+  DEXT16: 134,
+  DEXT8: 135,
+  RELREF32: 136,
+  RELCOMMON: 137,
+  ABSREF16: 138,
+  ABSREF8: 139,
+});
+
+/** The flags of a block's word. */
+export const FLAGS = Object.freeze({ ADVISORY: 1, CHIP: 2, FAST: 4 });
+
+/** What is wrong with an offset of an object file. */
+export const FAULTS = Object.freeze({ BadTarget: 1, OutsideHunk: 2 });
+
+/** The memory that a hunk asks for, by the number in its row of the table. */
+export const MEMORIES = Object.freeze(["any", "chip", "fast", "attributes"]);
+
+const byNumber = (names) => new Map(Object.entries(names).map(([name, number]) => [number, name]));
+const KIND_NAMES = byNumber(KINDS);
+const ENTRY_NAMES = byNumber(ENTRY_KINDS);
+const FAULT_NAMES = byNumber(FAULTS);
+
+/** The name of a block's type, as "CODE"; of one that is in no table "ADVISORY" and its number, as the program prints it. */
+export const kindName = (kind) => KIND_NAMES.get(kind) ?? `ADVISORY ${kind}`;
+
+/** The name of an EXT entry's type, as "REF32". */
+export const entryKindName = (kind) => ENTRY_NAMES.get(kind) ?? `type ${kind}`;
+
+/** The names of the flags that are set, as ["chip"]. */
+export const flagNames = (flags) => Object.keys(FLAGS).filter((name) => flags & FLAGS[name]).map((name) => name.toLowerCase());
+
+/** The name of a finding's fault, as "BadTarget". */
+export const faultName = (fault) => FAULT_NAMES.get(fault) ?? `fault ${fault}`;

@@ -1,0 +1,100 @@
+// The structs of hunk.h, and the rows of a table.
+
+// Each field with its bytes, in their order. tests/targets holds them to what a C compiler makes.
+const STRUCTS = {
+  answer: "number 4 hunk 4 place 8 count 8",
+  row: "word 4 extra 4 bytes 4 memory 4",
+  place: "word 4 extra 4 base 4",
+  loader:
+    "start 8 fed 8 place 8 refused 4 refused_hunk 4 hunk 4 hunks 4 ahead 4 has_content 4 phase 4 part 4 owed 4 " +
+    "pending 1 first 1 second 1 third 1 reserved 32",
+  finding: "place 8 unit 8 hunk 8 offset 4 fault 4 reserved 8",
+  unit: "place 8 name 8 name_bytes 8 hunks 8 reserved 8",
+  block:
+    "place 8 bytes 8 unit 8 hunk 8 content 8 content_bytes 8 memory 8 items 8 kind 4 flags 4 reserved 8",
+  symbol: "place 8 unit 8 hunk 8 name 8 name_bytes 8 value 4 reserved 4",
+  relocation: "place 8 unit 8 hunk 8 kind 4 width 4 target 4 offset 4 reserved 8",
+  entry: "place 8 unit 8 hunk 8 name 8 name_bytes 8 references 8 value 4 kind 4 reserved 8",
+  reference: "entry 8 place 8 offset 4 width 4 reserved 8",
+  spelling: "bytes 8 short_blocks 8 ends 8 reserved 8",
+};
+
+/** What a struct is called in JavaScript: `name_bytes` is `nameBytes`. */
+function camel(name) {
+  return name.replace(/_(.)/g, (_, letter) => letter.toUpperCase());
+}
+
+/** The size of a struct, and of each of its fields where it is and how many bytes it has. */
+function layout(text) {
+  const words = text.split(" ");
+  const fields = {};
+  let size = 0;
+  for (let i = 0; i < words.length; i += 2) {
+    const bytes = Number(words[i + 1]);
+    fields[camel(words[i])] = { at: size, bytes };
+    size += bytes;
+  }
+  return { size, fields };
+}
+
+/** The structs of hunk.h as this package reads them. */
+export const LAYOUTS = Object.fromEntries(Object.entries(STRUCTS).map(([name, text]) => [name, layout(text)]));
+
+/** A field of 4 or 8 bytes. */
+export function number(view, at, bytes) {
+  return bytes === 8 ? Number(view.getBigUint64(at, true)) : view.getUint32(at, true);
+}
+
+/** Bytes of their own, as a home of rows: they stay as they are. */
+const OWN = { epoch: 0 };
+export const copyOf = (bytes) => {
+  const copy = bytes.slice();
+  return { memory: OWN, bytes: () => copy };
+};
+
+/** The rows of a table. A row is an object that is made when it is asked for: a file may have millions. Where they stand, their
+ * home says: its `bytes()` throw once they are gone, and count again from when the `epoch` of its memory is another one. */
+export class Rows {
+  #layout;
+  #names;
+  #home;
+  #epoch;
+  #view;
+
+  constructor(layout, home) {
+    this.#layout = layout;
+    this.#names = Object.keys(layout.fields).filter((name) => name !== "reserved");
+    this.#home = home;
+    this.#renew();
+    this.length = this.#view.byteLength / layout.size;
+  }
+
+  #renew() {
+    const { buffer, byteOffset, byteLength } = this.#home.bytes();
+    this.#view = new DataView(buffer, byteOffset, byteLength);
+    this.#epoch = this.#home.memory.epoch;
+  }
+
+  /** Row i, counted from 0. */
+  at(i) {
+    const row = {};
+    for (const name of this.#names) row[name] = this.get(i, name);
+    return row;
+  }
+
+  /** One field of row i, without the others. */
+  get(i, name) {
+    if (this.#epoch !== this.#home.memory.epoch) this.#renew();
+    const { at, bytes } = this.#layout.fields[name];
+    return number(this.#view, i * this.#layout.size + at, bytes);
+  }
+
+  /** The same rows in memory of their own, which stay when an Input is freed. */
+  copy() {
+    return new Rows(this.#layout, copyOf(this.#home.bytes()));
+  }
+
+  *[Symbol.iterator]() {
+    for (let i = 0; i < this.length; i++) yield this.at(i);
+  }
+}
