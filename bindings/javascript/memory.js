@@ -12,8 +12,8 @@ export class Memory {
   #answer;
   #free; // the regions that nobody has, [at, end], rising; the last may end where the memory does
 
-  /** Another number whenever views may have become invalid: the memory has grown, or an Input was freed. */
-  epoch = 0;
+  /** It counts what makes views invalid: that the memory has grown, or an Input was freed. */
+  epoch = { count: 0 };
 
   constructor(instance) {
     this.exports = instance.exports;
@@ -52,7 +52,7 @@ export class Memory {
     const last = this.#free.at(-1);
     const has = last?.[1] === size ? last[1] - last[0] : 0;
     this.#addPages(Math.ceil((bytes - has) / PAGE));
-    this.epoch += 1;
+    this.epoch.count += 1;
     if (has > 0) last[1] = this.#memory.buffer.byteLength;
     else this.#free.push([size, this.#memory.buffer.byteLength]);
     return this.#free.length - 1;
@@ -185,12 +185,12 @@ export class Input {
   home(length) {
     const lease = this.#lease;
     const at = lease.take(length);
-    return { memory: lease.memory, at, bytes: () => lease.bytes(at, length) };
+    return { epoch: lease.memory.epoch, at, bytes: () => lease.bytes(at, length) };
   }
 
   /** Gives the memory back. Its rows end with it: to read them throws. */
   free() {
     this.#lease.end();
-    this.#lease.memory.epoch += 1;
+    this.#lease.memory.epoch.count += 1;
   }
 }

@@ -40,31 +40,34 @@ function layout(text) {
 /** The structs of hunk.h as this package reads them. */
 export const LAYOUTS = Object.fromEntries(Object.entries(STRUCTS).map(([name, text]) => [name, layout(text)]));
 
-/** A field of 4 or 8 bytes. */
+/** A field of 4 or 8 bytes. Of two halves it is quicker than by a BigInt. */
 export function number(view, at, bytes) {
-  return bytes === 8 ? Number(view.getBigUint64(at, true)) : view.getUint32(at, true);
+  const low = view.getUint32(at, true);
+  return bytes === 8 ? low + view.getUint32(at + 4, true) * 2 ** 32 : low;
 }
 
 /** Bytes of their own, as a home of rows: they stay as they are. */
-const OWN = { epoch: 0 };
+const NEVER = { count: 0 };
 export const copyOf = (bytes) => {
   const copy = bytes.slice();
-  return { memory: OWN, bytes: () => copy };
+  return { epoch: NEVER, at: 0, bytes: () => copy };
 };
 
 /** The rows of a table. A row is an object that is made when it is asked for: a file may have millions. Where they stand, their
- * home says: its `bytes()` throw once they are gone, and count again from when the `epoch` of its memory is another one. */
+ * home says: its `bytes()` throw once they are gone, and are asked again when its `epoch` has another count. */
 export class Rows {
   #layout;
   #names;
   #home;
   #epoch;
+  #count;
   #view;
 
   constructor(layout, home) {
     this.#layout = layout;
     this.#names = Object.keys(layout.fields).filter((name) => name !== "reserved");
     this.#home = home;
+    this.#epoch = home.epoch;
     this.#renew();
     this.length = this.#view.byteLength / layout.size;
   }
@@ -72,7 +75,7 @@ export class Rows {
   #renew() {
     const { buffer, byteOffset, byteLength } = this.#home.bytes();
     this.#view = new DataView(buffer, byteOffset, byteLength);
-    this.#epoch = this.#home.memory.epoch;
+    this.#count = this.#epoch.count;
   }
 
   /** Row i, counted from 0. */
@@ -84,7 +87,7 @@ export class Rows {
 
   /** One field of row i, without the others. */
   get(i, name) {
-    if (this.#epoch !== this.#home.memory.epoch) this.#renew();
+    if (this.#count !== this.#epoch.count) this.#renew();
     const { at, bytes } = this.#layout.fields[name];
     return number(this.#view, i * this.#layout.size + at, bytes);
   }

@@ -10,8 +10,10 @@ wants() {
 module() {
   name=$1
   shift
-  (cd "$work/files" && node "$@" "$here/dump.mjs" "$top/ports/out/wasm/$name" < "$work/names") > "$work/module"
-  same "$name" "$work/native" "$work/module"
+  for way in copied in-place; do
+    (cd "$work/files" && node "$@" "$here/dump.mjs" "$top/ports/out/wasm/$name" $way < "$work/names") > "$work/module"
+    same "$name, $way" "$work/native" "$work/module"
+  done
   node "$@" "$here/vectors.mjs" "ports/out/wasm/$name" vectors/load.tsv vectors/objects.tsv "$work/every" > "$work/told" ||
     lack "$name and the suite differ: $(head -n 1 "$work/told")"
   compared=$((compared + $(tail -n 1 "$work/told" | cut -d ' ' -f 1)))
@@ -20,7 +22,9 @@ module() {
 if has WebAssembly node; then
   builds wasm
   node "$here/layouts.mjs" > "$work/layouts.c"
-  "$CC" -std=c11 -Ibindings/c -fsyntax-only "$work/layouts.c" || lack 'bindings/javascript/hunk.js and hunk.h differ'
+  "$CC" -std=c11 -Ibindings/c -fsyntax-only "$work/layouts.c" || lack 'bindings/javascript/rows.js and hunk.h differ'
+  pass
+  node "$here/kinds.mjs" docs/FORMAT.md > "$work/told" || lack "$(head -n 1 "$work/told")"
   pass
   if wants; then
     module hunk.wasm
@@ -31,13 +35,7 @@ if has WebAssembly node; then
   fi
   if has hunk32.wasm wasm-opt; then
     module hunk32.wasm
-    # The example, which ports/README.md shows: a symbol `_m` of value 0, and a hunk of one longword.
-    example=bindings/javascript/examples/symbols.js
-    printf '0 _m\n4e754e71\n' > "$work/wanted"
-    node $example ports/out/wasm/hunk32.wasm "$work/files/18-symbol" > "$work/told"
-    same $example "$work/wanted" "$work/told"
-    sed -n '/^```js$/,/^```$/p' ports/README.md | sed '1d;$d' | diff - $example > "$work/cmp" ||
-      lack "ports/README.md and $example differ"
-    pass
+    # shellcheck source=tests/targets/package.sh
+    . "$here/package.sh"
   fi
 fi

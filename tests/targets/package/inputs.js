@@ -1,0 +1,143 @@
+// What docs/CALLING.md promises of the package, beside what the calls answer: node inputs.js FILE, a load file of one hunk with
+// one symbol. It prints what is not so, and ends with status 1; else `as promised`.
+import { readFile } from "node:fs/promises";
+import { FLAGS, flagNames, Hunk, HunkError, KINDS, kindName, nameOf, open, takesMemory64 } from "hunk-files";
+
+let failed = 0;
+function hold(what, isSo) {
+  if (isSo) return;
+  failed += 1;
+  console.log(`not so: ${what}`);
+}
+
+/** What a call throws; nothing where it does not. */
+function thrown(call) {
+  try {
+    call();
+    return null;
+  } catch (error) {
+    return error;
+  }
+}
+const refuses = (kind, call) => thrown(call) instanceof kind;
+const text = (listed) => JSON.stringify([...listed.rows]);
+const beside = (name) => readFile(new URL(`./node_modules/hunk-files/${name}`, import.meta.url));
+
+/** The module that `open` takes. */
+async function picked() {
+  const { compile } = WebAssembly;
+  let taken;
+  WebAssembly.compile = (bytes) => {
+    taken = bytes;
+    return compile(bytes);
+  };
+  await open();
+  WebAssembly.compile = compile;
+  return taken;
+}
+
+async function holdModules(module) {
+  const wanted = await beside(takesMemory64() ? "hunk.wasm" : "hunk32.wasm");
+  hold("open takes the module that suits", wanted.equals(await picked()));
+  hold("no module is no module", (await Hunk.open().catch((error) => error)) instanceof TypeError);
+  const answer = (status, type) => new Response(module, { status, headers: { "content-type": type } });
+  const lacks = await Hunk.open(answer(404, "application/wasm")).catch((error) => error.message);
+  hold("an answer that is none is said", String(lacks).includes("404"));
+  for (const type of ["application/wasm", "application/octet-stream"]) {
+    hold(`an answer that is ${type}`, (await Hunk.open(Promise.resolve(answer(200, type)))).abi() === 1);
+  }
+}
+
+/** A view is invalid once the memory has grown; rows and the Input go on. */
+function holdGrowth(hunk, bytes) {
+  const input = hunk.put(bytes);
+  const { rows } = hunk.symbols(input);
+  const view = input.bytes;
+  hold("a view of the Input is its bytes", view.buffer === input.bytes.buffer && Buffer.compare(view, bytes) === 0);
+  hold("a view goes to a call", text(hunk.blocks(view)) === text(hunk.blocks(bytes)));
+  const more = hunk.alloc(1 << 24);
+  hold("a view from before is empty", view.length === 0 && input.bytes.length === bytes.length);
+  hold("no call takes it for an empty file", refuses(TypeError, () => hunk.check(view)));
+  hold("no name is read in it", refuses(RangeError, () => nameOf(view, rows.at(0))));
+  hold("rows and names go on", nameOf(input, rows.at(0)) === "_m" && rows.get(0, "value") === 0);
+  hold("calls take the Input", text(hunk.blocks(input)) === text(hunk.blocks(bytes)));
+  more.free();
+  input.free();
+}
+
+function holdFree(hunk, bytes) {
+  const input = hunk.put(bytes);
+  const { rows } = hunk.blocks(input);
+  const kept = rows.copy();
+  const { length } = rows;
+  const before = text({ rows });
+  input.free();
+  input.free();
+  hold("rows end with their Input", refuses(TypeError, () => rows.at(0)) && length === 3);
+  hold("a copy of them stays", text({ rows: kept }) === before);
+  hold("it has no bytes", refuses(TypeError, () => input.bytes));
+  hold("no call takes it", refuses(TypeError, () => hunk.check(input)));
+  const size = () => {
+    const it = hunk.alloc(1);
+    const { byteLength } = it.bytes.buffer;
+    it.free();
+    return byteLength;
+  };
+  const was = size();
+  for (let i = 0; i < 2000; i++) {
+    const [one, other] = [hunk.put(bytes), hunk.alloc(1000 + i)];
+    hunk.blocks(one);
+    hunk.strip(bytes);
+    one.free();
+    thrown(() => hunk.check(other));
+    other.free();
+  }
+  hold("what is freed is taken again", size() === was);
+}
+
+/** An emulator whose memory is the module's. */
+function holdMemory(hunk, bytes) {
+  const [file, ram, own] = [hunk.put(bytes), hunk.put(new Uint8Array(64)), new Uint8Array(64)];
+  hunk.loadAt(bytes, [0x1010], 0x1000, own);
+  hunk.loadAt(file, [0x1010], 0x1000, ram);
+  hold("the code lies there", own[16] === 0x4e && own[17] === 0x75);
+  hold("an Input is loaded to", Buffer.compare(own, ram.bytes) === 0);
+  hunk.loadAt(file, [0x1020], 0x1000, ram.bytes);
+  hold("and a view of it", ram.bytes[32] === 0x4e);
+  hold("not over the file", refuses(TypeError, () => hunk.loadAt(file, [0], 0, file)));
+  file.free();
+  ram.free();
+}
+
+function holdLoader(hunk, bytes) {
+  const table = hunk.table(bytes);
+  const loader = hunk.begin(table, [0x21000]);
+  const { memory } = hunk.loadPacked(bytes, 0x21000);
+  const view = loader.memory();
+  const rest = bytes.subarray(table.header);
+  loader.buffer.set(rest);
+  hold("what stands in its buffer is fed", loader.feed(loader.buffer.subarray(0, rest.length)) === rest.length);
+  hold("its memory is a view", loader.end().hunks === 1 && Buffer.compare(view, memory) === 0 && memory.length > 0);
+}
+
+const bytes = await readFile(process.argv[2]);
+const module = await beside("hunk32.wasm");
+await holdModules(module);
+for (const hunk of [await open(), await Hunk.open(module)]) {
+  holdGrowth(hunk, bytes);
+  holdFree(hunk, bytes);
+  holdMemory(hunk, bytes);
+  holdLoader(hunk, bytes);
+  const other = (await open()).put(bytes);
+  hold("an Input is of its Hunk", refuses(TypeError, () => hunk.check(other)));
+  hold("an Input has a length", refuses(RangeError, () => hunk.alloc(-1)) && refuses(RangeError, () => hunk.alloc(1.5)));
+  hold("an empty file is refused", thrown(() => hunk.check(new Uint8Array())) instanceof HunkError);
+  const gone = Uint8Array.from(bytes);
+  structuredClone(gone.buffer, { transfer: [gone.buffer] });
+  hold("bytes that were handed on are no file", refuses(TypeError, () => hunk.check(gone)));
+  hold("a text is no file", refuses(TypeError, () => hunk.check("file")));
+}
+hold("names of kinds", kindName(0x3e9) === "CODE" && KINDS.CODE === 0x3e9 && kindName(1012) === "ADVISORY 1012");
+hold("names of flags", flagNames(FLAGS.ADVISORY | FLAGS.FAST).join() === "advisory,fast");
+if (failed === 0) console.log("as promised");
+process.exit(failed > 0 ? 1 : 0);

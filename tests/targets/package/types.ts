@@ -1,0 +1,44 @@
+// A caller that compiles by the types of the package alone, with none of a browser or of node.
+import { type Block, entryKindName, HunkError, Hunk, type Input, KINDS, kindName, MEMORIES, nameOf, open } from "hunk-files";
+import { type Rows } from "hunk-files";
+import { open as openInline } from "hunk-files/inline";
+import { Hunk as Plain, type Source, takesMemory64 } from "hunk-files/hunk.js";
+
+async function lists(hunk: Hunk, bytes: Uint8Array): Promise<string[]> {
+  const input: Input = hunk.put(bytes);
+  const { rows, hunks }: { rows: Rows<Block>; hunks: number } = hunk.blocks(input);
+  const names = Array.from(rows, (it) => `${hunks} ${kindName(it.kind)} ${it.kind === KINDS.CODE}`);
+  for (const it of hunk.entries(input.bytes).rows) names.push(entryKindName(it.kind) + nameOf(input, it));
+  for (const it of hunk.table(bytes).rows.copy()) names.push(MEMORIES[it.memory] ?? "");
+  const place: number = rows.get(0, "place");
+  // @ts-expect-error: a row has no such field
+  rows.get(place, "nothing");
+  // @ts-expect-error: a file is no text
+  hunk.check("file");
+  // @ts-expect-error: a type of block that is not there
+  names.push(String(KINDS.NOTHING));
+  input.free();
+  return names;
+}
+
+function loads(hunk: Hunk, bytes: Uint8Array, ram: Input): Uint8Array {
+  const table = hunk.table(bytes);
+  const loader = hunk.begin(table, new Uint32Array(table.rows.length));
+  loader.feed(loader.buffer.subarray(0, loader.want().bytes));
+  hunk.loadAt(bytes, [0x1000], 0x1000, ram);
+  return hunk.wide(bytes, (plain) => hunk.loadPacked(plain, 0x21000).memory);
+}
+
+const told = (error: HunkError): string => `${error.place} ${error.reason} ${error.number} ${error.text}`;
+
+export async function main(source: Source): Promise<void> {
+  const hunk = takesMemory64() ? await open() : await openInline();
+  const plain: Hunk = await Plain.open(source);
+  await Plain.open(Promise.resolve(new Uint8Array()));
+  const bytes = plain.strip(new Uint8Array()).text;
+  try {
+    await lists(hunk, loads(hunk, bytes, hunk.alloc(16)));
+  } catch (error) {
+    if (error instanceof HunkError) told(error);
+  }
+}
