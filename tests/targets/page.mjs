@@ -28,7 +28,8 @@ try {
       await new Promise((done) => setTimeout(done, 50));
     }
     return shown() ?? "nothing";`;
-  await browser.runIn(`while (!document.getElementById("pick")) await new Promise((done) => setTimeout(done, 50));`);
+  const isThere = `document.readyState === "complete" && document.getElementById("pick")`;
+  await browser.runIn(`while (!(${isThere})) await new Promise((done) => setTimeout(done, 50));`);
   await browser.upload("#pick", [file]);
   console.log(await browser.runIn(shown));
 } finally {
