@@ -55,7 +55,7 @@ export function nameOf(bytes, row) {
 
 /** The module of a source, compiled while it comes where an answer of fetch says what it is. */
 async function compiled(source) {
-  if (source === undefined) throw new TypeError("Hunk.open takes a module: `open` of the package has its own");
+  if (source === undefined || source === null) throw new TypeError("Hunk.open takes a module: `open` of the package has its own");
   if (typeof source.arrayBuffer !== "function") {
     return source instanceof WebAssembly.Module ? source : WebAssembly.compile(source);
   }

@@ -10,7 +10,7 @@ prints() {
   what=$1
   printf '%s\n' "$2" > "$work/wanted"
   shift 2
-  (cd "$project" && "$@") > "$work/told" 2> "$work/log" || lack "$what: $(grep -m 1 . "$work/told" "$work/log" | head -n 1)"
+  (cd "$project" && "$@") > "$work/told" 2> "$work/log" || lack "$what: $(cat "$work/told" "$work/log" | grep -m 1 .)"
   same "$what" "$work/wanted" "$work/told"
 }
 # installs: the package, into an empty folder
@@ -54,6 +54,10 @@ byte 36: SYMBOL, 20 bytes
 byte 56: END, 4 bytes' node "$here/page.mjs" "$1" "$project" "$symbol" "$work/$1"
 }
 
+sed -n '/^## From JavaScript/,/^### /p' docs/CALLING.md | sed -n '/^```js$/,/^```$/p' | sed '1d;$d' |
+  diff - bindings/javascript/examples/symbols.js > "$work/cmp" ||
+  lack 'docs/CALLING.md and bindings/javascript/examples/symbols.js differ'
+pass
 if has 'the package of JavaScript' npm; then
   installs
   runs
