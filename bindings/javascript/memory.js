@@ -23,7 +23,7 @@ export class Memory {
     this.#answer = this.take(LAYOUTS.answer.size);
   }
 
-  /** The first place that has room, where the memory ends after it has grown. */
+  /** The first place that has room; where there is none the memory grows. */
   take(length) {
     const bytes = Math.max(STEP, upTo(length));
     let i = this.#free.findIndex(([at, end]) => end - at >= bytes);
@@ -34,6 +34,7 @@ export class Memory {
     return at;
   }
 
+  /** A region that was taken, by the same length; it is joined with those that are free beside it. */
   give(at, length) {
     const end = at + Math.max(STEP, upTo(length));
     let i = this.#free.findIndex(([other]) => other > at);
