@@ -1,6 +1,7 @@
 """The command `hunk`: what stands in hunk files of AmigaDOS.
 
     hunk SUBCOMMAND FILE..
+    hunk explain REASON..
 
 Each subcommand is a module beside this one, with its name, its help, its arguments and its run, which answers the status: 0 where
 all is well, 1 where a file was refused or could not be read (the others are done), 2 of a command line that is refused, 3 where
@@ -18,16 +19,18 @@ import sys
 from typing import Optional, Sequence
 
 import hunk
-from hunk.command import differences, documents, dump, nm, picture, relocs, show, size, survey
+from hunk.command import differences, documents, dump, explain, nm, picture, relocs, show, size, survey
 
-SUBCOMMANDS = (show, size, nm, relocs, dump, documents, picture, differences, survey)
+SUBCOMMANDS = (show, size, nm, relocs, dump, documents, picture, differences, survey, explain)
 CANNOT_WRITE, INTERRUPTED, NOBODY_READS = 3, 130, 141
 
 DESCRIPTION = "Tells what stands in hunk files of AmigaDOS, executables and object files."
-EPILOG = """Each takes files, folders with their subfolders, and - for standard input. `hunk SUBCOMMAND --help` says more.
+EPILOG = """All but diff and explain take files, folders with their subfolders, and - for standard input. `hunk SUBCOMMAND
+--help` says more.
 
 What can't be read or is refused is told on standard error, and the others go on:
   hunk: NAME: refused at byte N: REASON: what it means (no hunk file, not supported, damaged or not judged)
+`hunk explain REASON` says what to do about it.
 
 Exit status:
   0    done

@@ -83,4 +83,4 @@ def judge(found: inputs.Found, has_sum: bool) -> Row:
     except inputs.NoFile:
         return not_judged("NoFile", name)
     except MemoryError:
-        return not_judged(reasons.ROWS[reasons.OUT_OF_MEMORY][0], name)
+        return not_judged(reasons.ROWS[reasons.OUT_OF_MEMORY].name, name)

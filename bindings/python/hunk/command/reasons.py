@@ -2,53 +2,135 @@
 
 from __future__ import annotations
 
+from typing import NamedTuple
+
 import hunk
 
-# The name, the class and the meaning of each.
+
+class Reason(NamedTuple):
+    """A reason by its name: its class, what it means, and what a developer of the file and an archive do about it."""
+
+    name: str
+    kind: str
+    meaning: str
+    developer: str
+    archive: str
+
+
 ROWS = {
-    1: ("NotLoadFile", "no hunk file", "the first longword is not 3F3"),
-    2: ("IsObject", "not supported", "a load file is needed, and this is an object file: link it first"),
-    3: ("Library", "not supported", "a library for a linker, with a LIB or INDEX block"),
-    4: ("Resident", "not supported", "the header names resident libraries, as for the first AmigaDOS"),
-    5: ("NoHunks", "damaged", "the header has a table of no hunks"),
-    6: ("TooManyHunks", "damaged", "the header has a table of more than 65,536 hunks"),
-    7: ("FirstHunk", "not supported", "the first hunk of the table is not 0"),
-    8: ("LastHunk", "not supported", "the last hunk is not the table size less 1, as in files with overlays"),
-    9: ("BothBits", "damaged", "a block word has bits 30 and 31 both set"),
-    10: ("Advisory", "not judged", "reserved: no answer has this number"),
-    11: ("Overlay", "not supported", "an OVERLAY block, of a file with overlays"),
-    12: ("Break", "not supported", "a BREAK block, of a file with overlays"),
-    13: ("ShortReloc", "not supported", "a block of short relocations, whose offsets have 16 bits"),
-    14: ("NotInLoadFile", "not supported", "a block that only object files have: the file is only partly linked"),
-    15: ("Misplaced", "damaged", "a HEADER or UNIT where none may stand, or a block before the first UNIT"),
-    16: ("UnknownBlock", "damaged", "a type of block that is not known, without the bit of advisory blocks"),
-    17: ("SecondContent", "damaged", "a second CODE, DATA or BSS block in a hunk"),
-    18: ("BeforeContent", "damaged", "a relocation or EXT block before the CODE, DATA or BSS block of its hunk"),
-    19: ("NoContent", "damaged", "a hunk ends without a CODE, DATA or BSS block"),
-    20: ("ContentTooLong", "damaged", "more content than the hunk is declared to have"),
-    21: ("NameWord", "damaged", "the top byte of the longword with the length of a name is not 0"),
-    22: ("NothingToRelocate", "damaged", "a relocation in a hunk of 0 bytes"),
-    23: ("BadTarget", "damaged", "the target of a relocation is no hunk of the file"),
-    24: ("BadOffset", "damaged", "a relocated longword runs past the end of its hunk"),
-    25: ("ExtKind", "damaged", "an EXT entry of a type that is not known"),
-    26: ("Truncated", "damaged", "the input ends too soon"),
-    27: ("Budget", "not judged", "the hunks declare more bytes than the budget allows"),
-    28: ("FileLimit", "not judged", "as many bytes as may be read were read, and the file had not ended"),
-    29: ("NoBase", "not judged", "a hunk has no base, or would pass the address 2^32"),
-    30: ("Read", "not judged", "the input could not be read"),
-    31: ("OutOfMemory", "not judged", "memory was refused"),
+    1: Reason("NotLoadFile", "no hunk file", "the first longword is not 3F3",
+              "see whether it is the file that the linker wrote",
+              "sort it by other tools: it may be data, a text, an icon or a disk image"),
+    2: Reason("IsObject", "not supported", "a load file is needed, and this is an object file: link it first",
+              "link it; show, validate and rewrite take it as it is",
+              "keep it as an object file, and try it with validate"),
+    3: Reason("Library", "not supported", "a library for a linker, with a LIB or INDEX block",
+              "give it to a linker, and read what that writes",
+              "keep it as a library: it is not known to be damaged"),
+    4: Reason("Resident", "not supported", "the header names resident libraries, as for the first AmigaDOS",
+              "link again, without resident libraries",
+              "keep it: it is for the first AmigaDOS, or its second longword is damaged"),
+    5: Reason("NoHunks", "damaged", "the header has a table of no hunks",
+              "correct what wrote the header: a load file has at least one hunk",
+              "keep it, mark it as damaged, and look for another copy"),
+    6: Reason("TooManyHunks", "damaged", "the header has a table of more than 65,536 hunks",
+              "correct the size of the table, or link into fewer hunks",
+              "keep it, mark it as damaged, and look for another copy"),
+    7: Reason("FirstHunk", "not supported", "the first hunk of the table is not 0",
+              "link without overlays",
+              "keep it: it is a program with overlays, or its header is damaged"),
+    8: Reason("LastHunk", "not supported", "the last hunk is not the table size less 1, as in files with overlays",
+              "link without overlays",
+              "keep it: it is a program with overlays, or its header is damaged"),
+    9: Reason("BothBits", "damaged", "a block word has bits 30 and 31 both set",
+              "clear one of them, or correct a length before the word",
+              "keep it, mark it as damaged, and look for another copy"),
+    10: Reason("Advisory", "not judged", "reserved: no answer has this number",
+              "nothing: it is never answered",
+              "nothing: it is never answered"),
+    11: Reason("Overlay", "not supported", "an OVERLAY block, of a file with overlays",
+              "link without overlays",
+              "keep it: it is a program with overlays, and not known to be damaged"),
+    12: Reason("Break", "not supported", "a BREAK block, of a file with overlays",
+              "link without overlays",
+              "keep it: it is a program with overlays, and not known to be damaged"),
+    13: Reason("ShortReloc", "not supported", "a block of short relocations, whose offsets have 16 bits",
+              "read it with --wide, or link without short relocations",
+              "keep it: it is for AmigaDOS from V37 on; try it with --wide"),
+    14: Reason("NotInLoadFile", "not supported", "a block that only object files have: the file is only partly linked",
+              "link it to its end, with nothing left open",
+              "keep it: it is partly linked, and not known to be damaged"),
+    15: Reason("Misplaced", "damaged", "a HEADER or UNIT where none may stand, or a block before the first UNIT",
+              "correct a length before it, or cut files apart that were joined",
+              "see whether it is two files in one; else mark it as damaged"),
+    16: Reason("UnknownBlock", "damaged", "a type of block that is not known, without the bit of advisory blocks",
+              "set bit 29 if readers may pass over it, or correct a length before it",
+              "keep it, and note the type: it may be a vendor's own block"),
+    17: Reason("SecondContent", "damaged", "a second CODE, DATA or BSS block in a hunk",
+              "end each hunk with END before the next begins; --wide puts it in",
+              "try it with --wide: what wrote it may leave END out; else mark it as damaged"),
+    18: Reason("BeforeContent", "damaged", "a relocation or EXT block before the CODE, DATA or BSS block of its hunk",
+              "write the blocks in the other order",
+              "keep it, mark it as damaged, and look for another copy"),
+    19: Reason("NoContent", "damaged", "a hunk ends without a CODE, DATA or BSS block",
+              "give the hunk a BSS block, of size 0 if it has nothing",
+              "keep it, mark it as damaged, and look for another copy"),
+    20: Reason("ContentTooLong", "damaged", "more content than the hunk is declared to have",
+              "correct the hunk's size in the table, or the size in the block",
+              "keep it, mark it as damaged, and look for another copy"),
+    21: Reason("NameWord", "damaged", "the top byte of the longword with the length of a name is not 0",
+              "correct the length of the name, or a length before it",
+              "keep it, mark it as damaged, and look for another copy"),
+    22: Reason("NothingToRelocate", "damaged", "a relocation in a hunk of 0 bytes",
+              "drop the relocation, or declare the hunk's size in the table",
+              "keep it, mark it as damaged, and look for another copy"),
+    23: Reason("BadTarget", "damaged", "the target of a relocation is no hunk of the file",
+              "correct the target: hunks count from 0, those of this file alone",
+              "keep it, mark it as damaged, and look for another copy"),
+    24: Reason("BadOffset", "damaged", "a relocated longword runs past the end of its hunk",
+              "correct the offset, or declare the hunk larger in the table",
+              "keep it, mark it as damaged, and look for another copy"),
+    25: Reason("ExtKind", "damaged", "an EXT entry of a type that is not known",
+              "write a type that FORMAT.md lists, or correct a length before the entry",
+              "keep it, and note the type: it may be an assembler's own"),
+    26: Reason("Truncated", "damaged", "the input ends too soon",
+              "see whether all of it was written and read, or correct a length before the end",
+              "try it with --wide, as only its last END may be missing; else look for a longer copy"),
+    27: Reason("Budget", "not judged", "the hunks declare more bytes than the budget allows",
+              "give a larger budget, if the file is to be trusted with it",
+              "try it with validate, which needs no budget"),
+    28: Reason("FileLimit", "not judged", "as many bytes as may be read were read, and the file had not ended",
+              "raise the limit; that of the program is fixed",
+              "see whether it is a disk image or an archive: programs are smaller"),
+    29: Reason("NoBase", "not judged", "a hunk has no base, or would pass the address 2^32",
+              "load at a lower address, or give a base for each hunk",
+              "try it with validate, which needs no address"),
+    30: Reason("Read", "not judged", "the input could not be read",
+              "read it again: the disk or the pipe failed",
+              "read it again, or from another disk"),
+    31: Reason("OutOfMemory", "not judged", "memory was refused",
+              "free memory, or give a smaller budget",
+              "try it again where more memory is free"),
 }
-# The class of a reason that is met at byte 0, where that is another.
-AT_0 = {26: "no hunk file"}
+# Those that are of another class where they are met at byte 0.
+AT_0 = {
+    26: Reason("Truncated", "no hunk file", "the input ends too soon",
+              "see whether it was written at all: it has fewer than 4 bytes",
+              "look for another copy: this one is empty, or nearly so"),
+}
+# What an offset of an object file may be wrong for, and what that means.
+FINDINGS = {
+    "BadTarget": "the target of the relocation at this offset is no hunk of its unit",
+    "OutsideHunk": "what stands at this offset runs past the end of its hunk",
+}
 
 FILE_LIMIT, OUT_OF_MEMORY = 28, 31
 NOT_JUDGED = "not judged"
 CLASSES = ("no hunk file", "not supported", "damaged", NOT_JUDGED)
-MEANINGS = {number: meaning for number, (_, _, meaning) in ROWS.items()}
+MEANINGS = {number: it.meaning for number, it in ROWS.items()}
 
 
 def class_of(error: hunk.HunkError) -> str:
     """What is known of the whole file that was refused so."""
-    if error.place == 0 and error.number in AT_0:
-        return AT_0[error.number]
-    return ROWS[error.number][1] if error.number in ROWS else NOT_JUDGED
+    table = AT_0 if error.place == 0 and error.number in AT_0 else ROWS
+    return table[error.number].kind if error.number in table else NOT_JUDGED

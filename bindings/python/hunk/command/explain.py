@@ -1,0 +1,76 @@
+"""Explains reasons and findings, by their names and numbers."""
+
+from __future__ import annotations
+
+import argparse
+import difflib
+from typing import Dict, Iterator, List
+
+from hunk.command.judging import FINDINGS as OF_FINDINGS
+from hunk.command.reasons import AT_0, FINDINGS, ROWS, Reason
+
+NAME = "explain"
+HELP = "what a reason means, and what to do about it"
+DESCRIPTION = """Says of each reason for which files are refused its number and its class, what it means, what the developer
+of the file does about it, and what an archive does; of a finding in an object file, what it means.
+Without a name all are listed, a line each: number, name, class, and what it means."""
+
+
+def add_arguments(parser: argparse.ArgumentParser) -> None:
+    parser.add_argument("texts", metavar="REASON", nargs="*", type=text_of,
+                        help="its name, as BadOffset, in small or capital letters; or its number")
+
+
+def sentence(text: str) -> str:
+    return f"{text[0].upper()}{text[1:]}."
+
+
+def reason_text(number: str, it: Reason) -> str:
+    head = f"{it.name} ({number}), {it.kind}\n  {sentence(it.meaning)}"
+    return f"{head}\n  Developer: {it.developer}.\n  Archive: {it.archive}."
+
+
+def known() -> Dict[str, List[str]]:
+    """What there is to say, by the words that ask for it. A name of a reason and of a finding asks for both."""
+    found: Dict[str, List[str]] = {}
+    for where, table in (("", ROWS), (" at byte 0", AT_0)):
+        for number, it in table.items():
+            for word in (it.name.lower(), str(number)):
+                found.setdefault(word, []).append(reason_text(f"{number}{where}", it))
+    for name, meaning in FINDINGS.items():
+        found.setdefault(name.lower(), []).append(f"{name}, a finding\n  {sentence(meaning)}")
+    return found
+
+
+def near(word: str) -> List[str]:
+    """The names in which a word stands; where there are none, those that are spelled like it."""
+    names = {name.lower(): name for name in (*(it.name for it in ROWS.values()), *FINDINGS)}
+    having = [it for it in names if word and word in it]
+    return [names[it] for it in having or difflib.get_close_matches(word, names, cutoff=0.5)]
+
+
+def text_of(word: str) -> str:
+    """What is said of a word of the command line."""
+    texts = known().get(word.lower())
+    if texts:
+        return "\n".join(texts)
+    names = near(word.lower())
+    told = f"near it: {', '.join(names)}" if names else "hunk explain lists all"
+    raise argparse.ArgumentTypeError(f"{word!r} is no reason; {told}")
+
+
+def lines() -> Iterator[str]:
+    """All of them, a line each."""
+    rows = [(str(number), it.name, it.kind, it.meaning) for number, it in ROWS.items()]
+    rows += [(str(number), it.name, it.kind, f"{it.meaning}, at byte 0") for number, it in AT_0.items()]
+    rows.sort(key=lambda it: int(it[0]))
+    rows += [("-", name, OF_FINDINGS, meaning) for name, meaning in FINDINGS.items()]
+    widths = [max(map(len, column)) for column in zip(*rows)]
+    for number, name, kind, meaning in rows:
+        yield f"{number:>{widths[0]}} {name:{widths[1]}} {kind:{widths[2]}} {meaning}"
+
+
+def run(options: argparse.Namespace) -> int:
+    for text in options.texts or lines():
+        print(text)
+    return 0
