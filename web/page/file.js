@@ -40,7 +40,7 @@ export function summary(hunk, bytes) {
 }
 
 /** The plain spelling of bytes that are refused, and what that is, where it is accepted. */
-function inPlain(hunk, bytes, { refusal }) {
+export function inPlain(hunk, bytes, { refusal }) {
   if (!OF_SPELLING.includes(refusal?.number)) return null;
   const spelling = hunk.spelling(bytes);
   if (spelling.shortBlocks + spelling.ends === 0) return null;

@@ -29,27 +29,30 @@ const many = new Many($("many-list"), $("many-summary"), openFile);
 
 // ---- The verdict.
 
+/** By its first longword. Its class says what is known of the whole file. */
+const BEGINS = { "load file": "Begins as a load file", "object file": "Begins as an object file" };
+
 function refusalText({ kind, refusal }) {
-  const what = kind === "other file" ? "Neither a load file nor an object file" : `No good ${kind}`;
+  const what = BEGINS[kind] ?? "Neither a load file nor an object file";
   return `${what}: refused at byte ${refusal.place} (${hex(refusal.place)}), ${refusal.reason} (${refusal.number}).`;
 }
 
 /** Of a file that is shown in its plain spelling: what it has otherwise, and why it is refused as it is. */
-function spelledText({ hunks, declared, spelling, strict }) {
+function spelledText({ spelling, strict }, what) {
   const short = spelling.shortBlocks > 0 ? [`${counted(spelling.shortBlocks, "block")} of short relocations`] : [];
   const ends = spelling.ends > 0 ? [`${spelling.ends.toLocaleString("en")} END left out`] : [];
-  const what = `${counted(hunks, "hunk")}, ${counted(declared, "byte")} in memory`;
-  const found = `In another spelling, with ${[...short, ...ends].join(" and ")}, a load file: ${what}. Its plain spelling is shown.`;
+  const found = `In another spelling, with ${[...short, ...ends].join(" and ")}, ${what}. Its plain spelling is shown.`;
   return `${found} As it is, it is refused at byte ${strict.place} (${hex(strict.place)}), ${strict.reason} (${strict.number}).`;
 }
 
 function acceptedText(about) {
-  if (about.strict) return spelledText(about);
+  const what =
+    about.hunks > 0
+      ? `a load file: ${counted(about.hunks, "hunk")}, ${counted(about.declared, "byte")} in memory`
+      : `an object file: ${counted(about.units, "unit")}, ${counted(about.findings, "finding")}`;
+  if (about.strict) return spelledText(about, what);
   const rest = about.length < file.bytes.length ? `; ${counted(file.bytes.length - about.length, "byte")} after it are not read` : "";
-  if (about.hunks > 0) {
-    return `A load file: ${counted(about.hunks, "hunk")}, ${counted(about.declared, "byte")} in memory${rest}.`;
-  }
-  return `An object file: ${counted(about.units, "unit")}, ${counted(about.findings, "finding")}.`;
+  return `A${what.slice(1)}${rest}.`;
 }
 
 function showVerdict() {

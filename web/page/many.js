@@ -1,7 +1,8 @@
 // Many files: a line for each, sorted by any column, and saved as CSV.
 
 import { Grid } from "./grid.js";
-import { summary } from "./file.js";
+import { inPlain, summary } from "./file.js";
+import { counted } from "./names.js";
 import { classOf } from "./reasons.js";
 
 const COLUMNS = [
@@ -15,17 +16,23 @@ const COLUMNS = [
   ["reason", "minmax(9em, 1fr)"],
   ["class", "7em"],
 ];
+/** In the words and the order of `hunk survey`. */
+const CLASSES = ["load", "object", "findings", "wide", "no hunk file", "not supported", "damaged", "not judged"];
 const FIELDS = ["file", "bytes", "answer", "kind", "first", "second", "place", "reason", "class", "number"];
 
 /** A file's line: its fields, in the order of FIELDS. */
-function lineOf(name, bytes, about) {
-  if (about.refusal) {
-    const { place, reason, number } = about.refusal;
-    return [name, bytes, "refused", about.kind, "", "", place, reason, classOf(about.refusal), number];
+function lineOf(hunk, name, bytes) {
+  const about = summary(hunk, bytes);
+  const { kind, refusal } = about;
+  if (refusal) {
+    const shown = inPlain(hunk, bytes, about) ? "wide" : classOf(refusal);
+    return [name, bytes.length, "refused", kind, "", "", refusal.place, refusal.reason, shown, refusal.number];
   }
-  const counts = about.hunks > 0 ? [about.hunks, about.declared] : [about.units, about.findings];
-  const kind = about.hunks > 0 ? "load file" : "object file";
-  return [name, bytes, "accepted", kind, ...counts, "", "", "", ""];
+  const [shown, ...counts] =
+    about.hunks > 0
+      ? ["load", about.hunks, about.declared]
+      : [about.findings > 0 ? "findings" : "object", about.units, about.findings];
+  return [name, bytes.length, "accepted", kind, ...counts, "", "", shown, ""];
 }
 
 function compare(one, other) {
@@ -55,7 +62,7 @@ export class Many {
     for (const { file, name } of files) {
       const bytes = new Uint8Array(await file.arrayBuffer());
       if (run !== this.run) return;
-      this.lines.push({ file, name, cells: lineOf(name, bytes.length, summary(hunk, bytes)) });
+      this.lines.push({ file, name, cells: lineOf(hunk, name, bytes) });
       if (performance.now() - told > 200) {
         this.refresh(files.length);
         await new Promise((done) => setTimeout(done));
@@ -66,11 +73,12 @@ export class Many {
   }
 
   refresh(total) {
-    const accepted = this.lines.filter((line) => line.cells[2] === "accepted").length;
-    const refused = this.lines.length - accepted;
-    const rest = total - this.lines.length;
+    const counts = Object.fromEntries(CLASSES.map((it) => [it, 0]));
+    for (const line of this.lines) counts[line.cells[8]] += 1;
+    counts["to come"] = total - this.lines.length;
+    const told = Object.entries(counts).filter(([, count]) => count > 0);
     this.summaryBox.textContent =
-      `${total.toLocaleString("en")} files: ${accepted} accepted, ${refused} refused` + (rest ? `, ${rest} to come` : "");
+      `${counted(total, "file")}: ` + told.map(([shown, count]) => `${count.toLocaleString("en")} ${shown}`).join(", ");
     this.grid.show({
       count: this.lines.length,
       cells: (i) => this.#cells(this.lines[i].cells),

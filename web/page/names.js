@@ -3,8 +3,8 @@
 import { entryKindName, flagNames, kindName, MEMORIES } from "../../bindings/javascript/kinds.js";
 
 const FAULTS = {
-  1: "the target is no hunk of the unit",
-  2: "the bytes there go past the end of the hunk",
+  1: "BadTarget: the target of the relocation is no hunk of its unit",
+  2: "OutsideHunk: what stands at the offset runs past the end of its hunk",
 };
 
 export const hex = (number, digits = 8) => number.toString(16).padStart(digits, "0");

@@ -2,12 +2,12 @@
 
 import { REASONS } from "./data.js";
 
-/** Class, meaning, what a developer does, what an archive does. */
+/** Class, what a developer does, what an archive does. */
 const reasonOf = ({ number, place }) => REASONS[`${number} at byte ${place}`] ?? REASONS[number];
 
 export const classOf = (refusal) => reasonOf(refusal)[0];
 
 export function whyText(refusal) {
-  const [shown, meaning, developer, archive] = reasonOf(refusal);
-  return `${shown[0].toUpperCase()}${shown.slice(1)}: ${meaning}.\nDeveloper: ${developer}.\nArchive: ${archive}.`;
+  const [shown, developer, archive] = reasonOf(refusal);
+  return `${shown[0].toUpperCase()}${shown.slice(1)}: ${refusal.text}.\nDeveloper: ${developer}.\nArchive: ${archive}.`;
 }

@@ -43,14 +43,31 @@ const rowsOf = (table) =>
     .map(([number, name, hex, ...answer]) => ({ number, name, hex, answer: answer.join(" "), table }))
     .filter((row) => row.hex.startsWith("000003e7") === (table === "objects"));
 
-/** What a refusal's class and its meaning are, by its number; of one at byte 0 also by that. */
-const REASONS = Object.fromEntries(
-  cellsOf("docs/reasons.tsv").map(([number, , shown, meaning]) => [number, `${shown}: ${meaning}.`]),
-);
+/** The rows of the reasons, by number; that of one at byte 0 also by that. */
+const REASONS = Object.fromEntries(cellsOf("docs/reasons.tsv").map((row) => [row[0], row]));
 
-function whyOf(answer) {
+function reasonOf(answer) {
   const [, place, number] = answer.split(" ");
   return REASONS[`${number} at byte ${place}`] ?? REASONS[number];
+}
+
+/** The classes of `hunk survey`, in its order. */
+const CLASSES = ["load", "object", "findings", "wide", "no hunk file", "not supported", "damaged", "not judged"];
+
+/** The class, what the reason means, and what to do about it. */
+function whyOf(answer) {
+  const [, , shown, meaning, developer, archive] = reasonOf(answer);
+  return `${shown}: ${meaning}.\nDeveloper: ${developer}.\nArchive: ${archive}.`;
+}
+
+/** The class of what the program has accepted or refused: that of a refusal, unless --wide accepts it. */
+function classOf(digits, answer) {
+  if (answer.startsWith("accepted")) {
+    if (digits.startsWith("000003f3")) return "load";
+    return answer.endsWith(" 0") ? "object" : "findings";
+  }
+  writeFileSync(`${work}/wide`, Buffer.from(digits, "hex"));
+  return printed("validate", "--wide", `${work}/wide`).startsWith("refused") ? reasonOf(answer)[2] : "wide";
 }
 
 const SHOWN = `
@@ -141,8 +158,8 @@ async function compareRow(page, row) {
     // Where the plain spelling is accepted, that is shown, and nothing in it is refused.
     const isSpelled = await page.in(`return document.getElementById("verdict").textContent.startsWith("In another spelling")`);
     hold(`${row.name}, the bytes that are marked`, isSpelled ? 0 : 4, marked);
-    const why = await page.in(`return document.getElementById("why").textContent.split("\\n")[0].toLowerCase()`);
-    hold(`${row.name}, why`, whyOf(row.answer).toLowerCase(), why);
+    const why = await page.in(`return document.getElementById("why").textContent`);
+    hold(`${row.name}, why`, whyOf(row.answer), why[0].toLowerCase() + why.slice(1));
     return;
   }
   printed("rewrite", "--strip", path, `${path}.stripped`);
@@ -190,10 +207,17 @@ async function compareMany(page) {
   const text = Buffer.from(await page.saved("save-csv"), "hex").toString();
   const cells = text.split("\r\n").slice(1, -1).map((line) => line.split(","));
   hold("the lines of the table", rows.length, cells.length);
-  for (const [i, [, size, answer, , first, second, place, , , number]] of cells.entries()) {
+  const counts = {};
+  for (const [i, [, size, answer, , first, second, place, , shown, number]] of cells.entries()) {
     const said = answer === "accepted" ? `${size} accepted ${first} ${second}` : `${size} refused ${place} ${number}`;
-    hold(`input ${i}`, `${rows[i][3].length / 2} ${rows[i].slice(4).join(" ")}`, said);
+    const wanted = rows[i].slice(4).join(" ");
+    const kind = classOf(rows[i][3], wanted);
+    hold(`input ${i}`, `${rows[i][3].length / 2} ${wanted}, ${kind}`, `${said}, ${shown}`);
+    counts[kind] = (counts[kind] ?? 0) + 1;
   }
+  const counted = CLASSES.filter((it) => counts[it]).map((it) => `${counts[it]} ${it}`);
+  const told = await page.in(`return document.getElementById("many-summary").textContent`);
+  hold("the counts of the table", `${rows.length} files: ${counted.join(", ")}`, told.replaceAll(/(\d),(?=\d)/g, "$1"));
 }
 
 /** A folder, which Firefox lets no test drop. */
@@ -229,7 +253,14 @@ async function compareServed(page) {
   server.close();
 }
 
+/** An object file with a short block, whose target is no hunk of its unit. */
+const SHORT_OBJECT = "000003e7 00000000 000003e9 00000001 00000000 000003fc 0001 0001 0000 0000 000003f2".replaceAll(" ", "");
+
 async function compareUse(page) {
+  await page.hex(SHORT_OBJECT);
+  const said = await page.in(`return document.getElementById("verdict").textContent`);
+  const wanted = "In another spelling, with 1 block of short relocations, an object file: 1 unit, 1 finding.";
+  hold("an object file in another spelling", wanted, said.slice(0, wanted.length));
   await page.shows(() => page.browser.upload("#pick", [`${work}/load-2-two-hunks`]));
   hold("a file that is picked", "accepted 2 12", await page.in(SHOWN));
   const key = `const grid = document.querySelector("[role=grid][aria-activedescendant]:not(#many-list)");
