@@ -113,6 +113,7 @@ linked=$library
 if [ "$library" ] && ! command -v "${CC%% *}" > /dev/null; then
   linked=
   note "libhunk.so was not installed: there is no C compiler, $CC"
+  [ ! -e "$to/lib/libhunk.so" ] || note "$to/lib/libhunk.so is of an earlier install"
 fi
 files="${program:+$program_files} ${library:+$library_files} ${linked:+$shared_files}"
 case $library$PREFIX in
