@@ -1,5 +1,5 @@
-"""The LLVM module that `rattle` hands to clang when it compiles a proved crate for Linux on x86-64. What is built for a machine that
-`rattle` does not name is built of that."""
+"""The LLVM module that `rattle` hands to clang when it compiles a proved crate for Linux on x86-64. What is built for a
+machine that `rattle` does not name is built of that."""
 import contextlib
 import pathlib
 import subprocess
@@ -36,8 +36,8 @@ def run(words, folder, text=None):
 
 
 def compile_crate(crate, target, made, toolchain=KIT / "toolchain"):
-    """Compiles a crate for a target that `rattle` names, and prints its verdict, which names the target. What its own check has kept
-    serves, so no proof is made again."""
+    """Compiles a crate for a target that `rattle` names, and prints its verdict, which names the target. What its own check
+    has kept serves, so no proof is made again."""
     folder = ROOT / "crates" / crate
     words = [*target, "--toolchain", toolchain, "--backend", "llvm", "--incremental", folder / "out/incremental", "-o", made]
     said = run(rattle("build", crate, *words), folder)
@@ -70,6 +70,6 @@ def module_of(crate):
         folder = pathlib.Path(name)
         with keeping_toolchain(folder / "module.bc") as toolchain:
             compile_crate(crate, TARGET, folder / "made", toolchain)
-        words = ["--target=x86_64-unknown-linux-gnu", "--no-default-config", "-S", "-emit-llvm", "-O0", "-Xclang", "-disable-llvm-passes"]
-        run([CLANG, *words, "-x", "ir", "module.bc", "-o", "module.ll"], folder)
+        words = ["--target=x86_64-unknown-linux-gnu", "--no-default-config", "-S", "-emit-llvm", "-O0"]
+        run([CLANG, *words, "-Xclang", "-disable-llvm-passes", "-x", "ir", "module.bc", "-o", "module.ll"], folder)
         return (folder / "module.ll").read_text(encoding="utf-8")

@@ -1,22 +1,26 @@
 #!/usr/bin/env python3
-"""retarget.py FROM TO TRIPLE: writes the LLVM module FROM, text as `rattle` makes it for Linux on x86-64, anew for another machine.
+"""retarget.py FROM TO TRIPLE: writes the LLVM module FROM, text as `rattle` makes it for Linux on x86-64, anew for another
+machine.
 
-What changes is the triple, the layout of data, which is asked of clang, and the attributes that name x86-64's processor. A machine has
-to keep the low byte first, and to align 64-bit numbers to 8 bytes. Where its pointers have 64 bits nothing else changes.
+What changes is the triple, the layout of data, which is asked of clang, and the attributes that name x86-64's processor. A
+machine has to keep the low byte first, and to align 64-bit numbers to 8 bytes. Where its pointers have 64 bits nothing else
+changes.
 
-Where they have 32 bits, memory keeps what it holds on x86-64, byte for byte, with all addresses below 2^32: a pointer lies in 8 bytes,
-of which the upper 4 are zero. So these lines change:
+Where they have 32 bits, memory keeps what it holds on x86-64, byte for byte, with all addresses below 2^32: a pointer lies
+in 8 bytes, of which the upper 4 are zero. So these lines change:
 - a pointer that is stored: it is widened to 64 bits, and that is stored; to load one, the lower 4 bytes are enough;
 - room for a pointer on the stack: 8 bytes;
 - a pointer in a constant, which has to be packed: 4 bytes of zero follow it;
 - a struct that is loaded: its parts are, from where they lie on x86-64;
 - an address that is taken as a number: it is widened.
 
-Each line has to be of a form that is known below. Any other is refused, with its number: a pointer alone in a global, a number that is
-taken for a pointer, a step over anything but bytes, a struct in a struct, a call of what is no name. This script is trusted.
+Each line has to be of a form that is known below. Any other is refused, with its number: a pointer alone in a global, a
+number that is taken for a pointer, a step over anything but bytes, a struct in a struct, a call of what is no name. This
+script is trusted.
 
-What asks for pages of a large stack one by one (the attribute "probe-stack") is x86-64's, and is left out. It matters to a program whose
-stack ends in no page that faults; the library's calls take less than a page, but for the one that hunk.h says.
+What asks for pages of a large stack one by one (the attribute "probe-stack") is x86-64's, and is left out. It matters to a
+program whose stack ends in no page that faults; the library's calls take less than a page, but for the one that hunk.h
+says.
 """
 import pathlib
 import re
@@ -133,7 +137,8 @@ def narrow(line, number):
     if found := STORES.fullmatch(line):
         value, place, notes = found.groups()
         low, wide = f"%stored.{number}.low", f"%stored.{number}"
-        return [f"  {low} = ptrtoint ptr {value} to i32", f"  {wide} = zext i32 {low} to i64", f"  store i64 {wide}, ptr {place}{notes}"]
+        widened = [f"  {low} = ptrtoint ptr {value} to i32", f"  {wide} = zext i32 {low} to i64"]
+        return [*widened, f"  store i64 {wide}, ptr {place}{notes}"]
     if found := ROOM.fullmatch(line):
         return [f"  {found[1]} = alloca [8 x i8], align 8"]
     if found := ADDRESS.fullmatch(line):

@@ -1,4 +1,5 @@
-"""Builds for machines that `rattle` does not name: clang compiles the module of a crate that ports/retarget.py has written anew."""
+"""Builds for machines that `rattle` does not name: clang compiles the module of a crate, which ports/retarget.py has written
+anew."""
 import pathlib
 import re
 import tempfile
@@ -15,15 +16,17 @@ LINKER = KIT / "toolchain/bin/ld.lld"
 # The calls that load a file piece by piece; hunk_want is left out, which a loader can do without.
 STREAM = ["hunk_table", "hunk_begin", "hunk_feed", "hunk_end"]
 # What `rattle` has clang do on each machine.
-SAME = ["--no-default-config", "-no-canonical-prefixes", "-fno-crash-diagnostics", "-Werror", "-ffunction-sections", "-fdata-sections"]
-for pass_ in ("no-trap-after-noreturn", "trap-unreachable", "disable-machine-licm", "disable-postra-machine-licm", "sink-common-insts=false"):
-    SAME += ["-mllvm", f"-{pass_}"]
+SAME = ["--no-default-config", "-no-canonical-prefixes", "-fno-crash-diagnostics", "-Werror"]
+SAME += ["-ffunction-sections", "-fdata-sections"]
+for word in ("no-trap-after-noreturn", "trap-unreachable", "disable-machine-licm", "disable-postra-machine-licm"):
+    SAME += ["-mllvm", f"-{word}"]
+SAME += ["-mllvm", "-sink-common-insts=false"]
 
 
 @dataclass(frozen=True)
 class Machine:
-    """What clang is told of a machine: LLVM's name of it, its processor, and what the code is to be best at; and what Debian's compiler
-    with a C library for it is called by, where there is one."""
+    """What clang is told of a machine: LLVM's name of it, its processor, and what the code is to be best at; and what
+    Debian's compiler with a C library for it is called by, where there is one."""
     triple: str
     flags: list
     system: str = ""
@@ -86,8 +89,8 @@ def archive(made, member):
 
 
 def build_library(module, machine, to):
-    """libhunk.a, of hunk_c's module. On a board also libhunk-stream.a, of what STREAM's calls need alone, for a linker that drops no
-    sections."""
+    """libhunk.a, of hunk_c's module. On a board also libhunk-stream.a, of what STREAM's calls need alone, for a linker that
+    drops no sections."""
     with tempfile.TemporaryDirectory() as name:
         whole, stream = pathlib.Path(name) / "hunk.o", pathlib.Path(name) / "hunk-stream.o"
         compile_module(module, machine, whole)
