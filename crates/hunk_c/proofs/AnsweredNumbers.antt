@@ -22,6 +22,7 @@ use Rattle.hunk_c.specs.Loads as loads
 use Rattle.hunk_c.specs.Loads.{Loads, IsNotLoaded}
 use Rattle.hunk_c.specs.LoadsAt.{LoadsAt, IsNotLoadedAt, HasNoFileAt, HasNoBaseAt}
 use Rattle.hunk_c.specs.Names.{IsMeaningOf, IsNameOf, Means, Names, PutsText, HasText, HasNoText, OfReason, OfNoRoom, OfStrange, OfNone, MeansReason, MeansNoRoom, MeansStrange, MeansNothing}
+use Rattle.hunk_c.specs.Fronts.{Fronts, HasNone, IsMade, LacksRoom}
 use Rattle.hunk_c.specs.Plains as plains
 use Rattle.hunk_c.specs.Plains.{Plains}
 use Rattle.hunk_c.specs.Rows as lists
@@ -131,6 +132,11 @@ list_told rows count bytes old new a (lists.HasNoFile f h n e) = told_by a _ e (
 pub plain_told : (bytes old new : List ℕ) (a : Answer) → Plains bytes old new a → Told a
 plain_told bytes old new a (plains.IsWritten fits n e) = told_by a _ e refl
 plain_told bytes old new a (plains.HasNoRoom less n e) = told_by a _ e refl
+
+pub front_told : (bytes old new : List ℕ) (a : Answer) → Fronts bytes old new a → Told a
+front_told bytes old new a (IsMade n file f c fits same e) = told_by a _ e refl
+front_told bytes old new a (LacksRoom n file f c less same e) = told_by a _ e refl
+front_told bytes old new a (HasNone none same e) = told_by a _ e refl
 
 pub words_told : (words old new : List ℕ) (a : Answer) → PutsText words old new a → Told a
 words_told words old new a (HasText fits n e) = told_by a _ e refl

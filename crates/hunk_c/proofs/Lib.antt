@@ -1,13 +1,20 @@
 pub mod AnsweredNumbers
+pub mod ClosedFiles
 pub mod FewRows
 pub mod Filling
+pub mod FrontKinds
+pub mod FrontText
 pub mod FoundPlaces
 pub mod LastBytes
+pub mod LastPlaces
+pub mod LoadFronts
+pub mod ReadLongwords
 pub mod LoadRows
 mod Loaded
 mod LoadedAt
 pub mod MayStand
 pub mod Numbers
+pub mod ObjectFronts
 pub mod OneFile
 pub mod Packing
 mod ShortRows

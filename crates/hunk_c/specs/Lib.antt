@@ -5,6 +5,8 @@ pub mod Copying
 pub mod Counting
 pub mod Entries
 pub mod Files
+pub mod FrontPlaces
+pub mod Fronts
 pub mod Listing
 pub mod Loaders
 pub mod Loads

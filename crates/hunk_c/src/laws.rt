@@ -1,11 +1,13 @@
 //! Laws over what calls answer: each function does nothing, and its contract is the law.
-ghost use Rattle.std.specs.Prelude.{◌≡◌, ◌*◌, ◌≤◌, ℕ, List, length};
+ghost use Rattle.std.specs.Prelude.{◌≡◌, ◌+◌, ◌*◌, ◌≤◌, ℕ, List, ◌++◌, length};
+ghost use Rattle.hunk_words.specs.Longs.{bytes_of};
 ghost use Rattle.hunk_files.specs.HunkFile.{IsFileOf, file_bytes};
 ghost use Rattle.hunk_files.specs.declared.hunk_file.HunkFile.{HunkFile};
 ghost use Rattle.hunk_files.specs.declared.row.Row.{Row};
 ghost use Rattle.hunk_scatter.specs.Placing.{Placing};
 ghost use Rattle.hunk_c.specs.Answers.{AreAnswered, strange};
 ghost use Rattle.hunk_c.specs.Checks.{Checks};
+ghost use Rattle.hunk_c.specs.Fronts.{Fronts, IsClosed};
 ghost use Rattle.hunk_c.specs.Loaders.{no_loader};
 ghost use Rattle.hunk_c.specs.Loads.{Loads};
 ghost use Rattle.hunk_c.specs.LoadsAt.{LoadsAt};
@@ -38,6 +40,7 @@ pub fn answered_numbers()
         → AreAnswered (Checks bytes old new) }
     ensures strip { (bytes old new : List ℕ) → AreAnswered (Strips bytes old new) }
     ensures plain { (bytes old new : List ℕ) → AreAnswered (Plains bytes old new) }
+    ensures front { (bytes old new : List ℕ) → AreAnswered (Fronts bytes old new) }
     ensures name { (number : ℕ) (old new : List ℕ) → AreAnswered (Names number old new) }
     ensures meaning { (number : ℕ) (old new : List ℕ) → AreAnswered (Means number old new) }
 {}
@@ -59,6 +62,21 @@ pub fn room_for_stripped()
 pub fn room_for_plain()
     ensures { (bytes old new : List ℕ) (answer : Answer) → Plains bytes old new answer
         → 2 * length bytes ≤ length old → answer.number ≡ 0 }
+{}
+
+/// 12 bytes more than an input has, and 12 for each hunk of its table, are room for what stands of
+/// it before its fault.
+pub fn room_for_front()
+    ensures { (bytes old new : List ℕ) (answer : Answer) → Fronts bytes old new answer
+        → length bytes + 12 * answer.hunk + 12 ≤ length old → answer.number ≡ 0 }
+{}
+
+/// What a front is closed to is a whole file, and begins with the front.
+pub fn closed_file()
+    ensures whole { (ws : List ℕ) (file : HunkFile) → IsClosed ws file
+        → IsFileOf (file_bytes file) file }
+    ensures begins { (ws : List ℕ) (file : HunkFile) → IsClosed ws file
+        → (more : List ℕ) × (file_bytes file ≡ bytes_of ws ++ more) }
 {}
 
 /// The longest name of a number, and the longest sentence of what one means.

@@ -9,8 +9,10 @@ mod abi;
 mod answer;
 mod blocks;
 mod check;
+mod copier;
 mod entries;
 mod file;
+mod front;
 mod in_place;
 mod laws;
 mod load;
@@ -36,9 +38,10 @@ pub use crate::answer::Answer;
 pub use crate::blocks::{BlockRow, hunk_blocks};
 pub use crate::check::{FindingRow, hunk_check};
 pub use crate::entries::{EntryRow, hunk_entries};
+pub use crate::front::hunk_front;
 pub use crate::laws::{
-    answered_numbers, answered_numbers_of_items, longest_words, room_for_plain, room_for_stripped,
-    strange_after_no_begin,
+    answered_numbers, answered_numbers_of_items, closed_file, longest_words, room_for_front,
+    room_for_plain, room_for_stripped, strange_after_no_begin,
 };
 pub use crate::load::{hunk_load, hunk_load_packed};
 pub use crate::load_at::hunk_load_at;

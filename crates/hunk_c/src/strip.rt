@@ -3,12 +3,12 @@ ghost use Rattle.std.specs.Prelude.{◌≡◌, ◌<◌, ◌≤◌, ◌^◌, ◌+
 ghost use Rattle.std.proofs.Common.{◌∙◌, refl};
 ghost use Rattle.hunk_files.specs.FileView.{file_of};
 ghost use Rattle.hunk_files.specs.HunkFile.{file_bytes};
-ghost use Rattle.hunk_c.specs.Copying.{Copies, copies_none, copies_more};
 ghost use Rattle.hunk_c.specs.Counting.{Counts, counts_none, counts_more};
 ghost use Rattle.hunk_c.specs.Rows.{ListsWhatFits};
 ghost use Rattle.hunk_c.specs.Strips.{Strips, stripped_bytes};
 
 use crate::answer::{Answer, done, no_room, refused};
+use crate::copier::Copier;
 use crate::file::hunks_in;
 use hunk_files::{FileView, TakesBytes};
 
@@ -90,34 +90,5 @@ impl TakesBytes for ByteCount {
 
     fn take(&mut self, bytes: &[u8]) {
         self.count = self.count.saturating_add(bytes.len() as u64);
-    }
-}
-
-/// Copies each range after the one before, unless there is no room for it.
-#[derive(Drop)]
-struct Copier<'t> {
-    text: &'t mut [u8],
-    /// The place of the next range.
-    at: usize,
-}
-
-impl TakesBytes for Copier<'_> {
-    ghost takes = { λ a xs b. (b.text.ghost_name ≡ a.text.ghost_name)
-        × Copies a.text.now a.at xs b.text.now b.at };
-
-    ghost none = { λ s. (refl, copies_none s.text.now s.at) };
-
-    ghost more = { λ a b c xs ys first next. (
-      next.0 ∙ first.0,
-      copies_more a.text.now b.text.now c.text.now a.at b.at c.at xs ys first.1 next.1,
-    ) };
-
-    fn take(&mut self, bytes: &[u8]) {
-        let room = self.text.len();
-        if self.at <= room && bytes.len() <= room - self.at {
-            let end = self.at + bytes.len();
-            self.text[self.at..end].copy_from_slice(bytes);
-            self.at = end;
-        }
     }
 }

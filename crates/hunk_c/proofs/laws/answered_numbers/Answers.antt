@@ -1,4 +1,4 @@
-use Rattle.hunk_c.proofs.AnsweredNumbers.{begin_told, end_told, feed_told, list_told, load_at_told, load_told, plain_told, table_told, want_told, words_told}
+use Rattle.hunk_c.proofs.AnsweredNumbers.{begin_told, end_told, feed_told, front_told, list_told, load_at_told, load_told, plain_told, table_told, want_told, words_told}
 use Rattle.hunk_c.specs.{Checks.finding_rows, Strips.stripped_bytes}
 use Rattle.hunk_c.proofs.laws.answered_numbers.Goals as goal
 
@@ -14,6 +14,7 @@ returns c = record {
   check = list_told finding_rows (λ n. n);
   strip = list_told stripped_bytes (λ n. n);
   plain = plain_told;
+  front = front_told;
   name = λ number old new answer h. words_told h.0 old new answer h.2;
   meaning = λ number old new answer h. words_told h.0 old new answer h.2;
 }

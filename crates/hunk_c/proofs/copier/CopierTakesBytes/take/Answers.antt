@@ -1,6 +1,6 @@
 use Rattle.std.proofs.Common.{rules, ◌≡◌, ◌+◌, ◌-◌, ◌++◌, ℕ, List, length, take, refl, ap, ◌∙◌, arith}
 use Rattle.std.proofs.lemmas.Slice.{take-put_mid, drop-put_mid}
-use Rattle.hunk_c.proofs.strip.CopierTakesBytes.take.Goals as goal
+use Rattle.hunk_c.proofs.copier.CopierTakesBytes.take.Goals as goal
 
 pub returns-then-bytes-room : goal.returns-then-bytes-room
 returns-then-bytes-room c =

@@ -1,0 +1,277 @@
+//! What of a refused file stands before its fault, as a whole file.
+ghost use Rattle.std.specs.Prelude.{◌≡◌, ◌*◌, ◌<◌, ◌≤◌, ◌^◌, ◌++◌, IfNone, IfSome, length, take, drop};
+ghost use Rattle.hunk_words.specs.Longs.{longs, bytes_of};
+ghost use Rattle.hunk_files.specs.Fault.{load_files};
+ghost use Rattle.hunk_files.specs.ObjectFault.{objects};
+ghost use Rattle.hunk_grammar.specs.FileKind.{sniffed};
+ghost use Rattle.hunk_c.specs.Fronts.{EndsBetweenBlocks, Fronts, HasNoFront, HasNoFrontWhere};
+ghost use Rattle.hunk_c.specs.Fronts.{InLoadText, InObjectText, empty_hunks, hunk_end, open_at};
+ghost use Rattle.hunk_c.specs.FrontPlaces.{FindsNone, IsFrontOf, IsLast, ReadsUpTo};
+ghost use Rattle.hunk_c.specs.FrontPlaces.{closed_bytes, closing, find_hunk, find_place};
+ghost use Rattle.hunk_c.specs.FrontPlaces.{hunk_between, place_between};
+
+use crate::answer::{Answer, done, no_room};
+use crate::copier::Copier;
+use hunk_files::{LoadView, ObjectView, Sniff, TakesBytes, sniff};
+use hunk_grammar::{ObjectPosition, OpenHunk, Phase, Position, WordPlace};
+use hunk_words::word_at;
+
+/// The bytes of END.
+const END: [u8; 4] = [0, 0, 3, 0xF2];
+
+/// The bytes of a hunk that has nothing: an empty BSS block, and END.
+const EMPTY_HUNK: [u8; 12] = [0, 0, 3, 0xEB, 0, 0, 0, 0, 0, 0, 3, 0xF2];
+
+/// What of a file stands before its fault, up to the last place between two blocks.
+#[derive(Clone, Copy)]
+struct Front {
+    /// How many longwords stand there.
+    longs: usize,
+    /// The number of hunks of a load file, 0 of an object file.
+    hunks: u32,
+    /// Whether the hunk that is open has its content. `None`: no hunk is open.
+    open_hunk: Option<bool>,
+    /// How many hunks of the table come after it.
+    left: u32,
+}
+
+/// Writes what stands of the input before its fault, and what makes it a whole file.
+#[unsafe(no_mangle)]
+pub extern "C" fn hunk_front(bytes: &[u8], text: &mut [u8]) -> Answer
+    ensures outcome { Fronts bytes.now text.old text.new result }
+    ensures begins { result.number ≡ 0
+        → take result.place text.new ≡ take result.place bytes.now }
+{
+    let Some(front) = front_of(bytes) else {
+        return done(0, 0, 0);
+    };
+    let read = 4 * front.longs as u64;
+    let size = read + closing_size(front);
+    if size > text.len() as u64 {
+        return no_room(front.hunks, read, size);
+    }
+    let count = write_closed(bytes, front, text);
+    done(front.hunks, read, count as u64)
+}
+
+/// The front of the input.
+fn front_of(bytes: &[u8]) -> Option<Front>
+    ensures found { IfSome result (IsFrontOf EndsBetweenBlocks bytes.now) }
+    ensures none { IfNone result (HasNoFront (longs bytes.now)) }
+{
+    match sniff(bytes) {
+        Sniff::Object => object_front(bytes),
+        Sniff::Load | Sniff::Library | Sniff::Other => load_front(bytes),
+    }
+}
+
+// ---- Load files.
+
+/// A place between two blocks of a load file.
+#[derive(Clone, Copy)]
+struct LoadPlace {
+    /// The longwords before it.
+    longs: usize,
+    /// The hunk that is open there.
+    hunk: OpenHunk,
+}
+
+/// The front of a load file.
+fn load_front(bytes: &[u8]) -> Option<Front>
+    ensures found { IfSome result (IsFrontOf InLoadText bytes.now) }
+    ensures none { IfNone result (HasNoFrontWhere InLoadText (longs bytes.now)) }
+{
+    let end = load_longs(bytes);
+    let LoadPlace { longs, hunk } = last_hunk(bytes, end)?;
+    Some(Front {
+        longs,
+        hunks: hunk.hunks,
+        open_hunk: Some(hunk.has_content),
+        left: hunk.ahead,
+    })
+}
+
+/// How many longwords stand before the end of a load file, or its fault.
+fn load_longs(bytes: &[u8]) -> usize
+    ensures { ReadsUpTo load_files (longs bytes.now) result }
+{
+    match LoadView::read(bytes) {
+        Ok((_, size)) => size / 4,
+        Err(refusal) => (refusal.fault.place / 4) as usize,
+    }
+}
+
+/// The last place between two blocks of a load file, among the places up to this longword.
+fn last_hunk(bytes: &[u8], end: usize) -> Option<LoadPlace>
+    requires { 4 * end ≤ length bytes.now }
+    ensures found { IfSome result (λ place.
+        IsLast (find_hunk (longs bytes.now)) end place.longs place.hunk) }
+    ensures none { IfNone result (FindsNone (find_hunk (longs bytes.now)) end) }
+{
+    let mut position = Position::FirstLong;
+    let mut last = None;
+    'longwords: for at in 0..end {
+        position = position.step(word_at(bytes, at));
+        if let Some(hunk) = hunk_between(position) {
+            last = Some(LoadPlace {
+                longs: at + 1,
+                hunk,
+            });
+        }
+    }
+    last
+}
+
+/// The hunk that is open at this position, where it is between two blocks.
+fn hunk_between(position: Position) -> Option<OpenHunk>
+    ensures { result ≡ hunk_between position }
+{
+    match position {
+        Position::Body(hunk, Phase::FirstBlock | Phase::BlockWord) => Some(hunk),
+        _ => None,
+    }
+}
+
+// ---- Object files.
+
+/// A place between two blocks or hunks of an object file.
+#[derive(Clone, Copy)]
+struct ObjectPlace {
+    /// The longwords before it.
+    longs: usize,
+    /// The place.
+    place: WordPlace,
+}
+
+/// The front of an object file.
+fn object_front(bytes: &[u8]) -> Option<Front>
+    ensures found { IfSome result (IsFrontOf InObjectText bytes.now) }
+    ensures none { IfNone result (HasNoFrontWhere InObjectText (longs bytes.now)) }
+{
+    let end = object_longs(bytes);
+    let ObjectPlace { longs, place } = last_place(bytes, end)?;
+    Some(Front {
+        longs,
+        hunks: 0,
+        open_hunk: open_at(place),
+        left: 0,
+    })
+}
+
+/// Whether the hunk that is open at this place has its content. `None`: no hunk is open.
+fn open_at(place: WordPlace) -> Option<bool>
+    ensures { result ≡ open_at place }
+{
+    match place {
+        WordPlace::InHunk { has_content } => Some(has_content),
+        WordPlace::BeforeUnits | WordPlace::BetweenHunks => None,
+    }
+}
+
+/// How many longwords stand before the end of an object file, or its fault.
+fn object_longs(bytes: &[u8]) -> usize
+    ensures { ReadsUpTo objects (longs bytes.now) result }
+{
+    match ObjectView::read(bytes) {
+        Ok(_) => bytes.len() / 4,
+        Err(refusal) => (refusal.fault.place / 4) as usize,
+    }
+}
+
+/// The last place between two blocks or hunks of an object file, among the places up to this
+/// longword.
+fn last_place(bytes: &[u8], end: usize) -> Option<ObjectPlace>
+    requires { 4 * end ≤ length bytes.now }
+    ensures found { IfSome result (λ place.
+        IsLast (find_place (longs bytes.now)) end place.longs place.place) }
+    ensures none { IfNone result (FindsNone (find_place (longs bytes.now)) end) }
+{
+    let mut position = ObjectPosition::Word(WordPlace::BeforeUnits);
+    let mut last = None;
+    'longwords: for at in 0..end {
+        position = position.step(word_at(bytes, at));
+        if let Some(place) = place_between(position) {
+            last = Some(ObjectPlace {
+                longs: at + 1,
+                place,
+            });
+        }
+    }
+    last
+}
+
+/// The place of this position, where it is between two blocks or hunks of a unit.
+fn place_between(position: ObjectPosition) -> Option<WordPlace>
+    ensures { result ≡ place_between position }
+{
+    match position {
+        ObjectPosition::Word(WordPlace::BeforeUnits) => None,
+        ObjectPosition::Word(place) => Some(place),
+        _ => None,
+    }
+}
+
+// ---- What closes a file.
+
+/// How many bytes close the file after the front.
+fn closing_size(front: Front) -> u64
+    ensures value { result ≡ length (bytes_of (closing front)) }
+    ensures bound { result < 2 ^ 36 }
+{
+    hunk_end_size(front.open_hunk) + EMPTY_HUNK.len() as u64 * u64::from(front.left)
+}
+
+/// How many bytes the end of the hunk has that is open.
+fn hunk_end_size(open_hunk: Option<bool>) -> u64
+    ensures { result ≡ 4 * length (hunk_end open_hunk) }
+{
+    match open_hunk {
+        Some(true) => END.len() as u64,
+        Some(false) => EMPTY_HUNK.len() as u64,
+        None => 0,
+    }
+}
+
+/// Writes the front and what closes it to the front of the text, and gives the number of their
+/// bytes. The text after them is as it was.
+#[tactic(auto, using(crate::proofs::Tabulated::copied))]
+fn write_closed(bytes: &[u8], front: Front, text: &mut [u8]) -> usize
+    requires inside { 4 * front.longs ≤ length bytes.now }
+    requires room { length (closed_bytes bytes.now front) ≤ length text.old }
+    ensures count { result ≡ length (closed_bytes bytes.now front) }
+    ensures text { text.new ≡ closed_bytes bytes.now front ++ drop result text.old }
+{
+    let mut copier = Copier { text, at: 0 };
+    put_closed(&mut copier, bytes, front);
+    copier.at
+}
+
+/// Hands over the front and what closes it.
+fn put_closed<T: TakesBytes>(taker: &mut T, bytes: &[u8], front: Front)
+    requires inside { 4 * front.longs ≤ length bytes.now }
+    ensures { T.takes taker.old (closed_bytes bytes.now front) taker.new }
+{
+    taker.take(&bytes[..4 * front.longs]);
+    put_hunk_end(taker, front.open_hunk);
+    put_empty_hunks(taker, front.left);
+}
+
+/// Hands over the end of the hunk that is open.
+fn put_hunk_end<T: TakesBytes>(taker: &mut T, open_hunk: Option<bool>)
+    ensures { T.takes taker.old (bytes_of (hunk_end open_hunk)) taker.new }
+{
+    match open_hunk {
+        Some(true) => taker.take(&END),
+        Some(false) => taker.take(&EMPTY_HUNK),
+        None => {}
+    }
+}
+
+/// Hands over so many hunks that have nothing.
+fn put_empty_hunks<T: TakesBytes>(taker: &mut T, count: u32)
+    ensures { T.takes taker.old (bytes_of (empty_hunks count)) taker.new }
+{
+    'hunks: for _ in 0..count {
+        taker.take(&EMPTY_HUNK);
+    }
+}
