@@ -1,31 +1,39 @@
 -- The last of some places at which something is found, and where longwords lead.
-use Rattle.std.proofs.Common.{◌≡◌, ℕ, ◌+◌, ◌<◌, ◌≤◌, List, [], ◌∷◌, ◌++◌, length, get_or, take, refl, ap, ◌∙◌, arith, Option, Some, None, inl, inr}
+use Rattle.std.proofs.Common.{◌≡◌, ℕ, ◌+◌, ◌<◌, ◌≤◌, List, [], ◌∷◌, ◌++◌, length, get_or, take, drop, take-add, refl, ap, ◌∙◌, arith, Option, Some, None, inl, inr}
 use Rattle.std.proofs.lemmas.{Bool.cases_lt, List.take_more}
 use Rattle.hunk_files.specs.Machines.{leads_to}
 use Rattle.hunk_c.specs.FrontPlaces.{FindsNone, IsLast}
 
 module _ {A : Type 0} (find : ℕ → Option A) where
-  -- None is found up to here, and none here.
-  abbrev up_to : (end m : ℕ) → find (end + 1) ≡ None → (m ≤ end → find m ≡ None) → m ≤ end + 1 → find m ≡ None
-  up_to end m e h l = elim (cases_lt end m) [
-    | inl k ↦ let here : m ≡ end + 1 = omega (arith, l, k) in ap find here ∙ e
-    | inr k ↦ h k
-  ]
+  -- none after the one, up to the other
+  abbrev pub FindsNoneIn : ℕ → ℕ → Type 0
+  FindsNoneIn from end = (m : ℕ) → from < m → m ≤ end → find m ≡ None
+
+  pub none_next : (at : ℕ) → find (at + 1) ≡ None → FindsNoneIn at (at + 1)
+  none_next at e m l k = let here : m ≡ at + 1 = omega (arith, l, k) in ap find here ∙ e
 
   pub last_here : (n : ℕ) (a : A) → find n ≡ Some a → IsLast find n n a
   last_here n a e = record { inside = omega arith; found = e; none_after = λ m l k. absurd (omega (arith, l, k)) }
 
-  pub still_last : (end n : ℕ) (a : A) → IsLast find end n a → find (end + 1) ≡ None → IsLast find (end + 1) n a
-  still_last end n a h e = record { inside = omega (arith, h.inside); found = h.found; none_after = λ m l k. up_to end m e (h.none_after m l) k }
+  pub still_last : (from end n : ℕ) (a : A) → from ≤ end → IsLast find from n a → FindsNoneIn from end → IsLast find end n a
+  still_last from end n a less h none =
+      record {
+        inside = omega (arith, h.inside, less);
+        found = h.found;
+        none_after = λ m l k. elim (cases_lt from m) [ inl beyond ↦ none m beyond k | inr before ↦ h.none_after m l before ];
+      }
 
-  pub still_none : (end : ℕ) → FindsNone find end → find (end + 1) ≡ None → FindsNone find (end + 1)
-  still_none end h e m k = up_to end m e (h m) k
+  pub still_none : (from end : ℕ) → FindsNone find from → FindsNoneIn from end → FindsNone find end
+  still_none from end h none m k = elim (cases_lt from m) [ inl beyond ↦ none m beyond k | inr before ↦ h m before ]
 
 module _ {Pos : Type 0} (step : Pos → ℕ → Pos) where
-  leads_on : (p : Pos) (ws : List ℕ) (w : ℕ) → leads_to step p (ws ++ w ∷ []) ≡ step (leads_to step p ws) w
-  leads_on p [] w = refl
-  leads_on p (x ∷ ws) w = leads_on (step p x) ws w
+  leads_past : (p : Pos) (xs ys : List ℕ) → leads_to step p (xs ++ ys) ≡ leads_to step (leads_to step p xs) ys
+  leads_past p [] ys = refl
+  leads_past p (x ∷ xs) ys = leads_past (step p x) xs ys
 
   -- One longword more is a step more.
   pub one_more : (p : Pos) (ws : List ℕ) (at : ℕ) → at < length ws → leads_to step p (take (at + 1) ws) ≡ step (leads_to step p (take at ws)) (get_or ws at 0)
-  one_more p ws at l = ap (leads_to step p) (take_more ws at 0 l) ∙ leads_on p (take at ws) (get_or ws at 0)
+  one_more p ws at l = ap (leads_to step p) (take_more ws at 0 l) ∙ leads_past p (take at ws) (get_or ws at 0 ∷ [])
+
+  pub more : (p : Pos) (ws : List ℕ) (at n : ℕ) → leads_to step p (take (at + n) ws) ≡ leads_to step (leads_to step p (take at ws)) (take n (drop at ws))
+  more p ws at n = ap (leads_to step p) (take-add at n ws) ∙ leads_past p (take at ws) (take n (drop at ws))

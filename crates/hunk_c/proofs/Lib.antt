@@ -6,6 +6,7 @@ pub mod FrontKinds
 pub mod FrontText
 pub mod FoundPlaces
 pub mod LastBytes
+pub mod LastHunks
 pub mod LastPlaces
 pub mod LoadFronts
 pub mod ReadLongwords

@@ -26,8 +26,6 @@ use Rattle.hunk_blocks.proofs.Decoding.{front_bytes}
 use Rattle.std.proofs.lemmas.List.{map-append}
 use Rattle.hunk_c.specs.FrontPlaces.{FindsNone, IsFrontOf, IsLast, ReadsUpTo, find_hunk, hunk_between}
 use Rattle.hunk_c.specs.Fronts.{HasNoFrontWhere, InLoadText, IsFrontWhere, LoadIsClosed, empty_hunks, hunk_end}
-use Rattle.hunk_c.specs.declared.front.{LoadPlace.LoadPlace}
-use Rattle.hunk_c.proofs.LastPlaces.{still_last, still_none}
 
 -- ---- where a block word is expected
 
@@ -222,13 +220,3 @@ load_front bytes fit end r n h l =
 -- It begins with the word of a header.
 pub load_begins : (ws : List ℕ) → InLoadText ws → (xs : List ℕ) × (ws ≡ header_word ∷ xs)
 load_begins ws i = let b = read_before ws i in (_, sym (words_are ws (AtBlock b.0) b.1))
-
--- ---- the walk to the last place
-
-abbrev pub LastHunk : List ℕ → ℕ → Option LoadPlace → Type 0
-LastHunk ws at None = FindsNone (find_hunk ws) at
-LastHunk ws at (Some p) = IsLast (find_hunk ws) at p.longs p.hunk
-
-pub still_hunk : (ws : List ℕ) (at : ℕ) (last : Option LoadPlace) → LastHunk ws at last → find_hunk ws (at + 1) ≡ None → LastHunk ws (at + 1) last
-still_hunk ws at None h e = still_none (find_hunk ws) at h e
-still_hunk ws at (Some p) h e = still_last (find_hunk ws) at p.longs p.hunk h e

@@ -22,7 +22,7 @@ use Rattle.hunk_files.proofs.object_walk.UnitFaults.{units_words}
 use Rattle.hunk_c.specs.FrontPlaces.{FindsNone, IsFrontOf, IsLast, ReadsUpTo, find_place, place_between}
 use Rattle.hunk_c.specs.Fronts.{HasNoFrontWhere, InObjectText, IsFrontWhere, IsInUnit, ObjectIsClosed, hunk_end, open_at}
 use Rattle.hunk_c.specs.declared.front.{ObjectPlace.ObjectPlace}
-use Rattle.hunk_c.proofs.LastPlaces.{still_last, still_none}
+use Rattle.hunk_c.proofs.LastPlaces.{none_next, still_last, still_none}
 
 -- ---- where the word of a block or a unit is expected
 
@@ -180,5 +180,5 @@ LastPlace ws at None = FindsNone (find_place ws) at
 LastPlace ws at (Some p) = IsLast (find_place ws) at p.longs p.place
 
 pub still_place : (ws : List ℕ) (at : ℕ) (last : Option ObjectPlace) → LastPlace ws at last → find_place ws (at + 1) ≡ None → LastPlace ws (at + 1) last
-still_place ws at None h e = still_none (find_place ws) at h e
-still_place ws at (Some p) h e = still_last (find_place ws) at p.longs p.place h e
+still_place ws at None h e = still_none (find_place ws) at (at + 1) h (none_next (find_place ws) at e)
+still_place ws at (Some p) h e = still_last (find_place ws) at (at + 1) p.longs p.place (omega arith) h (none_next (find_place ws) at e)

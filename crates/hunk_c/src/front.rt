@@ -110,13 +110,19 @@ fn last_hunk(bytes: &[u8], end: usize) -> Option<LoadPlace>
 {
     let mut position = Position::FirstLong;
     let mut last = None;
-    'longwords: for at in 0..end {
+    let mut at = 0;
+    'longwords: while at < end {
         position = position.step(word_at(bytes, at));
+        at += 1;
+        // No block ends within a run.
+        let run = position.run();
+        if run > (end - at) as u64 {
+            return last;
+        }
+        position = position.pass(run);
+        at += run as usize;
         if let Some(hunk) = hunk_between(position) {
-            last = Some(LoadPlace {
-                longs: at + 1,
-                hunk,
-            });
+            last = Some(LoadPlace { longs: at, hunk });
         }
     }
     last
