@@ -31,7 +31,7 @@ from hunk.rows import (
 )
 from hunk.spellings import input_place, plain, spelling, strip
 
-__version__ = "0.1.0"
+__version__ = "0.2.0"
 __all__ = [
     "BUDGET",
     "Block",

@@ -42,7 +42,7 @@ fn expect_help(rt: &impl Abort, alloc: Global, line: &str, parts: &str) -> Resul
 const HELP: &[(&str, &str)] = &[
     (
         "hunkinfo --version",
-        "hunkinfo 0.1.0 (proved with logic dac8208d650f15bf)\n",
+        "hunkinfo 0.2.0 (logic dac8208d650f15bf)\n",
     ),
     (
         "hunkinfo --help",
