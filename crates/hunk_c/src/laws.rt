@@ -65,10 +65,12 @@ pub fn room_for_plain()
 {}
 
 /// 12 bytes more than an input has, and 12 for each hunk of its table, are room for what stands of
-/// it before its fault.
+/// it before its fault; so are four times its bytes.
 pub fn room_for_front()
-    ensures { (bytes old new : List ℕ) (answer : Answer) → Fronts bytes old new answer
+    ensures by_hunks { (bytes old new : List ℕ) (answer : Answer) → Fronts bytes old new answer
         → length bytes + 12 * answer.hunk + 12 ≤ length old → answer.number ≡ 0 }
+    ensures fourfold { (bytes old new : List ℕ) (answer : Answer) → Fronts bytes old new answer
+        → 4 * length bytes ≤ length old → answer.number ≡ 0 }
 {}
 
 /// What a front is closed to is a whole file, and begins with the front.
