@@ -3,7 +3,6 @@ ghost use Rattle.std.specs.Prelude.{◌≡◌, ◌*◌, ◌<◌, ◌≤◌, ◌^
 ghost use Rattle.hunk_words.specs.Longs.{longs, bytes_of};
 ghost use Rattle.hunk_files.specs.Fault.{load_files};
 ghost use Rattle.hunk_files.specs.ObjectFault.{objects};
-ghost use Rattle.hunk_grammar.specs.FileKind.{sniffed};
 ghost use Rattle.hunk_c.specs.Fronts.{EndsBetweenBlocks, Fronts, HasNoFront, HasNoFrontWhere};
 ghost use Rattle.hunk_c.specs.Fronts.{InLoadText, InObjectText, empty_hunks, hunk_end, open_at};
 ghost use Rattle.hunk_c.specs.FrontPlaces.{FindsNone, IsFrontOf, IsLast, ReadsUpTo};

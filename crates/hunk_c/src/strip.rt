@@ -1,6 +1,5 @@
 //! Files without names, symbols and debug data.
 ghost use Rattle.std.specs.Prelude.{◌≡◌, ◌<◌, ◌≤◌, ◌^◌, ◌++◌, ℕ, IfNone, IfSome, drop, length};
-ghost use Rattle.std.proofs.Common.{◌∙◌, refl};
 ghost use Rattle.hunk_files.specs.FileView.{file_of};
 ghost use Rattle.hunk_files.specs.HunkFile.{file_bytes};
 ghost use Rattle.hunk_c.specs.Counting.{Counts, counts_none, counts_more};
