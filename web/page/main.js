@@ -8,6 +8,7 @@ import { fromHex, readLink, writeLink } from "./link.js";
 import { Lists } from "./lists.js";
 import { Many } from "./many.js";
 import { blockColour, blockName, counted, hex, hunkColour, lastAt } from "./names.js";
+import { unpacked } from "./packed.js";
 import { drawFile, drawMemory } from "./pictures.js";
 import { whyText } from "./reasons.js";
 import { EXAMPLES, MODULES } from "./data.js";
@@ -16,6 +17,7 @@ const $ = (id) => document.getElementById(id);
 const RELOCATED = 4;
 
 let hunk;
+let examples = [];
 let file = null;
 let memory = null;
 let example = null;
@@ -202,7 +204,7 @@ async function openPicked(field) {
 }
 
 function openExample(name) {
-  const found = EXAMPLES.find(([it]) => it === name);
+  const found = examples.find(([it]) => it === name);
   if (!found) return;
   example = name;
   $("example").value = name;
@@ -235,11 +237,13 @@ function saveStripped() {
 // ---- The module: that of the kit, where the browser takes 64-bit memories, else the one that binaryen made of it.
 
 async function openModule() {
-  const decoded = MODULES.map(([name, text]) => [name, Uint8Array.from(atob(text), (c) => c.charCodeAt(0))]);
-  const found = decoded.find(([, bytes]) => WebAssembly.validate(bytes));
-  if (!found) throw new Error("this browser runs none of the modules in this page");
-  $("module").textContent = `${found[0]}, ${found[1].length.toLocaleString("en")} bytes.`;
-  return Hunk.open(found[1]);
+  for (const [name, text] of MODULES) {
+    const bytes = await unpacked(text);
+    if (!WebAssembly.validate(bytes)) continue;
+    $("module").textContent = `${name}, ${bytes.length.toLocaleString("en")} bytes.`;
+    return Hunk.open(bytes);
+  }
+  throw new Error("this browser runs none of the modules in this page");
 }
 
 function listen() {
@@ -270,14 +274,15 @@ function listen() {
 }
 
 async function start() {
-  for (const [name] of EXAMPLES) $("example").add(new Option(name, name));
   try {
     hunk = await openModule();
+    examples = JSON.parse(new TextDecoder().decode(await unpacked(EXAMPLES)));
   } catch (error) {
     $("verdict").className = "bad";
     $("verdict").textContent = `The library can't be run here: ${error.message}`;
     return;
   }
+  for (const [name] of examples) $("example").add(new Option(name, name));
   listen();
   openLink();
   document.body.dataset.ready = "";

@@ -1,0 +1,11 @@
+// What web/build has packed: by deflate, and then as base64.
+
+/** The bytes of a packed text. */
+export async function unpacked(text) {
+  if (!("DecompressionStream" in globalThis)) {
+    throw new Error("this browser can't unpack it. Chromium can from 80 on, Firefox from 113, Safari from 16.4");
+  }
+  const bytes = Uint8Array.from(atob(text), (c) => c.charCodeAt(0));
+  const stream = new Blob([bytes]).stream().pipeThrough(new DecompressionStream("deflate"));
+  return new Uint8Array(await new Response(stream).arrayBuffer());
+}
