@@ -7,7 +7,7 @@ import { HexView } from "./hexview.js";
 import { fromHex, readLink, writeLink } from "./link.js";
 import { Lists } from "./lists.js";
 import { Many } from "./many.js";
-import { blockColour, blockName, counted, hex, hunkColour, lastAt } from "./names.js";
+import { blockColour, blockName, counted, hex, hunkColour, lastAt, whenSchemeChanges } from "./names.js";
 import { unpacked } from "./packed.js";
 import { drawFile, drawMemory } from "./pictures.js";
 import { whyText } from "./reasons.js";
@@ -255,6 +255,7 @@ function listen() {
   $("save-csv").addEventListener("click", () => save(many.csv(), "hunks.csv", "text/csv"));
   $("file-picture").addEventListener("click", (event) => fileView.go((event.offsetX / event.target.clientWidth) * file.bytes.length));
   $("memory-picture").addEventListener("click", (event) => memoryView.go((event.offsetX / event.target.clientWidth) * memory.length));
+  whenSchemeChanges(() => file && show(file.input, file.name));
   addEventListener("hashchange", openLink);
   addEventListener("dragover", (event) => {
     event.preventDefault();

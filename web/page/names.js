@@ -20,16 +20,29 @@ export function shown(name) {
   return name.replace(/[^\x20-\x5b\x5d-\x7e]/g, (c) => `\\x${hex(c.charCodeAt(0), 2)}`);
 }
 
-/** The colour of a hunk: neighbours differ. Text on it is black, in dark mode, too. */
-export const hunkColour = (hunk, light = 75) => `hsl(${(hunk * 137.5 + 40) % 360} 75% ${light}%)`;
+const scheme = matchMedia("(prefers-color-scheme: dark)");
 
-const HUES = { CODE: 215, DATA: 130, BSS: 180, EXT: 350, SYMBOL: 280, DEBUG: 35, NAME: 255, END: 0 };
+/** Calls for a change between light and dark, after which all that has colours is to be drawn again. */
+export const whenSchemeChanges = (call) => scheme.addEventListener("change", call);
 
-/** The colour of a block, by its kind: relocations are orange, and headers grey. */
+/** A colour of the page, of this hue. The paper has `light` 100, and less is further away from it: darker on white paper, and
+ * lighter on dark paper. Text in the colour of ink can be read on 65 and more. */
+function tint(hue, light, colourful = 1) {
+  const lightness = 0.3 + 0.007 * light;
+  const shown = scheme.matches ? 1.25 - lightness : lightness;
+  const chroma = colourful * Math.min(0.13, 0.02 + 0.55 * (1 - lightness));
+  return `oklch(${shown.toFixed(3)} ${chroma.toFixed(3)} ${hue.toFixed(1)})`;
+}
+
+/** The colour of a hunk: neighbours differ. */
+export const hunkColour = (hunk, light = 75) => tint((hunk * 137.5 + 65) % 360, light);
+
+const HUES = { CODE: 255, DATA: 150, BSS: 200, EXT: 15, SYMBOL: 310, DEBUG: 60, NAME: 285 };
+
+/** The colour of a block, by its kind: relocations are yellow, and headers grey. */
 export function blockColour(kind, light = 78) {
   const name = kind === null ? "" : blockName(kind);
-  if (name === "" || name === "END") return `hsl(0 0% ${light}%)`;
-  return `hsl(${HUES[name] ?? 55} 70% ${light}%)`;
+  return name === "" || name === "END" ? tint(0, light, 0) : tint(HUES[name] ?? 95, light);
 }
 
 /** The number of the last element that is at most this one, of a rising list; -1 where there is none. */
