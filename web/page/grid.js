@@ -2,7 +2,8 @@
 
 import { Scroller, escaped, rowOfKey } from "./scroller.js";
 
-const HEIGHT = 22;
+/** A finger takes more room than a pointer. */
+const HEIGHT = matchMedia("(pointer: coarse)").matches ? 36 : 22;
 let grids = 0;
 
 export class Grid {
@@ -17,6 +18,7 @@ export class Grid {
     box.setAttribute("aria-label", label);
     box.setAttribute("aria-colcount", columns.length);
     box.tabIndex = 0;
+    box.style.setProperty("--row", `${HEIGHT}px`);
     box.style.setProperty("--columns", columns.map(([, width]) => width).join(" "));
     this.box = box;
     this.#addHeads(onSort);
@@ -27,6 +29,7 @@ export class Grid {
     this.scroller = new Scroller(this.body, HEIGHT, (first, count) => this.#draw(first, count));
     box.addEventListener("keydown", (event) => this.#key(event));
     this.body.addEventListener("click", (event) => this.#click(event));
+    this.body.addEventListener("pointerover", (event) => this.#tellCut(event.target));
   }
 
   #addHeads(onSort) {
@@ -88,5 +91,10 @@ export class Grid {
     this.active = Number(row.dataset.row);
     this.scroller.refresh();
     this.rows.pick(this.active);
+  }
+
+  /** A text that is cut is told whole under the pointer. */
+  #tellCut(cell) {
+    if (cell.scrollWidth > cell.clientWidth && cell.matches("[role=gridcell]")) cell.title = cell.textContent;
   }
 }

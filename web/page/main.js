@@ -8,16 +8,16 @@ import { fromHex, readLink, writeLink } from "./link.js";
 import { Lists } from "./lists.js";
 import { Many } from "./many.js";
 import { blockColour, blockName, counted, hex, hunkColour, lastAt, whenSchemeChanges } from "./names.js";
+import { FIRST, Opening, entitle } from "./opening.js";
 import { unpacked } from "./packed.js";
 import { drawFile, drawMemory } from "./pictures.js";
 import { whyText } from "./reasons.js";
-import { EXAMPLES, MODULES } from "./data.js";
+import { MODULES } from "./data.js";
 
 const $ = (id) => document.getElementById(id);
 const RELOCATED = 4;
 
 let hunk;
-let examples = [];
 let file = null;
 let memory = null;
 let example = null;
@@ -27,6 +27,7 @@ let shows = 0;
 const memoryView = new HexView($("memory-hex"), "Memory, as hexadecimal digits");
 const fileView = new HexView($("file-hex"), "File, as hexadecimal digits");
 const lists = new Lists($("lists"), pick);
+const opening = new Opening(document.querySelectorAll("#examples a"), $("example"));
 const many = new Many($("many-list"), $("many-summary"), openFile);
 
 // ---- The verdict.
@@ -168,6 +169,8 @@ function showWhole(bytes, name) {
   file = new Examined(hunk, bytes, name);
   file.base = firstBase();
   document.body.classList.add("has-file");
+  opening.mark(example);
+  entitle(name);
   showVerdict();
   showFile();
   showMemory();
@@ -192,6 +195,8 @@ async function openAll(files) {
     await openFile(files[0].file, files[0].name);
     return;
   }
+  opening.mark(null);
+  entitle(counted(files.length, "file"));
   await many.show(hunk, files);
   document.body.dataset.shows = ++shows;
 }
@@ -204,11 +209,10 @@ async function openPicked(field) {
 }
 
 function openExample(name) {
-  const found = examples.find(([it]) => it === name);
-  if (!found) return;
+  const bytes = opening.bytes(name);
+  if (!bytes) return;
   example = name;
-  $("example").value = name;
-  show(fromHex(found[1]), name);
+  show(bytes, name);
 }
 
 function openLink() {
@@ -217,7 +221,7 @@ function openLink() {
   if (said.hex !== null) {
     example = null;
     show(fromHex(said.hex), "from the link");
-  } else if (said.example) openExample(said.example);
+  } else openExample(said.example ?? FIRST);
 }
 
 function save(data, name, type = "application/octet-stream") {
@@ -277,13 +281,12 @@ function listen() {
 async function start() {
   try {
     hunk = await openModule();
-    examples = JSON.parse(new TextDecoder().decode(await unpacked(EXAMPLES)));
+    await opening.fill();
   } catch (error) {
     $("verdict").className = "bad";
     $("verdict").textContent = `The library can't be run here: ${error.message}`;
     return;
   }
-  for (const [name] of examples) $("example").add(new Option(name, name));
   listen();
   openLink();
   document.body.dataset.ready = "";
