@@ -36,6 +36,7 @@ class Pipe {
 
 export class Chromium {
   name = "Chromium";
+  isTouched = false;
 
   static async open(folder) {
     const words = ["--headless=new", "--no-sandbox", "--disable-gpu", "--remote-debugging-pipe", "--no-first-run"];
@@ -58,7 +59,15 @@ export class Chromium {
   }
 
   async size(width, height) {
-    await this.send("Emulation.setDeviceMetricsOverride", { width, height, deviceScaleFactor: 1, mobile: false });
+    this.sized = { width, height };
+    await this.send("Emulation.setDeviceMetricsOverride", { width, height, deviceScaleFactor: 1, mobile: this.isTouched });
+  }
+
+  /** Whether it has a screen that is touched, as a phone; pages that are opened then see it. */
+  async touch(is) {
+    this.isTouched = is;
+    await this.send("Emulation.setTouchEmulationEnabled", { enabled: is });
+    await this.size(this.sized.width, this.sized.height);
   }
 
   async dark(is) {

@@ -63,7 +63,8 @@ export class Firefox {
     mkdirSync(profile, { recursive: true });
     writeFileSync(`${profile}/user.js`, 'user_pref("marionette.port", 0);\n');
     const browser = new Firefox();
-    browser.run = spawn("firefox-esr", ["--headless", "--marionette", "--no-remote", "--profile", profile], {
+    const words = ["--headless", "--marionette", "--remote-allow-system-access", "--no-remote", "--profile", profile];
+    browser.run = spawn("firefox-esr", words, {
       stdio: "ignore",
       env: { ...process.env, HOME: folder },
     });
@@ -76,11 +77,28 @@ export class Firefox {
     return browser;
   }
 
-  async size(width, height) {
-    await this.marionette.send("WebDriver:SetWindowRect", { width, height });
+  /** Runs a script in the browser itself. */
+  async inBrowser(script, ...args) {
+    await this.marionette.send("Marionette:SetContext", { value: "chrome" });
+    await this.marionette.send("WebDriver:ExecuteScript", { script, args });
+    await this.marionette.send("Marionette:SetContext", { value: "content" });
   }
 
-  async dark() {}
+  /** A window of Firefox has 500 pixels at least, so it is the page in it that is made narrow. */
+  async size(width, height) {
+    await this.marionette.send("WebDriver:SetWindowRect", { width, height });
+    await this.inBrowser(`gBrowser.selectedBrowser.style.maxWidth = arguments[0]`, `${width}px`);
+  }
+
+  async dark(is) {
+    await this.inBrowser(`Services.prefs.setIntPref("layout.css.prefers-color-scheme.content-override", arguments[0])`, is ? 0 : 1);
+  }
+
+  /** Whether it has a screen that is touched, as a phone; pages that are opened then see it. */
+  async touch(is) {
+    const script = is ? `setIntPref("ui.primaryPointerCapabilities", 1)` : `clearUserPref("ui.primaryPointerCapabilities")`;
+    await this.inBrowser(`Services.prefs.${script}`);
+  }
 
   async go(url) {
     await this.marionette.send("WebDriver:Navigate", { url });

@@ -6,6 +6,7 @@ import { execFileSync } from "node:child_process";
 import { copyFileSync, mkdirSync, readFileSync, statSync, writeFileSync } from "node:fs";
 import { createServer } from "node:http";
 import { pathToFileURL } from "node:url";
+import { compareOpening } from "./opening.mjs";
 
 const [browserName, pagePath, program, everyPath, oneOf, pictures, work] = process.argv.slice(2);
 const { Chromium, Firefox } = { ...(await import("./chromium.mjs")), ...(await import("./firefox.mjs")) };
@@ -341,6 +342,7 @@ try {
   if (browserName === "chromium") await compareFolder(page);
   await compareServed(page);
   await page.open();
+  await compareOpening(page, hold, { root, pagePath, work });
   await compareUse(page);
   await browser.size(1280, 900);
   if (oneOf === "1") await large(page);
