@@ -87,7 +87,7 @@ class Opening {
     // By hand: _f is referred to and _m defined in the one unit; offset 5 in a hunk of 8 bytes, at byte 52.
     const cards = [
       ["code-and-ext", "An object file: 1 unit, 0 findings."],
-      ["offset-outside", "Begins as a load file: refused at byte 52 (00000034), BadOffset (22)."],
+      ["offset-outside", "Begins as a load file: refused at byte 52 (00000034), BadOffset (24)."],
       ["sum", "A load file: 2 hunks, 60 bytes in memory."],
     ];
     for (const [name, wanted] of cards) {
