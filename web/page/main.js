@@ -284,7 +284,7 @@ async function start() {
     await opening.fill();
   } catch (error) {
     $("verdict").className = "bad";
-    $("verdict").textContent = `The library can't be run here: ${error.message}`;
+    $("verdict").textContent = `The library can't be run here: ${error.message}.`;
     return;
   }
   listen();

@@ -3,7 +3,7 @@
 /** The bytes of a packed text. */
 export async function unpacked(text) {
   if (!("DecompressionStream" in globalThis)) {
-    throw new Error("this browser can't unpack it. Chromium can from 80 on, Firefox from 113, Safari from 16.4");
+    throw new Error("this browser is too old to unpack it");
   }
   const bytes = Uint8Array.from(atob(text), (c) => c.charCodeAt(0));
   const stream = new Blob([bytes]).stream().pipeThrough(new DecompressionStream("deflate"));

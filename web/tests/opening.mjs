@@ -20,6 +20,7 @@ const STATES = {
   "an advisory block": "#example=advisory-block",
   "a name": "#example=name-with-line-end",
   "a finding": "#example=common-outside",
+  "another spelling": "#example=short-even",
 };
 
 const long = (number) => number.toString(16).padStart(8, "0");
@@ -101,16 +102,22 @@ class Opening {
       `return [...document.querySelectorAll("#example optgroup")].map((group) =>
          [group.label, ...[...group.children].map((it) => it.value)].join(" ")).join("\\n")`,
     );
-    const names = (table) =>
-      readFileSync(`${this.paths.root}vectors/${table}.tsv`, "utf8").split("\n").filter((it) => it && it[0] !== "#");
-    const wanted = [["Load files", "sum", "load"], ["Object files", "", "objects"]].map(([label, more, table]) =>
-      [label, more, ...names(table).map((it) => it.split("\t")[1])].filter(Boolean).join(" "));
-    hold("the list of examples", wanted.join("\n"), listed);
+    const rows = (table) => {
+      const lines = readFileSync(`${this.paths.root}vectors/${table}.tsv`, "utf8").split("\n");
+      return lines.filter((it) => it && it[0] !== "#").map((it) => it.split("\t"));
+    };
+    const wide = rows("wide").filter(([number, , , , answer]) => number > 100 && answer === "accepted");
+    const wanted = [
+      ["Load files", "sum", ...rows("load").map(([, name]) => name)],
+      ["Object files", ...rows("objects").map(([, name]) => name)],
+      ["Other spellings", ...wide.map(([, name]) => name)],
+    ];
+    hold("the list of examples", wanted.map((it) => it.join(" ")).join("\n"), listed);
   }
 
   async own() {
     const { page, hold } = this;
-    const isThere = `return document.getElementById("intro").checkVisibility() && document.getElementById("examples").checkVisibility()`;
+    const isThere = `return ["intro", "examples"].every((id) => document.getElementById(id).checkVisibility())`;
     hold("the opening", true, await page.in(isThere));
     await page.drop([["mine", manyHunks(3)]]);
     hold("a file of one's own, its title", "mine - hunk files", await this.title());
@@ -186,21 +193,23 @@ class Opening {
     const sum = createHash("sha256").update(script).digest("base64");
     const text = readFileSync(paths.pagePath, "utf8");
     const path = `${paths.work}/old.html`;
-    writeFileSync(path, text.replace("script-src ", `script-src 'sha256-${sum}' `).replace("<body>", `<body><script>${script}</script>`));
+    const named = text.replace("script-src ", `script-src 'sha256-${sum}' `);
+    writeFileSync(path, named.replace("<body>", `<body><script>${script}</script>`));
     await page.browser.go(pathToFileURL(path).href);
     const said = await page.in(
       `const verdict = () => document.getElementById("verdict")?.textContent ?? "";
        for (let i = 0; i < 400 && !verdict(); i++) await new Promise((done) => setTimeout(done, 5));
        return verdict()`,
     );
-    hold("a browser that can't unpack", true, said.startsWith("The library can't be run here: this browser can't unpack it."));
+    hold("a browser that can't unpack", "The library can't be run here: this browser is too old to unpack it.", said);
   }
 }
 
 /** What is there to press, and is lower than 36 pixels. */
 const LOW = `
   const pressed = "button, .button, select, input:not([type=file]), a, [data-row]";
-  const low = [...document.querySelectorAll(pressed)].filter((it) => it.checkVisibility() && it.getBoundingClientRect().height < 36);
+  const seen = [...document.querySelectorAll(pressed)].filter((it) => it.checkVisibility());
+  const low = seen.filter((it) => it.getBoundingClientRect().height < 36);
   return low.map((it) => it.id || it.className || it.textContent).join()`;
 
 /** The title of a cell that the pointer has come to, as it is and when it is cut. */

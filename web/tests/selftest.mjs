@@ -312,7 +312,7 @@ async function takePictures(page) {
   const take = async (name) => writeFileSync(`${pictures}/${browserName}-${name}.png`, await browser.picture());
   mkdirSync(pictures, { recursive: true });
   await browser.size(1280, 900);
-  await page.open(`#hex=${readFileSync(`${root}bindings/c/examples/sum.hex`, "utf8").replace(/\s/g, "")}`);
+  await page.open();
   await take("load");
   await browser.size(1120, 700);
   await take("page");
@@ -322,12 +322,13 @@ async function takePictures(page) {
   await page.open("#example=offset-outside");
   await take("refused");
   await browser.dark(true);
-  await page.open("#example=two-hunks");
+  await page.open();
   await take("dark");
   await browser.dark(false);
-  await browser.size(420, 900);
-  await page.open("#example=two-hunks");
-  await take("narrow");
+  await browser.size(390, 844);
+  await browser.touch(true);
+  await page.open();
+  await take("phone");
 }
 
 const browser = await (browserName === "chromium" ? Chromium : Firefox).open(work);
