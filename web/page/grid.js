@@ -4,7 +4,15 @@ import { Scroller, escaped, rowOfKey } from "./scroller.js";
 
 /** A finger takes more room than a pointer. */
 const HEIGHT = matchMedia("(pointer: coarse)").matches ? 36 : 22;
+const GAP = 12;
+const AROUND = 36;
 let grids = 0;
+
+/** What columns take at least, with their gaps, the space around them and a scrollbar: so head and rows have one width. */
+function leastWidth(columns) {
+  const ems = columns.reduce((sum, [, width]) => sum + parseFloat(width.match(/[\d.]+/)[0]), 0);
+  return `calc(${ems}em + ${(columns.length - 1) * GAP + AROUND}px)`;
+}
 
 export class Grid {
   /** `columns`: [name, width, is a number]. `rows.cells(i)` gives the texts of a row; `rows.pick(i)` is called for it. */
@@ -20,6 +28,7 @@ export class Grid {
     box.tabIndex = 0;
     box.style.setProperty("--row", `${HEIGHT}px`);
     box.style.setProperty("--columns", columns.map(([, width]) => width).join(" "));
+    box.style.setProperty("--least", leastWidth(columns));
     this.box = box;
     this.#addHeads(onSort);
     this.body = document.createElement("div");
@@ -47,11 +56,17 @@ export class Grid {
     this.box.append(this.head);
   }
 
-  show(rows) {
+  /** Shows rows, where it was scrolled to when they are the same with some more. */
+  show(rows, isSamePlace = false) {
     this.rows = rows;
-    this.active = 0;
+    if (!isSamePlace) this.active = 0;
     this.box.setAttribute("aria-rowcount", rows.count + 1);
-    this.scroller.setCount(rows.count);
+    this.scroller.setCount(rows.count, isSamePlace ? this.scroller.top : 0);
+  }
+
+  /** Scrolls to the row that is picked. */
+  reveal() {
+    this.scroller.reveal(this.active);
   }
 
   #draw(first, count) {

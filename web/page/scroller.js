@@ -33,10 +33,11 @@ export class Scroller {
     return this.count * this.height > TALLEST;
   }
 
-  setCount(count) {
+  /** Makes this the number of rows, and shows them from row `top` on. */
+  setCount(count, top = 0) {
     this.count = count;
     this.tall.style.height = `${Math.min(count * this.height, TALLEST)}px`;
-    this.go(0);
+    this.go(top);
   }
 
   /** Makes this row the first that is seen. */
