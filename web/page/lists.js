@@ -1,6 +1,7 @@
 // The lists of a file: a tab for each that has something to show.
 
 import { nameOf } from "../../bindings/javascript/hunk.js";
+import { Filter } from "./filter.js";
 import { Grid } from "./grid.js";
 import * as names from "./names.js";
 
@@ -190,7 +191,20 @@ export class Lists {
       return;
     }
     const grid = new Grid(box, this.tab.textContent, rows.columns);
-    grid.show({ ...rows, pick: (i) => this.pick(rows.item(i)) });
+    const pick = (i) => this.pick(rows.item(i));
+    grid.show({ ...rows, pick });
+    if (!Filter.isFor(this.tab.list.id)) return;
+    this.#addFilter((found) =>
+      grid.show(found ? { count: found.length, cells: (i) => rows.cells(found[i]), pick: (i) => pick(found[i]) } : { ...rows, pick }),
+    );
+  }
+
+  /** A box to filter the open list by, with what it has said before. */
+  #addFilter(show) {
+    const said = this.tab.filter?.field.value ?? "";
+    this.tab.filter = new Filter(this.tab.list.id, this.file, show);
+    this.panel.prepend(this.tab.filter.box);
+    if (said) this.tab.filter.look(said);
   }
 
   #key(event) {

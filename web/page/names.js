@@ -8,6 +8,12 @@ const FAULTS = {
 };
 
 export const hex = (number, digits = 8) => number.toString(16).padStart(digits, "0");
+/** The number that a text is, of up to eight hexadecimal digits, with or without `0x` or `$`; null where it is none. */
+export function numberOf(text) {
+  const found = /^(?:0x|\$)?([0-9a-f]{1,8})$/i.exec(text.trim());
+  return found && parseInt(found[1], 16);
+}
+
 export const counted = (number, what) => `${number.toLocaleString("en")} ${what}${number === 1 ? "" : "s"}`;
 export const blockName = kindName;
 export const entryName = entryKindName;
