@@ -1,14 +1,18 @@
-// The files that are dropped, of folders all that is in them.
+// The files that are dropped, of folders all that is in them: {file, name}, or {name, error} of what the browser does not give.
 
-// A folder comes as a handle or as an entry: Chromium reads no entry for a page that was opened from a folder, and Firefox has
-// no handles.
+// A folder comes as an entry or as a handle. Entries have every name, and Firefox has no handles. But to a page that was opened
+// from a disk, Chromium gives entries that can't be read, and its handles leave out names that not every system takes.
+
+/** Chromium gives no name to what has one that is no UTF-8 text. */
+const below = (folder, name) => `${folder}/${name || "\ufffd"}`;
 
 async function walkHandle(handle, name, found) {
-  if (handle.kind === "file") {
-    found.push({ file: await handle.getFile(), name });
-    return;
+  try {
+    if (handle.kind === "file") found.push({ file: await handle.getFile(), name });
+    else for await (const it of handle.values()) await walkHandle(it, below(name, it.name), found);
+  } catch (error) {
+    found.push({ name, error });
   }
-  for await (const it of handle.values()) await walkHandle(it, `${name}/${it.name}`, found);
 }
 
 function entriesOf(folder) {
@@ -25,16 +29,34 @@ function entriesOf(folder) {
   });
 }
 
-async function walkEntry(entry, found) {
-  if (entry.isFile) {
-    const file = await new Promise((done, fail) => entry.file(done, fail));
-    found.push({ file, name: entry.fullPath.replace(/^\//, "") });
-    return;
+async function walkEntry(entry, name, found) {
+  try {
+    // An entry without a name would be its own folder again.
+    if (!entry.name) found.push({ name });
+    else if (entry.isFile) found.push({ file: await new Promise((done, fail) => entry.file(done, fail)), name });
+    else await walkEntries(await entriesOf(entry), name, found);
+  } catch (error) {
+    found.push({ name, error });
   }
-  for (const it of await entriesOf(entry)) await walkEntry(it, found);
 }
 
-/** What a drop brought: {file, name}. */
+async function walkEntries(entries, name, found) {
+  for (const it of entries) await walkEntry(it, below(name, it.name), found);
+}
+
+/** All that is in a folder. Answers whether names may be left out. */
+async function walkFolder(entry, handle, found) {
+  const entries = entry && (await entriesOf(entry).catch(() => null));
+  if (entries) await walkEntries(entries, entry.name, found);
+  else if (handle) await walkHandle(handle, handle.name, found);
+  else found.push({ name: entry.name });
+  return !entries && Boolean(handle);
+}
+
+const COLLATOR = new Intl.Collator("en", { numeric: true });
+const byName = (one, other) => COLLATOR.compare(one.name, other.name);
+
+/** What a drop brought, folders by name, and whether the browser may have left names out. */
 export async function droppedFiles(transfer) {
   // All of it is there only until the event is over, so it is taken before the first wait.
   const items = [...transfer.items].filter((item) => item.kind === "file");
@@ -42,15 +64,19 @@ export async function droppedFiles(transfer) {
   const handles = items.map((item) => item.getAsFileSystemHandle?.().catch(() => null));
   const files = [...transfer.files];
   const found = [];
+  const inFolders = [];
+  let isPartial = false;
   for (const [i, entry] of entries.entries()) {
     const handle = await handles[i];
-    if (handle?.kind === "directory") await walkHandle(handle, handle.name, found);
-    else if (entry?.isDirectory) await walkEntry(entry, found);
+    const isFolder = entry?.isDirectory || handle?.kind === "directory";
+    if (isFolder) isPartial = (await walkFolder(entry, handle, inFolders)) || isPartial;
     else if (files[i]) found.push({ file: files[i], name: files[i].name });
   }
-  return found;
+  return { files: found.concat(inFolders.sort(byName)), isPartial };
 }
 
-/** What a field for files brought. */
-export const pickedFiles = (field) =>
-  [...field.files].map((file) => ({ file, name: file.webkitRelativePath || file.name }));
+/** What a field for files brought, a folder by name. */
+export function pickedFiles(field) {
+  const found = [...field.files].map((file) => ({ file, name: file.webkitRelativePath || file.name }));
+  return field.webkitdirectory ? found.sort(byName) : found;
+}

@@ -1,20 +1,53 @@
-// The state of the page in its link: #example=NAME or #hex=DIGITS, and &base=ADDRESS.
+// The link of what is shown: #example=NAME or #hex=DIGITS, and &base=ADDRESS. A file is put into one only when that is asked for:
+// an address stays in the history of the browser.
 
-/** The longest file that is kept in the link. */
+/** The longest file that is put into a link. */
 const MOST = 4096;
+
+const here = () => location.href.replace(/#.*/s, "");
 
 export function readLink() {
   const said = new URLSearchParams(location.hash.slice(1));
   return { example: said.get("example"), hex: said.get("hex"), base: said.get("base") };
 }
 
-/** Writes the state; a file that is too long is left out. */
-export function writeLink({ example, bytes, base }) {
-  const said = new URLSearchParams();
-  if (example) said.set("example", example);
-  else if (bytes && bytes.length <= MOST) said.set("hex", toHex(bytes));
-  if (base) said.set("base", base);
+/** Takes away what the address says, when something else is shown. */
+export function forgetLink() {
+  if (location.hash) history.replaceState(null, "", here());
+}
+
+/** Has an address that says what is shown say this base. */
+export function moveLink(base) {
+  const said = new URLSearchParams(location.hash.slice(1));
+  if (!said.has("example") && !said.has("hex")) return;
+  said.set("base", base);
   history.replaceState(null, "", `#${said}`);
+}
+
+/** A link to an example, or with these bytes in it; null where they are too many. */
+export function linkOf({ example, bytes, base }) {
+  if (!example && bytes.length > MOST) return null;
+  const said = new URLSearchParams(example ? { example } : { hex: toHex(bytes) });
+  if (base) said.set("base", base);
+  return `${here()}#${said}`;
+}
+
+/** Copies a link, and says what came of it. Where the browser lets nothing be copied, a field has the link. */
+export async function copyLink(link, field, told) {
+  field.hidden = true;
+  if (!link) {
+    told.textContent = `A link takes a file of ${MOST.toLocaleString("en")} bytes at most.`;
+    return;
+  }
+  try {
+    await navigator.clipboard.writeText(link);
+    told.textContent = link.includes("#hex=") ? "Copied. The file itself is in the link." : "Copied.";
+  } catch {
+    told.textContent = "This browser lets nothing be copied. The link is here:";
+    field.value = link;
+    field.hidden = false;
+    field.select();
+  }
 }
 
 export const toHex = (bytes) => Array.from(bytes, (byte) => byte.toString(16).padStart(2, "0")).join("");

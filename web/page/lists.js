@@ -192,11 +192,11 @@ export class Lists {
     }
     const grid = new Grid(box, this.tab.textContent, rows.columns);
     const pick = (i) => this.pick(rows.item(i));
-    grid.show({ ...rows, pick });
+    const all = { ...rows, pick };
+    grid.show(all);
     if (!Filter.isFor(this.tab.list.id)) return;
-    this.#addFilter((found) =>
-      grid.show(found ? { count: found.length, cells: (i) => rows.cells(found[i]), pick: (i) => pick(found[i]) } : { ...rows, pick }),
-    );
+    const only = (found) => ({ count: found.length, cells: (i) => rows.cells(found[i]), pick: (i) => pick(found[i]) });
+    this.#addFilter((found) => grid.show(found ? only(found) : all));
   }
 
   /** A box to filter the open list by, with what it has said before. */

@@ -1,17 +1,19 @@
 // The page: what is dropped, picked or linked is shown.
 
 import { Hunk } from "../../bindings/javascript/hunk.js";
+import { BaseField } from "./base.js";
 import { droppedFiles, pickedFiles } from "./dropped.js";
 import { Examined } from "./file.js";
 import { HexView } from "./hexview.js";
-import { fromHex, readLink, writeLink } from "./link.js";
+import { copyLink, forgetLink, fromHex, linkOf, moveLink, readLink } from "./link.js";
 import { Lists } from "./lists.js";
 import { Many } from "./many.js";
 import { blockColour, blockName, counted, hex, hunkColour, lastAt, whenSchemeChanges } from "./names.js";
 import { FIRST, Opening, entitle } from "./opening.js";
 import { unpacked } from "./packed.js";
 import { drawFile, drawMemory } from "./pictures.js";
-import { whyText } from "./reasons.js";
+import { bytesOf, PARTIAL, unreadText } from "./reading.js";
+import { classOf, toneOf, whyText } from "./reasons.js";
 import { MODULES } from "./data.js";
 
 const $ = (id) => document.getElementById(id);
@@ -28,7 +30,8 @@ const memoryView = new HexView($("memory-hex"), "Memory, as hexadecimal digits")
 const fileView = new HexView($("file-hex"), "File, as hexadecimal digits");
 const lists = new Lists($("lists"), pick);
 const opening = new Opening(document.querySelectorAll("#examples a"), $("example"));
-const many = new Many($("many-list"), $("many-summary"), openFile);
+const many = new Many($("many"), openFile);
+const base = new BaseField($("base"), $("base-note"), rebase);
 
 // ---- The verdict.
 
@@ -60,7 +63,7 @@ function acceptedText(about) {
 
 function showVerdict() {
   const { about } = file;
-  $("verdict").className = about.refusal ? "bad" : "good";
+  $("verdict").className = toneOf(classOf(about));
   $("verdict").textContent = about.refusal ? refusalText(about) : acceptedText(about);
   const refusal = about.refusal ?? about.strict;
   $("why").textContent = refusal ? whyText(refusal) : "";
@@ -152,14 +155,16 @@ function pick(item) {
 
 // ---- What is shown.
 
-const firstBase = () => parseInt($("base").value, 16) >>> 0;
+/** Tells a test that what it waits for is there. */
+function tellShown() {
+  document.body.dataset.shows = ++shows;
+}
 
 function show(bytes, name) {
   try {
     showWhole(bytes, name);
   } catch (error) {
-    $("verdict").className = "bad";
-    $("verdict").textContent = `${name} can't be shown here: ${error.message}`;
+    closeFile(name, `${name} can't be shown here: ${error.message}`);
     throw error;
   }
 }
@@ -167,7 +172,7 @@ function show(bytes, name) {
 function showWhole(bytes, name) {
   const began = performance.now();
   file = new Examined(hunk, bytes, name);
-  file.base = firstBase();
+  file.base = base.address;
   document.body.classList.add("has-file");
   opening.mark(example);
   entitle(name);
@@ -178,34 +183,66 @@ function showWhole(bytes, name) {
   if (!file.about.refusal) lists.show(file);
   $("save-stripped").hidden = Boolean(file.about.refusal);
   $("saved").textContent = "";
-  writeLink({ example, bytes, base: $("base").value });
+  $("copied").textContent = "";
+  $("link").hidden = true;
   $("time").textContent = `${(performance.now() - began).toFixed(0)} ms.`;
-  document.body.dataset.shows = ++shows;
+  tellShown();
 }
 
-async function openFile(it, name) {
+/** Shows the memory from another address. */
+function rebase() {
+  moveLink(base.text);
+  if (!file) return;
+  file.base = base.address;
+  showMemory();
+  lists.refresh();
+  tellShown();
+}
+
+/** Shows no file any more, and says why. */
+function closeFile(title, text) {
+  opening.mark(null);
+  entitle(title);
+  file = null;
+  memory = null;
+  document.body.classList.remove("has-file");
+  for (const id of ["file-name", "why"]) $(id).textContent = "";
+  $("verdict").className = "warn";
+  $("verdict").textContent = text;
+}
+
+async function openFile(found) {
+  const { bytes, why } = await bytesOf(found);
   example = null;
-  show(new Uint8Array(await it.arrayBuffer()), name);
-}
-
-async function openAll(files) {
-  if (files.length === 0) return;
-  $("many").hidden = files.length === 1;
-  if (files.length === 1) {
-    await openFile(files[0].file, files[0].name);
+  forgetLink();
+  if (bytes) {
+    show(bytes, found.name);
     return;
   }
-  opening.mark(null);
-  entitle(counted(files.length, "file"));
-  await many.show(hunk, files);
-  document.body.dataset.shows = ++shows;
+  closeFile(found.name, unreadText([{ name: found.name, why }]));
+  tellShown();
+}
+
+/** One file is shown, of many a table. */
+async function openAll({ files, isPartial }) {
+  const isOne = files.length === 1 && !isPartial;
+  const partial = isPartial ? PARTIAL : "";
+  $("many").hidden = isOne || files.length === 0;
+  if (isOne) {
+    await openFile(files[0]);
+    return;
+  }
+  forgetLink();
+  closeFile(counted(files.length, "file"), files.length > 0 ? "" : `There is no file in it. ${partial}`);
+  await many.show(hunk, files, partial);
+  tellShown();
 }
 
 /** The field is empty afterwards, so that the same file can be picked again, as after a change of it. */
 async function openPicked(field) {
   const files = pickedFiles(field);
   field.value = "";
-  await openAll(files);
+  await openAll({ files, isPartial: false });
 }
 
 function openExample(name) {
@@ -217,7 +254,7 @@ function openExample(name) {
 
 function openLink() {
   const said = readLink();
-  if (said.base) $("base").value = said.base;
+  if (said.base) base.set(said.base);
   if (said.hex !== null) {
     example = null;
     show(fromHex(said.hex), "from the link");
@@ -252,8 +289,13 @@ async function openModule() {
 
 function listen() {
   for (const id of ["pick", "pick-folder"]) $(id).addEventListener("change", () => openPicked($(id)));
-  $("example").addEventListener("change", () => openExample($("example").value));
-  $("base").addEventListener("change", () => file && show(file.input, file.name));
+  $("example").addEventListener("change", () => {
+    forgetLink();
+    openExample($("example").value);
+  });
+  $("copy-link").addEventListener("click", () => {
+    copyLink(linkOf({ example, bytes: file.input, base: file.table && base.text }), $("link"), $("copied"));
+  });
   $("save-stripped").addEventListener("click", saveStripped);
   $("save-memory").addEventListener("click", () => save(memory, `${file.name}.memory`));
   $("save-csv").addEventListener("click", () => save(many.csv(), "hunks.csv", "text/csv"));

@@ -1,111 +1,151 @@
-// Many files: a line for each, sorted by any column, and saved as CSV.
+// Many files: a line for each, sorted by any column, filtered by class and name, and saved as CSV.
 
 import { Grid } from "./grid.js";
-import { inPlain, summary } from "./file.js";
+import { CLASSES, csvOf, lineOf, sortLines, unreadLine } from "./lines.js";
 import { counted } from "./names.js";
-import { classOf } from "./reasons.js";
+import { bytesOf, unreadText } from "./reading.js";
+import { toneOf } from "./reasons.js";
 
 const COLUMNS = [
-  ["file", "minmax(10em, 2fr)"],
-  ["bytes", "7em", true],
-  ["answer", "6em"],
-  ["what it is", "7em"],
-  ["hunks, units", "7em", true],
-  ["declared, findings", "9em", true],
-  ["refused at", "6em", true],
-  ["reason", "minmax(9em, 1fr)"],
-  ["class", "7em"],
+  ["file", "file", "minmax(12em, 3fr)"],
+  ["bytes", "bytes", "6em", true],
+  ["class", "class", "7em"],
+  ["hunks", "hunks", "4em", true],
+  ["memory", "in memory", "7em", true],
+  ["units", "units", "4em", true],
+  ["findings", "findings", "5em", true],
+  ["place", "refused at", "6em", true],
+  ["reason", "reason", "minmax(8em, 1fr)"],
 ];
-/** In the words and the order of `hunk survey`. */
-const CLASSES = ["load", "object", "findings", "wide", "no hunk file", "not supported", "damaged", "not judged"];
-const FIELDS = ["file", "bytes", "answer", "kind", "first", "second", "place", "reason", "class", "number"];
 
-/** A file's line: its fields, in the order of FIELDS. */
-function lineOf(hunk, name, bytes) {
-  const about = summary(hunk, bytes);
-  const { kind, refusal } = about;
-  if (refusal) {
-    const shown = inPlain(hunk, bytes, about) ? "wide" : classOf(refusal);
-    return [name, bytes.length, "refused", kind, "", "", refusal.place, refusal.reason, shown, refusal.number];
+/** How long lines are gathered before they are shown. */
+const BETWEEN = 200;
+
+const number = (it) => it.toLocaleString("en");
+const shownCell = (it) => (typeof it === "number" ? number(it) : (it ?? ""));
+
+/** The line of a file that was found, and why it says nothing of it. */
+async function lookAt(hunk, found) {
+  const { bytes, why } = await bytesOf(found);
+  if (why) return { line: unreadLine(found.name), why };
+  try {
+    return { line: lineOf(hunk, found.name, bytes) };
+  } catch (error) {
+    // As where the browser has no memory for it: the others are to be looked at.
+    return { line: unreadLine(found.name), why: error.message };
   }
-  const [shown, ...counts] =
-    about.hunks > 0
-      ? ["load", about.hunks, about.declared]
-      : [about.findings > 0 ? "findings" : "object", about.units, about.findings];
-  return [name, bytes.length, "accepted", kind, ...counts, "", "", shown, ""];
 }
-
-function compare(one, other) {
-  if (typeof one === "number" && typeof other === "number") return one - other;
-  if (typeof one !== typeof other) return typeof one === "number" ? -1 : 1;
-  return one < other ? -1 : one > other ? 1 : 0;
-}
-
-const quoted = (cell) => (/[",\r\n]/.test(cell) ? `"${String(cell).replaceAll('"', '""')}"` : String(cell));
 
 export class Many {
-  /** `open(file, name)` is called for the line that is picked. */
-  constructor(box, summaryBox, open) {
-    this.summaryBox = summaryBox;
+  /** `open(file)` is called for the line that is picked: {file, name} as it was found. */
+  constructor(section, open) {
+    const part = (name) => section.querySelector(`#many-${name}`);
     this.open = open;
-    this.grid = new Grid(box, "Files", COLUMNS, (column) => this.sort(column));
+    this.summary = part("summary");
+    this.note = part("note");
+    this.partial = part("partial");
+    this.filter = part("filter");
+    this.grid = new Grid(part("list"), "Files", COLUMNS.map(([, ...rest]) => rest), (column) => this.sort(column));
+    this.choices = ["", ...CLASSES].map((name) => this.#choice(name));
+    part("classes").append(...this.choices);
+    this.filter.addEventListener("input", () => this.#arrange());
     this.lines = [];
     this.run = 0;
   }
 
-  /** Looks at files, {file, name}, one after the other; the page stays usable meanwhile. */
-  async show(hunk, files) {
+  /** The button that leaves one class, or with "" all. */
+  #choice(name) {
+    const button = document.createElement("button");
+    button.name = name;
+    button.innerHTML = (name ? `<i class="${toneOf(name)}"></i>` : "") + `<span>${name || "all"}</span>`;
+    button.addEventListener("click", () => {
+      this.wanted = name;
+      this.#arrange();
+    });
+    return button;
+  }
+
+  /** Looks at files, {file, name}, one after the other; the page stays usable meanwhile. `partial` tells what may be missing. */
+  async show(hunk, files, partial) {
     const run = ++this.run;
-    this.lines = [];
-    this.sorted = null;
+    Object.assign(this, { lines: [], unread: [], total: files.length, wanted: "", sorted: null });
+    this.filter.value = "";
+    this.partial.textContent = partial;
+    this.#markSorted();
+    this.#arrange();
     let told = performance.now();
-    for (const { file, name } of files) {
-      const bytes = new Uint8Array(await file.arrayBuffer());
+    for (const found of files) {
+      const { line, why } = await lookAt(hunk, found);
       if (run !== this.run) return;
-      this.lines.push({ file, name, cells: lineOf(hunk, name, bytes) });
-      if (performance.now() - told > 200) {
-        this.refresh(files.length);
+      if (why) this.unread.push({ name: found.name, why });
+      this.lines.push({ ...line, found });
+      if (performance.now() - told > BETWEEN) {
+        this.#arrange(true);
         await new Promise((done) => setTimeout(done));
         told = performance.now();
       }
     }
-    this.refresh(files.length);
+    this.#arrange(true);
   }
 
-  refresh(total) {
-    const counts = Object.fromEntries(CLASSES.map((it) => [it, 0]));
-    for (const line of this.lines) counts[line.cells[8]] += 1;
-    counts["to come"] = total - this.lines.length;
-    const told = Object.entries(counts).filter(([, count]) => count > 0);
-    this.summaryBox.textContent =
-      `${counted(total, "file")}: ` + told.map(([shown, count]) => `${count.toLocaleString("en")} ${shown}`).join(", ");
-    this.grid.show({
-      count: this.lines.length,
-      cells: (i) => this.#cells(this.lines[i].cells),
-      pick: (i) => this.open(this.lines[i].file, this.lines[i].name),
-    });
+  /** Shows the lines that are wanted, in their order. */
+  #arrange(isSamePlace = false) {
+    const text = this.filter.value.trim().toLowerCase();
+    const isWanted = (line) => (!this.wanted || line.class === this.wanted) && line.file.toLowerCase().includes(text);
+    this.shown = this.lines.filter(isWanted);
+    if (this.sorted) sortLines(this.shown, COLUMNS[this.sorted.column][0], this.sorted.direction);
+    this.#tell();
+    const rows = {
+      count: this.shown.length,
+      cells: (i) => this.#cells(this.shown[i]),
+      pick: (i) => this.#pick(this.shown[i]),
+    };
+    this.grid.show(rows, isSamePlace);
   }
 
-  #cells(cells) {
-    const shown = cells.slice(0, COLUMNS.length).map((it) => (typeof it === "number" ? it.toLocaleString("en") : it));
-    shown[2] = { text: cells[2], tone: cells[2] === "accepted" ? "good" : "bad" };
-    return shown;
+  /** A file that is shown takes of the table's height. */
+  async #pick(line) {
+    await this.open(line.found);
+    this.grid.reveal();
+  }
+
+  #cells(line) {
+    const told = { ...line, class: { text: line.class, tone: toneOf(line.class) } };
+    return COLUMNS.map(([field]) => shownCell(told[field]));
+  }
+
+  #tell() {
+    const rest = this.total - this.lines.length;
+    const left = this.shown.length < this.lines.length ? `${number(this.shown.length)} of ` : "";
+    this.summary.textContent = left + counted(this.total, "file") + (rest > 0 ? `, ${number(rest)} to come` : "");
+    this.note.textContent = unreadText(this.unread);
+    const counts = new Map([["", this.lines.length]]);
+    for (const line of this.lines) counts.set(line.class, (counts.get(line.class) ?? 0) + 1);
+    for (const button of this.choices) {
+      const count = counts.get(button.name) ?? 0;
+      button.hidden = count === 0;
+      button.lastChild.textContent = `${number(count)} ${button.name || "all"}`;
+      button.setAttribute("aria-pressed", button.name === this.wanted);
+    }
   }
 
   /** Sorts by a column; by the same one again in the other direction. */
   sort(column) {
     const direction = this.sorted?.column === column ? -this.sorted.direction : 1;
     this.sorted = { column, direction };
-    this.lines.sort((one, other) => direction * compare(one.cells[column], other.cells[column]));
-    [...this.grid.head.children].forEach((head, i) => {
-      if (i === column) head.setAttribute("aria-sort", direction > 0 ? "ascending" : "descending");
-      else head.removeAttribute("aria-sort");
-    });
-    this.refresh(this.lines.length);
+    this.#markSorted();
+    this.#arrange();
   }
 
+  #markSorted() {
+    [...this.grid.head.children].forEach((head, i) => {
+      if (i !== this.sorted?.column) head.removeAttribute("aria-sort");
+      else head.setAttribute("aria-sort", this.sorted.direction > 0 ? "ascending" : "descending");
+    });
+  }
+
+  /** What is shown, as it is saved. */
   csv() {
-    const lines = this.lines.map((line) => line.cells.map(quoted).join(","));
-    return [FIELDS.join(","), ...lines].join("\r\n") + "\r\n";
+    return csvOf(this.shown);
   }
 }
