@@ -6,6 +6,7 @@ import { execFileSync } from "node:child_process";
 import { copyFileSync, mkdirSync, readFileSync, statSync, writeFileSync } from "node:fs";
 import { createServer } from "node:http";
 import { pathToFileURL } from "node:url";
+import { tryMany } from "./many.mjs";
 import { compareOpening } from "./opening.mjs";
 
 const [browserName, pagePath, program, everyPath, oneOf, pictures, work] = process.argv.slice(2);
@@ -209,16 +210,19 @@ async function compareMany(page) {
   const cells = text.split("\r\n").slice(1, -1).map((line) => line.split(","));
   hold("the lines of the table", rows.length, cells.length);
   const counts = {};
-  for (const [i, [, size, answer, , first, second, place, , shown, number]] of cells.entries()) {
-    const said = answer === "accepted" ? `${size} accepted ${first} ${second}` : `${size} refused ${place} ${number}`;
+  for (const [i, [, size, shown, answer, , ...rest]] of cells.entries()) {
+    const [hunks, memory, units, findings, place, , number] = rest;
+    const said = answer === "accepted" ? `${size} accepted ${hunks || units} ${memory || findings}` : `${size} refused ${place} ${number}`;
     const wanted = rows[i].slice(4).join(" ");
     const kind = classOf(rows[i][3], wanted);
     hold(`input ${i}`, `${rows[i][3].length / 2} ${wanted}, ${kind}`, `${said}, ${shown}`);
     counts[kind] = (counts[kind] ?? 0) + 1;
   }
   const counted = CLASSES.filter((it) => counts[it]).map((it) => `${counts[it]} ${it}`);
-  const told = await page.in(`return document.getElementById("many-summary").textContent`);
-  hold("the counts of the table", `${rows.length} files: ${counted.join(", ")}`, told.replaceAll(/(\d),(?=\d)/g, "$1"));
+  const told = await page.in(
+    `return [...document.querySelectorAll("#many-classes button:not([hidden])")].map((it) => it.textContent.replaceAll(",", "")).join(", ")`,
+  );
+  hold("the counts of the table", `${rows.length} all, ${counted.join(", ")}`, told);
 }
 
 /** A folder, which Firefox lets no test drop. */
@@ -232,7 +236,7 @@ async function compareFolder(page) {
   for (const way of ways) {
     await page.shows(way);
     const lines = Buffer.from(await page.saved("save-csv"), "hex").toString().split("\r\n").slice(1, -1);
-    hold("a folder", wanted, lines.map((line) => line.split(",").slice(0, 3).join(" ")).sort().join(", "));
+    hold("a folder", wanted, lines.map((line) => line.split(",")).map(([name, size, , answer]) => `${name} ${size} ${answer}`).join(", "));
   }
   await page.in(`document.querySelector("#many-list [role=columnheader]").click()`);
   const names = await page.in(`return [...document.querySelectorAll("#many-list [data-row] > :first-child")].map((it) => it.textContent)`);
@@ -342,6 +346,7 @@ try {
   await page.open();
   if (browserName === "chromium") await compareFolder(page);
   await compareServed(page);
+  await tryMany(page, hold, { work, pagePath });
   await page.open();
   await compareOpening(page, hold, { root, pagePath, work });
   await compareUse(page);

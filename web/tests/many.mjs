@@ -1,0 +1,313 @@
+// Many files at once, what can't be read of them, filters, the field of the address, and the link: held to what stands here.
+
+import { mkdirSync, readFileSync, rmSync, writeFileSync } from "node:fs";
+import { createServer } from "node:http";
+
+/** The digits of longwords; words of four characters are given in quotes. */
+const longs = (text) =>
+  text.split(/\s+/).map((it) => (it[0] === "'" ? Buffer.from(it.slice(1)).toString("hex") : it.padStart(8, "0"))).join("");
+
+/** 164 bytes: 16 of code at 21000 with two relocated longs, at 4 and c, and 8 of data; 3 symbols, the last at byte 90. */
+const LOAD = longs(
+  "3f3 0 2 0 1 4 2 3e9 4 4e714e71 4 4e714e71 0 3ec 1 1 4 1 0 c 0 3f0 1 'main 0 2 'add_ 'one. 8 0 3f2 " +
+    "3ea 2 1 2 3f0 1 'tabl 4 0 3f2",
+);
+/** The second relocation is at 10, where the hunk has ended: that longword is at byte 76. */
+const DAMAGED = LOAD.replace(longs("1 0 c 0"), longs("1 0 10 0"));
+const OBJECT = longs("3e7 1 'unit 3e9 1 0 3f2");
+/** Two offsets, 1 and 2, in 4 bytes. */
+const FINDINGS = longs("3e7 0 3e9 1 0 3ec 2 0 1 2 0 3f2");
+const SHORT = longs("3f3 0 1 0 0 1 3e9 1 0 3fc 10000 0");
+const TEXT = Buffer.from("no hunk file at all\n").toString("hex");
+const FILES = Object.entries({
+  load: LOAD, 'b, "two"': LOAD, object: OBJECT, found: FINDINGS, short: SHORT, text: TEXT, bad: DAMAGED,
+});
+
+const CSV = `file,bytes,class,answer,kind,hunks,memory,units,findings,place,reason,number
+load,164,load,accepted,load file,2,24,,,,,
+"b, ""two""",164,load,accepted,load file,2,24,,,,,
+object,28,object,accepted,object file,,,1,0,,,
+found,48,findings,accepted,object file,,,1,2,,,
+short,48,wide,refused,load file,,,,,36,ShortReloc,13
+text,20,no hunk file,refused,other file,,,,,0,NotLoadFile,1
+bad,164,damaged,refused,load file,,,,,76,BadOffset,24
+`.replaceAll("\n", "\r\n");
+
+const NAMES = `return [...document.querySelectorAll("#many-list [data-row] > :first-child")].map((it) => it.textContent).join()`;
+const NOTE = `return document.getElementById("many-note").textContent`;
+const PARTIAL = `return document.getElementById("many-partial").textContent !== ""`;
+const VERDICT = `return document.getElementById("verdict").textContent`;
+const type = (page, selector, text, event = "input") =>
+  page.in(
+    `const field = document.querySelector(values[0]);
+     field.value = values[1];
+     field.dispatchEvent(new Event(values[2], { bubbles: true }));
+     await new Promise((done) => setTimeout(done, 50));`,
+    selector,
+    text,
+    event,
+  );
+const textOf = async (page, id) => Buffer.from(await page.saved(id), "hex").toString();
+
+async function tryTable(page, hold) {
+  await page.drop(FILES);
+  hold("the table, saved", CSV, await textOf(page, "save-csv"));
+  const buttons = `return [...document.querySelectorAll("#many-classes button")].filter((it) => it.checkVisibility())
+    .map((it) => it.textContent).join()`;
+  hold("the classes", "7 all,2 load,1 object,1 findings,1 wide,1 no hunk file,1 damaged", await page.in(buttons));
+  await page.in(`document.querySelector("#many-classes [name=load]").click()`);
+  hold("the files of a class", 'load,b, "two"', await page.in(NAMES));
+  await type(page, "#many-filter", "TWO");
+  hold("those with a text in the name", 'b, "two"', await page.in(NAMES));
+  const saved = CSV.split("\r\n");
+  hold("those, saved", [saved[0], saved[2], ""].join("\r\n"), await textOf(page, "save-csv"));
+  hold("how many those are", "1 of 7 files", await page.in(`return document.getElementById("many-summary").textContent`));
+  await page.in(`document.querySelector("#many-classes [name='']").click()`);
+  await type(page, "#many-filter", "");
+  const sort = `document.querySelectorAll("#many-list [role=columnheader]")[3].click();`;
+  // Those that have no hunks come last, upwards and downwards.
+  hold("sorted by hunks", 'load,b, "two",object,found,short,text,bad', await page.in(sort + NAMES));
+  hold("and downwards", 'load,b, "two",object,found,short,text,bad', await page.in(sort + NAMES));
+  await page.in(`document.querySelectorAll("#many-list [role=columnheader]")[1].click()`);
+  hold("sorted by bytes", 'text,object,found,short,load,b, "two",bad', await page.in(NAMES));
+}
+
+/** Each class has its colour, and what is no hunk file, or has findings, is told neither in green nor in red. */
+async function tryTones(page, hold) {
+  const colour = `return getComputedStyle(document.getElementById("verdict")).color`;
+  const colours = {};
+  for (const [name, digits] of FILES) {
+    await page.drop([[name, digits]]);
+    colours[name] = await page.in(colour);
+  }
+  hold("load and object file have one colour", colours.load, colours.object);
+  hold("findings and other spellings have one", colours.found, colours.short);
+  hold("the colours of verdicts", 4, new Set([colours.load, colours.found, colours.text, colours.bad]).size);
+}
+
+/** Heads stand over their columns, and the table has the height of the window. */
+async function tryLayout(page, hold) {
+  await page.drop(Array.from({ length: 200 }, (_, i) => [`file ${i}`, FILES[i % FILES.length][1]]));
+  const edges = `const edge = (cell) => {
+      const range = document.createRange();
+      range.selectNodeContents(cell);
+      const { left, right } = range.getBoundingClientRect();
+      return cell.classList.contains("number") ? right : left;
+    };
+    const heads = [...document.querySelector("#many-list .head").children].map(edge);
+    const rows = [...document.querySelectorAll("#many-list [data-row]")];
+    return heads.map((head, i) => {
+      const cells = rows.map((row) => row.children[i]).filter((it) => it.textContent);
+      return cells.length > 0 && cells.every((it) => Math.abs(edge(it) - head) < 2);
+    }).join()`;
+  hold("heads over their columns", Array(9).fill(true).join(), await page.in(edges));
+  const height = `const { bottom } = document.getElementById("many-list").getBoundingClientRect();
+    const { top } = document.querySelector("footer").getBoundingClientRect();
+    return [top - bottom < 40, bottom > innerHeight - 120, document.documentElement.scrollHeight <= innerHeight].join()`;
+  hold("the table fills the height", "true,true,true", await page.in(height));
+  await page.browser.size(390, 844);
+  hold("the table on a phone", true, await page.in("return document.documentElement.scrollWidth <= innerWidth"));
+  await page.browser.size(1280, 900);
+  await page.shows(() => page.in(`[...document.querySelectorAll("#many-list [data-row]")].at(-3).click()`));
+  const seen = `const { top, bottom } = document.querySelector("#many-list [aria-selected=true]").getBoundingClientRect();
+    const box = document.querySelector("#many-list .body").getBoundingClientRect();
+    return top >= box.top - 1 && bottom <= box.bottom + 1 && box.height < 300`;
+  hold("the file that was picked is seen in the table", true, await page.in(seen));
+}
+
+/** A folder as entries of which some can't be read: one that is gone, one whose name is no text, and a folder. */
+const DROP = `
+  const bytes = Uint8Array.from(values[0].match(/../g), (it) => parseInt(it, 16));
+  const gone = (done, fail) => fail(new DOMException("", "NotFoundError"));
+  const file = (name, get) => ({ name, isFile: true, isDirectory: false, file: get });
+  const folder = (name, inside) => ({
+    name, isFile: false, isDirectory: true,
+    createReader() {
+      const parts = [inside, []];
+      return { readEntries: (done, fail) => (inside ? done(parts.shift()) : gone(done, fail)) };
+    },
+  });
+  const good = (name) => file(name, (done) => done(new File([bytes], name)));
+  const lost = [file("lost", gone), folder("", [good("never")]), folder("shut", null), file("", gone)];
+  const box = folder("box", [good("b"), ...lost, good("a:b")]);
+  const event = new DragEvent("drop", { bubbles: true, cancelable: true });
+  const items = [{ kind: "file", webkitGetAsEntry: () => box }];
+  Object.defineProperty(event, "dataTransfer", { value: { items, files: [] } });
+  document.body.dispatchEvent(event);`;
+
+async function tryUnread(page, hold) {
+  await page.shows(() => page.in(DROP, LOAD));
+  const wanted =
+    "4 could not be read: box/lost, box/shut (no longer there); box/\ufffd, box/\ufffd (the name is no UTF-8 text).";
+  hold("what can't be read in a folder", wanted, await page.in(NOTE));
+  hold("and the rest", "box/a:b,box/b,box/lost,box/shut,box/\ufffd,box/\ufffd", await page.in(NAMES));
+  const lines = (await textOf(page, "save-csv")).split("\r\n");
+  hold("its line", "box/lost,,not judged,unread,,,,,,,Read,30", lines.find((it) => it.startsWith("box/lost")));
+  hold("that names may be left out", false, await page.in(PARTIAL));
+  const pick = `[...document.querySelectorAll("#many-list [data-row]")].find((it) => /lost/.test(it.textContent)).click()`;
+  await page.shows(() => page.in(pick));
+  hold("a file that can't be read", "1 could not be read: box/lost (no longer there).", await page.in(VERDICT));
+}
+
+/** A file for which the browser has no memory is told, and the one behind it is looked at. */
+async function tryNoMemory(page, hold) {
+  await page.open();
+  const drop = `
+    window.WebAssembly.Memory.prototype.grow = () => {
+      throw new RangeError("no room");
+    };
+    const transfer = new DataTransfer();
+    transfer.items.add(new File([new Uint8Array(1 << 25)], "large"));
+    transfer.items.add(new File([Uint8Array.from(values[0].match(/../g), (it) => parseInt(it, 16))], "small"));
+    document.body.dispatchEvent(new DragEvent("drop", { dataTransfer: transfer, bubbles: true, cancelable: true }));`;
+  await page.shows(() => page.in(drop, TEXT));
+  hold("a file without memory for it", "1 could not be read: large (no room).", await page.in(NOTE));
+  const wanted = "large,,not judged,unread,,,,,,,Read,30\r\nsmall,20,no hunk file,refused,other file,,,,,0,NotLoadFile,1\r\n";
+  hold("its line, and the next", wanted, (await textOf(page, "save-csv")).replace(/.*\r\n/, ""));
+}
+
+/** Files that are picked; one of them is deleted before it is read. */
+async function tryVanished(page, hold, work) {
+  const paths = ["stays", "goes"].map((name) => `${work}/${name}`);
+  const HELD = `addEventListener("change", (event) => event.stopImmediatePropagation(), { capture: true, once: true });`;
+  const release = `document.getElementById("pick").dispatchEvent(new Event("change", { bubbles: true }))`;
+  for (const some of [paths, paths.slice(1)]) {
+    for (const path of paths) writeFileSync(path, Buffer.from(LOAD, "hex"));
+    await page.open();
+    await page.in(HELD);
+    await page.browser.upload("#pick", some);
+    rmSync(paths[1]);
+    await page.shows(() => page.in(release));
+    const told = await page.in(some.length > 1 ? NOTE : VERDICT);
+    hold("a file that has vanished", true, /^1 could not be read: goes \((no longer there|changed since, or .*)\)\.$/.test(told));
+  }
+  const shown = `return document.querySelector(".columns").checkVisibility()`;
+  hold("what is shown of it", false, await page.in(shown));
+  await page.drop([["load", LOAD]]);
+  hold("a file after it", true, await page.in(shown));
+}
+
+/** A folder with such names on a disk, dropped on the page from there and from a server. */
+async function tryNames(page, hold, { work, pagePath }) {
+  const folder = `${work}/names`;
+  mkdirSync(`${folder}/sub`, { recursive: true });
+  for (const name of ["plain", "a:b", "sub/in:ner"]) writeFileSync(`${folder}/${name}`, Buffer.from(LOAD, "hex"));
+  const other = (name) => Buffer.concat([Buffer.from(`${folder}/no`), Buffer.from([0xff]), Buffer.from(name)]);
+  writeFileSync(other("text"), "");
+  mkdirSync(other("folder"));
+  writeFileSync(Buffer.concat([other("folder"), Buffer.from("/in")]), "");
+  const unread = "2 could not be read: names/\ufffd, names/\ufffd (the name is no UTF-8 text).";
+  const server = createServer((_, answer) => answer.setHeader("content-type", "text/html").end(readFileSync(pagePath)));
+  await new Promise((done) => server.listen(0, "127.0.0.1", done));
+  const from = { "a disk": undefined, "a server": `http://127.0.0.1:${server.address().port}/` };
+  for (const [name, url] of Object.entries(from)) {
+    await page.open("", url);
+    await page.shows(() => page.browser.dropPaths([folder]));
+    hold(`names that are no UTF-8, from ${name}`, unread, await page.in(NOTE));
+    const names = url ? "names/a:b,names/plain,names/sub/in:ner" : "names/plain";
+    hold(`the names, from ${name}`, `${names},names/\ufffd,names/\ufffd`, await page.in(NAMES));
+    hold(`that names may be left out, from ${name}`, !url, await page.in(PARTIAL));
+  }
+  server.closeAllConnections();
+  server.close();
+}
+
+async function tryBase(page, hold) {
+  const field = `const field = document.getElementById("base");
+    return [field.getAttribute("aria-invalid"), document.getElementById(field.getAttribute("aria-describedby")).textContent,
+      document.querySelector("#memory-hex .at").textContent].join()`;
+  const wrong = "true,No address of up to 8 hexadecimal digits.";
+  await page.drop([["load", LOAD]]);
+  await type(page, "#base", "00022000", "change");
+  hold("another address", ",,00022000", await page.in(field));
+  for (const text of ["zz", "", "123456789", "-1", "0x"]) {
+    await type(page, "#base", text, "change");
+    hold(`the address "${text}"`, `${wrong},00022000`, await page.in(field));
+  }
+  await type(page, "#base", "2300", "input");
+  hold("an address that is typed after it", ",,00022000", await page.in(field));
+  for (const text of ["$23000", "0x23000", " 23000 "]) {
+    await type(page, "#base", text, "change");
+    hold(`the address "${text}"`, ",,00023000", await page.in(field));
+  }
+  await page.open(`#hex=${LOAD}&base=none`);
+  hold("a link with no address", `${wrong},00021000`, await page.in(field));
+}
+
+const BOTH = "00000004,0000000c";
+/** What is typed above a list, and what is left of it: the column that tells the rows apart. */
+const FOUND = {
+  symbols: [3, { "": "main,add_one.,tabl", ADD: "add_one.", 8: "add_one.", "0x21014": "tabl", $4: "tabl", 21000: "main", z: "" }],
+  relocations: [2, { "": BOTH, c: "0000000c", "0x4": "00000004", "2100c": "0000000c", RELOC32: BOTH, 8: "" }],
+};
+
+async function tryFilters(page, hold) {
+  await page.drop([["load", LOAD]]);
+  const left = `return [...document.querySelectorAll("#list-panel [data-row]")]
+    .map((it) => it.children[values[0]].textContent).join()`;
+  for (const [list, [column, wanted]] of Object.entries(FOUND)) {
+    await page.in(`document.getElementById("tab-${list}").click()`);
+    for (const [text, names] of Object.entries(wanted)) {
+      await type(page, "#list-panel input", text);
+      hold(`${list} with "${text}"`, names, await page.in(left, column));
+    }
+  }
+  await page.in(`document.getElementById("tab-symbols").click()`);
+  await type(page, "#list-panel input", "tab");
+  await type(page, "#base", "30000", "change");
+  hold("the filter, from another address", "tabl", await page.in(left, 3));
+  await page.in(`document.querySelector("#list-panel [data-row]").click()`);
+  const at = `return document.querySelector("#file-hex .picked").closest(".line").querySelector(".at").textContent`;
+  hold("the place of a symbol that is found", "00000090", await page.in(at));
+}
+
+/** Has the browser copy into a text, or refuse to, and presses the button. */
+const COPY = `
+  let copied = "nothing";
+  const writeText = async (text) => {
+    if (values[0]) throw new DOMException("", "NotAllowedError");
+    copied = text;
+  };
+  Object.defineProperty(navigator, "clipboard", { value: { writeText }, configurable: true });
+  document.getElementById("copy-link").click();
+  await new Promise((done) => setTimeout(done, 50));
+  const field = document.getElementById("link");
+  return [copied, document.getElementById("copied").textContent, field.checkVisibility() ? field.value : ""];`;
+
+async function tryLink(page, hold) {
+  const here = await page.in("return location.href.replace(/#.*/, '')");
+  await page.open("#example=two-hunks&base=00021000");
+  await type(page, "#base", "30000", "change");
+  hold("an address with another base", "#example=two-hunks&base=00030000", await page.in("return location.hash"));
+  hold("the link of an example", `${here}#example=two-hunks&base=00030000,Copied.,`, (await page.in(COPY, false)).join());
+  await page.drop([["load", LOAD]]);
+  hold("the address of a file", here, await page.in("return location.href"));
+  const link = `${here}#hex=${LOAD}&base=00030000`;
+  hold("its link", `${link},Copied. The file itself is in the link.,`, (await page.in(COPY, false)).join());
+  const refused = await page.in(COPY, true);
+  hold("a link that can't be copied", `nothing,This browser lets nothing be copied. The link is here:,${link}`, refused.join());
+  await page.drop([["text", TEXT], ["load", LOAD]]);
+  hold("the address of many files", here, await page.in("return location.href"));
+  await page.drop([["large", LOAD + "00".repeat(4097 - LOAD.length / 2)]]);
+  hold("the link of 4,097 bytes", "nothing,A link takes a file of 4,096 bytes at most.,", (await page.in(COPY, false)).join());
+  await page.open(link.slice(here.length));
+  hold("a link that is opened", "A load file: 2 hunks, 24 bytes in memory.", await page.in(VERDICT));
+  hold("its address", link, await page.in("return location.href"));
+}
+
+/** `paths`: the folder `work` for files, and the page, `pagePath`. */
+export async function tryMany(page, hold, paths) {
+  await page.open();
+  await tryTable(page, hold);
+  await tryTones(page, hold);
+  await tryLayout(page, hold);
+  await tryUnread(page, hold);
+  await tryNoMemory(page, hold);
+  await tryVanished(page, hold, paths.work);
+  // Firefox lets no test drop a folder.
+  if (page.browser.name === "Chromium") await tryNames(page, hold, paths);
+  await page.open();
+  await tryBase(page, hold);
+  await tryFilters(page, hold);
+  await tryLink(page, hold);
+}
