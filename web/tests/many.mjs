@@ -10,7 +10,7 @@ const longs = (text) =>
 /** 164 bytes: 16 of code at 21000 with two relocated longs, at 4 and c, and 8 of data; 3 symbols, the last at byte 90. */
 const LOAD = longs(
   "3f3 0 2 0 1 4 2 3e9 4 4e714e71 4 4e714e71 0 3ec 1 1 4 1 0 c 0 3f0 1 'main 0 2 'add_ 'one. 8 0 3f2 " +
-    "3ea 2 1 2 3f0 1 'tabl 4 0 3f2",
+    "3ea 2 1 2 3f0 1 'Tabl 4 0 3f2",
 );
 /** The second relocation is at 10, where the hunk has ended: that longword is at byte 76. */
 const DAMAGED = LOAD.replace(longs("1 0 c 0"), longs("1 0 10 0"));
@@ -20,12 +20,12 @@ const FINDINGS = longs("3e7 0 3e9 1 0 3ec 2 0 1 2 0 3f2");
 const SHORT = longs("3f3 0 1 0 0 1 3e9 1 0 3fc 10000 0");
 const TEXT = Buffer.from("no hunk file at all\n").toString("hex");
 const FILES = Object.entries({
-  load: LOAD, 'b, "two"': LOAD, object: OBJECT, found: FINDINGS, short: SHORT, text: TEXT, bad: DAMAGED,
+  load: LOAD, 'b, "Two"': LOAD, object: OBJECT, found: FINDINGS, short: SHORT, text: TEXT, bad: DAMAGED,
 });
 
 const CSV = `file,bytes,class,answer,kind,hunks,memory,units,findings,place,reason,number
 load,164,load,accepted,load file,2,24,,,,,
-"b, ""two""",164,load,accepted,load file,2,24,,,,,
+"b, ""Two""",164,load,accepted,load file,2,24,,,,,
 object,28,object,accepted,object file,,,1,0,,,
 found,48,findings,accepted,object file,,,1,2,,,
 short,48,wide,refused,load file,,,,,36,ShortReloc,13
@@ -56,20 +56,20 @@ async function tryTable(page, hold) {
     .map((it) => it.textContent).join()`;
   hold("the classes", "7 all,2 load,1 object,1 findings,1 wide,1 no hunk file,1 damaged", await page.in(buttons));
   await page.in(`document.querySelector("#many-classes [name=load]").click()`);
-  hold("the files of a class", 'load,b, "two"', await page.in(NAMES));
-  await type(page, "#many-filter", "TWO");
-  hold("those with a text in the name", 'b, "two"', await page.in(NAMES));
+  hold("the files of a class", 'load,b, "Two"', await page.in(NAMES));
+  await type(page, "#many-filter", "tWO");
+  hold("those with a text in the name, in capitals or not", 'b, "Two"', await page.in(NAMES));
   const saved = CSV.split("\r\n");
   hold("those, saved", [saved[0], saved[2], ""].join("\r\n"), await textOf(page, "save-csv"));
   hold("how many those are", "1 of 7 files", await page.in(`return document.getElementById("many-summary").textContent`));
   await page.in(`document.querySelector("#many-classes [name='']").click()`);
   await type(page, "#many-filter", "");
-  const sort = `document.querySelectorAll("#many-list [role=columnheader]")[3].click();`;
-  // Those that have no hunks come last, upwards and downwards.
-  hold("sorted by hunks", 'load,b, "two",object,found,short,text,bad', await page.in(sort + NAMES));
-  hold("and downwards", 'load,b, "two",object,found,short,text,bad', await page.in(sort + NAMES));
+  const sort = `document.querySelectorAll("#many-list [role=columnheader]")[6].click();`;
+  // Those in which no findings are counted come last, upwards and downwards.
+  hold("sorted by findings", 'object,found,load,b, "Two",short,text,bad', await page.in(sort + NAMES));
+  hold("and downwards", 'found,object,load,b, "Two",short,text,bad', await page.in(sort + NAMES));
   await page.in(`document.querySelectorAll("#many-list [role=columnheader]")[1].click()`);
-  hold("sorted by bytes", 'text,object,found,short,load,b, "two",bad', await page.in(NAMES));
+  hold("sorted by bytes", 'text,object,found,short,load,b, "Two",bad', await page.in(NAMES));
 }
 
 /** Each class has its colour, and what is no hunk file, or has findings, is told neither in green nor in red. */
@@ -215,29 +215,30 @@ async function tryNames(page, hold, { work, pagePath }) {
 async function tryBase(page, hold) {
   const field = `const field = document.getElementById("base");
     return [field.getAttribute("aria-invalid"), document.getElementById(field.getAttribute("aria-describedby")).textContent,
-      document.querySelector("#memory-hex .at").textContent].join()`;
+      document.querySelector("#memory-hex .at").textContent,
+      document.querySelector("#list-panel [data-row]").children[3].textContent].join()`;
   const wrong = "true,No address of up to 8 hexadecimal digits.";
   await page.drop([["load", LOAD]]);
   await type(page, "#base", "00022000", "change");
-  hold("another address", ",,00022000", await page.in(field));
+  hold("another address", ",,00022000,00022000", await page.in(field));
   for (const text of ["zz", "", "123456789", "-1", "0x"]) {
     await type(page, "#base", text, "change");
-    hold(`the address "${text}"`, `${wrong},00022000`, await page.in(field));
+    hold(`the address "${text}"`, `${wrong},00022000,00022000`, await page.in(field));
   }
   await type(page, "#base", "2300", "input");
-  hold("an address that is typed after it", ",,00022000", await page.in(field));
+  hold("an address that is typed after it", ",,00022000,00022000", await page.in(field));
   for (const text of ["$23000", "0x23000", " 23000 "]) {
     await type(page, "#base", text, "change");
-    hold(`the address "${text}"`, ",,00023000", await page.in(field));
+    hold(`the address "${text}"`, ",,00023000,00023000", await page.in(field));
   }
   await page.open(`#hex=${LOAD}&base=none`);
-  hold("a link with no address", `${wrong},00021000`, await page.in(field));
+  hold("a link with no address", `${wrong},00021000,00021000`, await page.in(field));
 }
 
 const BOTH = "00000004,0000000c";
 /** What is typed above a list, and what is left of it: the column that tells the rows apart. */
 const FOUND = {
-  symbols: [3, { "": "main,add_one.,tabl", ADD: "add_one.", 8: "add_one.", "0x21014": "tabl", $4: "tabl", 21000: "main", z: "" }],
+  symbols: [3, { "": "main,add_one.,Tabl", ADD: "add_one.", 8: "add_one.", "0x21014": "Tabl", $4: "Tabl", 21000: "main", z: "" }],
   relocations: [2, { "": BOTH, c: "0000000c", "0x4": "00000004", "2100c": "0000000c", RELOC32: BOTH, 8: "" }],
 };
 
@@ -255,7 +256,7 @@ async function tryFilters(page, hold) {
   await page.in(`document.getElementById("tab-symbols").click()`);
   await type(page, "#list-panel input", "tab");
   await type(page, "#base", "30000", "change");
-  hold("the filter, from another address", "tabl", await page.in(left, 3));
+  hold("the filter, from another address", "Tabl", await page.in(left, 3));
   await page.in(`document.querySelector("#list-panel [data-row]").click()`);
   const at = `return document.querySelector("#file-hex .picked").closest(".line").querySelector(".at").textContent`;
   hold("the place of a symbol that is found", "00000090", await page.in(at));
@@ -284,6 +285,8 @@ async function tryLink(page, hold) {
   hold("the address of a file", here, await page.in("return location.href"));
   const link = `${here}#hex=${LOAD}&base=00030000`;
   hold("its link", `${link},Copied. The file itself is in the link.,`, (await page.in(COPY, false)).join());
+  await page.drop([["load", LOAD]]);
+  hold("what is said of it, of the next file", "", await page.in(`return document.getElementById("copied").textContent`));
   const refused = await page.in(COPY, true);
   hold("a link that can't be copied", `nothing,This browser lets nothing be copied. The link is here:,${link}`, refused.join());
   await page.drop([["text", TEXT], ["load", LOAD]]);
