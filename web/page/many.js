@@ -9,7 +9,7 @@ import { toneOf } from "./reasons.js";
 const COLUMNS = [
   ["file", "file", "minmax(12em, 3fr)"],
   ["bytes", "bytes", "6em", true],
-  ["class", "class", "7em"],
+  ["class", "class", "8em"],
   ["hunks", "hunks", "4em", true],
   ["memory", "in memory", "7em", true],
   ["units", "units", "4em", true],

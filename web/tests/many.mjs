@@ -18,9 +18,10 @@ const OBJECT = longs("3e7 1 'unit 3e9 1 0 3f2");
 /** Two offsets, 1 and 2, in 4 bytes. */
 const FINDINGS = longs("3e7 0 3e9 1 0 3ec 2 0 1 2 0 3f2");
 const SHORT = longs("3f3 0 1 0 0 1 3e9 1 0 3fc 10000 0");
+const OVERLAY = longs("3f3 0 1 0 0 1 3e9 1 0 3f5");
 const TEXT = Buffer.from("no hunk file at all\n").toString("hex");
 const FILES = Object.entries({
-  load: LOAD, 'b, "Two"': LOAD, object: OBJECT, found: FINDINGS, short: SHORT, text: TEXT, bad: DAMAGED,
+  load: LOAD, 'b, "Two"': LOAD, object: OBJECT, found: FINDINGS, short: SHORT, text: TEXT, bad: DAMAGED, over: OVERLAY,
 });
 
 const CSV = `file,bytes,class,answer,kind,hunks,memory,units,findings,place,reason,number
@@ -31,6 +32,7 @@ found,48,findings,accepted,object file,,,1,2,,,
 short,48,wide,refused,load file,,,,,36,ShortReloc,13
 text,20,no hunk file,refused,other file,,,,,0,NotLoadFile,1
 bad,164,damaged,refused,load file,,,,,76,BadOffset,24
+over,40,not supported,refused,load file,,,,,36,Overlay,11
 `.replaceAll("\n", "\r\n");
 
 const NAMES = `return [...document.querySelectorAll("#many-list [data-row] > :first-child")].map((it) => it.textContent).join()`;
@@ -54,22 +56,22 @@ async function tryTable(page, hold) {
   hold("the table, saved", CSV, await textOf(page, "save-csv"));
   const buttons = `return [...document.querySelectorAll("#many-classes button")].filter((it) => it.checkVisibility())
     .map((it) => it.textContent).join()`;
-  hold("the classes", "7 all,2 load,1 object,1 findings,1 wide,1 no hunk file,1 damaged", await page.in(buttons));
+  hold("the classes", "8 all,2 load,1 object,1 findings,1 wide,1 no hunk file,1 not supported,1 damaged", await page.in(buttons));
   await page.in(`document.querySelector("#many-classes [name=load]").click()`);
   hold("the files of a class", 'load,b, "Two"', await page.in(NAMES));
   await type(page, "#many-filter", "tWO");
   hold("those with a text in the name, in capitals or not", 'b, "Two"', await page.in(NAMES));
   const saved = CSV.split("\r\n");
   hold("those, saved", [saved[0], saved[2], ""].join("\r\n"), await textOf(page, "save-csv"));
-  hold("how many those are", "1 of 7 files", await page.in(`return document.getElementById("many-summary").textContent`));
+  hold("how many those are", "1 of 8 files", await page.in(`return document.getElementById("many-summary").textContent`));
   await page.in(`document.querySelector("#many-classes [name='']").click()`);
   await type(page, "#many-filter", "");
   const sort = `document.querySelectorAll("#many-list [role=columnheader]")[6].click();`;
   // Those in which no findings are counted come last, upwards and downwards.
-  hold("sorted by findings", 'object,found,load,b, "Two",short,text,bad', await page.in(sort + NAMES));
-  hold("and downwards", 'found,object,load,b, "Two",short,text,bad', await page.in(sort + NAMES));
+  hold("sorted by findings", 'object,found,load,b, "Two",short,text,bad,over', await page.in(sort + NAMES));
+  hold("and downwards", 'found,object,load,b, "Two",short,text,bad,over', await page.in(sort + NAMES));
   await page.in(`document.querySelectorAll("#many-list [role=columnheader]")[1].click()`);
-  hold("sorted by bytes", 'text,object,found,short,load,b, "Two",bad', await page.in(NAMES));
+  hold("sorted by bytes", 'text,object,over,found,short,load,b, "Two",bad', await page.in(NAMES));
 }
 
 /** Each class has its colour, and what is no hunk file, or has findings, is told neither in green nor in red. */
@@ -101,6 +103,9 @@ async function tryLayout(page, hold) {
       return cells.length > 0 && cells.every((it) => Math.abs(edge(it) - head) < 2);
     }).join()`;
   hold("heads over their columns", Array(9).fill(true).join(), await page.in(edges));
+  const cut = `return [...document.querySelectorAll("#many-list [data-row] > *")]
+    .filter((it) => it.scrollWidth > it.clientWidth).length`;
+  hold("texts that are cut", 0, await page.in(cut));
   const height = `const { bottom } = document.getElementById("many-list").getBoundingClientRect();
     const { top } = document.querySelector("footer").getBoundingClientRect();
     return [top - bottom < 40, bottom > innerHeight - 120, document.documentElement.scrollHeight <= innerHeight].join()`;
@@ -113,6 +118,17 @@ async function tryLayout(page, hold) {
     const box = document.querySelector("#many-list .body").getBoundingClientRect();
     return top >= box.top - 1 && bottom <= box.bottom + 1 && box.height < 300`;
   hold("the file that was picked is seen in the table", true, await page.in(seen));
+}
+
+/** A name that is too long for its column is told whole under the pointer, and one that is not is not. */
+async function tryTitles(page, hold) {
+  const long = "a name of a file ".repeat(12);
+  await page.drop([[long, LOAD], ["short", LOAD]]);
+  const titles = `return [...document.querySelectorAll("#many-list [data-row] > :first-child")].map((it) => {
+    it.dispatchEvent(new PointerEvent("pointerover", { bubbles: true }));
+    return it.title;
+  }).join()`;
+  hold("the titles of names", `${long},`, await page.in(titles));
 }
 
 /** A folder as entries of which some can't be read: one that is gone, one whose name is no text, and a folder. */
@@ -304,6 +320,7 @@ export async function tryMany(page, hold, paths) {
   await tryTable(page, hold);
   await tryTones(page, hold);
   await tryLayout(page, hold);
+  await tryTitles(page, hold);
   await tryUnread(page, hold);
   await tryNoMemory(page, hold);
   await tryVanished(page, hold, paths.work);
