@@ -50,7 +50,7 @@ export async function copyLink(link, field, told) {
   }
 }
 
-export const toHex = (bytes) => Array.from(bytes, (byte) => byte.toString(16).padStart(2, "0")).join("");
+const toHex = (bytes) => Array.from(bytes, (byte) => byte.toString(16).padStart(2, "0")).join("");
 
 /** The bytes of digits, in any grouping; what is no digit is passed over. */
 export function fromHex(text) {

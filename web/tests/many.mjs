@@ -203,7 +203,7 @@ async function tryVanished(page, hold, work) {
   hold("a file after it", true, await page.in(shown));
 }
 
-/** A folder with such names on a disk, dropped on the page from there and from a server. */
+/** A folder with such names on a disk, dropped on the page from there and from a server, and chosen there. */
 async function tryNames(page, hold, { work, pagePath }) {
   const folder = `${work}/names`;
   mkdirSync(`${folder}/sub`, { recursive: true });
@@ -223,6 +223,9 @@ async function tryNames(page, hold, { work, pagePath }) {
     const names = url ? "names/a:b,names/plain,names/sub/in:ner" : "names/plain";
     hold(`the names, from ${name}`, `${names},names/\ufffd,names/\ufffd`, await page.in(NAMES));
     hold(`that names may be left out, from ${name}`, !url, await page.in(PARTIAL));
+    await page.shows(() => page.browser.upload("#pick-folder", [folder]));
+    hold(`the names where it is chosen, from ${name}`, "names/a:b,names/plain,names/sub/in:ner", await page.in(NAMES));
+    hold(`that names may be left out of it, from ${name}`, false, await page.in(PARTIAL));
   }
   server.closeAllConnections();
   server.close();
