@@ -255,16 +255,16 @@ async function tryBase(page, hold) {
 }
 
 const BOTH = "00000004,0000000c";
-/** What is typed above a list, and what is left of it: the column that tells the rows apart. */
+/** What is typed above a list, and what is left of it: the column that tells the rows apart, the last of symbols. */
 const FOUND = {
-  symbols: [3, { "": "main,add_one.,Tabl", ADD: "add_one.", 8: "add_one.", "0x21014": "Tabl", $4: "Tabl", 21000: "main", z: "" }],
+  symbols: [-1, { "": "main,add_one.,Tabl", ADD: "add_one.", 8: "add_one.", "0x21014": "Tabl", $4: "Tabl", 21000: "main", z: "" }],
   relocations: [2, { "": BOTH, c: "0000000c", "0x4": "00000004", "2100c": "0000000c", RELOC32: BOTH, 8: "" }],
 };
 
 async function tryFilters(page, hold) {
   await page.drop([["load", LOAD]]);
   const left = `return [...document.querySelectorAll("#list-panel [data-row]")]
-    .map((it) => it.children[values[0]].textContent).join()`;
+    .map((it) => [...it.children].at(values[0]).textContent).join()`;
   for (const [list, [column, wanted]] of Object.entries(FOUND)) {
     await page.in(`document.getElementById("tab-${list}").click()`);
     for (const [text, names] of Object.entries(wanted)) {
@@ -275,7 +275,7 @@ async function tryFilters(page, hold) {
   await page.in(`document.getElementById("tab-symbols").click()`);
   await type(page, "#list-panel input", "tab");
   await type(page, "#base", "30000", "change");
-  hold("the filter, from another address", "Tabl", await page.in(left, 3));
+  hold("the filter, from another address", "Tabl", await page.in(left, -1));
   await page.in(`document.querySelector("#list-panel [data-row]").click()`);
   const at = `return document.querySelector("#file-hex .picked").closest(".line").querySelector(".at").textContent`;
   hold("the place of a symbol that is found", "00000090", await page.in(at));
