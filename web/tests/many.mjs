@@ -108,7 +108,7 @@ async function tryLayout(page, hold) {
   hold("texts that are cut", 0, await page.in(cut));
   const height = `const { bottom } = document.getElementById("many-list").getBoundingClientRect();
     const { top } = document.querySelector("footer").getBoundingClientRect();
-    return [top - bottom < 40, bottom > innerHeight - 120, document.documentElement.scrollHeight <= innerHeight].join()`;
+    return [top - bottom < 80, bottom > innerHeight - 120, document.documentElement.scrollHeight <= innerHeight].join()`;
   hold("the table fills the height", "true,true,true", await page.in(height));
   await page.browser.size(390, 844);
   hold("the table on a phone", true, await page.in("return document.documentElement.scrollWidth <= innerWidth"));
