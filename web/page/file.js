@@ -1,6 +1,9 @@
 // What the library says of a file.
 
 import { HunkError } from "../../bindings/javascript/hunk.js";
+import { Contents } from "./contents.js";
+import { Labels } from "./labels.js";
+import { Parts } from "./parts.js";
 
 /** The most bytes of memory, blocks and other items that are shown of a file. */
 const MOST_MEMORY = 1 << 28;
@@ -10,6 +13,10 @@ const MOST_ITEMS = 1 << 21;
 const OBJECT = 0x3e7;
 const LOAD = 0x3f3;
 const BUDGET = 27;
+
+/** Where the first size word of a header stands, and the kind of memory that has attributes. */
+const SIZES = 20;
+const ATTRIBUTES = 3;
 
 /** What a load file may be refused for that is good in its plain spelling: ShortReloc, SecondContent and Truncated. */
 const OF_SPELLING = [13, 17, 26];
@@ -71,7 +78,8 @@ export class Examined {
     if (this.about.hunks > 0) this.#readTable();
     const { rows, count } = this.list("blocks");
     this.blocks = rows;
-    this.hasBlocks = rows.length === count;
+    const units = this.table ? null : this.list("units");
+    this.hasBlocks = rows.length === count && units?.rows.length === units?.count;
     this.blockPlaces = Float64Array.from({ length: rows.length }, (_, i) => rows.get(i, "place"));
   }
 
@@ -113,6 +121,36 @@ export class Examined {
     const targets = Uint16Array.from(both, (it) => it % 65536);
     this.relocatedLongs = { places, targets };
     return this.relocatedLongs;
+  }
+
+  /** Where the contents of its hunks stand. */
+  contents() {
+    this.hunkContents ??= new Contents(this);
+    return this.hunkContents;
+  }
+
+  /** The symbols of a load file by where they stand in its memory. */
+  labels() {
+    this.symbolLabels ??= new Labels(this);
+    return this.symbolLabels;
+  }
+
+  /** Where the size word of each hunk of a load file stands: behind one whose memory has attributes these follow. */
+  sizePlaces() {
+    if (this.sizes) return this.sizes;
+    const { rows } = this.table;
+    this.sizes = new Float64Array(rows.length);
+    for (let i = 0, at = SIZES; i < rows.length; i++) {
+      this.sizes[i] = at;
+      at += rows.get(i, "memory") === ATTRIBUTES ? 8 : 4;
+    }
+    return this.sizes;
+  }
+
+  /** The parts of a block; those of the last one are kept. */
+  partsOf(block) {
+    if (this.parts?.place !== block.place) this.parts = new Parts(this.bytes, block);
+    return this.parts;
   }
 
   /** How many relocations each hunk of a load file has. */

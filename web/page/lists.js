@@ -15,7 +15,7 @@ function hunkRows(file) {
   return {
     columns: [["hunk", "4em", true], ["bytes", "6em", true], ["memory", "minmax(5em, 1fr)"], ["base", "5.6em"], ["relocated", "5em", true]],
     count: file.starts.length,
-    item: (i) => ({ memory: file.starts[i] }),
+    item: (i) => file.contents().target(i),
     cells(i) {
       const row = file.table.rows.at(i);
       const base = hex((file.base + file.starts[i]) >>> 0);
@@ -59,13 +59,16 @@ function unitRows(file) {
 
 function symbolRows(file) {
   const { rows } = file.list("symbols");
+  const name = ["name", "minmax(9em, 1fr)"];
+  const isLoad = Boolean(file.table);
   return {
-    columns: [["at", "5.6em"], ["hunk", "3em", true], ["value", "5.6em"], ["name", "minmax(9em, 1fr)"]],
+    columns: [["at", "5.6em"], ["hunk", "3em", true], ["value", "5.6em"], ...(isLoad ? [["address", "5.6em"]] : []), name],
     count: rows.length,
     item: (i) => ({ ...rows.at(i), bytes: 4, offset: rows.get(i, "value") }),
     cells(i) {
       const row = rows.at(i);
-      return [hex(row.place), whereOf(file, row), hex(row.value), shown(nameOf(file.bytes, row))];
+      const address = isLoad ? [hex((file.base + file.starts[row.hunk] + row.value) >>> 0)] : [];
+      return [hex(row.place), whereOf(file, row), hex(row.value), ...address, shown(nameOf(file.bytes, row))];
     },
   };
 }

@@ -5,29 +5,34 @@ import { BaseField } from "./base.js";
 import { droppedFiles, pickedFiles } from "./dropped.js";
 import { Examined } from "./file.js";
 import { HexView } from "./hexview.js";
+import { ItemLine } from "./itemline.js";
 import { copyLink, forgetLink, fromHex, linkOf, moveLink, readLink } from "./link.js";
 import { Lists } from "./lists.js";
 import { Many } from "./many.js";
-import { blockColour, blockName, counted, hex, hunkColour, lastAt, whenSchemeChanges } from "./names.js";
+import { HunkMap, mapLegend, mapScene } from "./map.js";
+import { counted, hex, whenSchemeChanges } from "./names.js";
 import { FIRST, Opening, entitle } from "./opening.js";
 import { unpacked } from "./packed.js";
-import { drawFile, drawMemory } from "./pictures.js";
+import { Picture } from "./picture.js";
+import { fileLegend, fileScene, memoryScene } from "./pictures.js";
 import { bytesOf, PARTIAL, unreadText } from "./reading.js";
 import { classOf, toneOf, whyText } from "./reasons.js";
+import { sourceOfFile, sourceOfMemory } from "./sources.js";
 import { MODULES } from "./data.js";
 
 const $ = (id) => document.getElementById(id);
-const RELOCATED = 4;
 
 let hunk;
 let file = null;
 let memory = null;
 let example = null;
-let picked = null;
 let shows = 0;
 
-const memoryView = new HexView($("memory-hex"), "Memory, as hexadecimal digits");
-const fileView = new HexView($("file-hex"), "File, as hexadecimal digits");
+const memoryView = new HexView($("memory-hex"), "Memory, as hexadecimal digits", new ItemLine($("memory-item"), jump));
+const fileView = new HexView($("file-hex"), "File, as hexadecimal digits", new ItemLine($("file-item"), jump));
+const mapPicture = new Picture($("map-picture"), "The hunks, and which base is added in which");
+const memoryPicture = new Picture($("memory-picture"), "The memory, by hunks");
+const filePicture = new Picture($("file-picture"), "The file, by blocks");
 const lists = new Lists($("lists"), pick);
 const opening = new Opening(document.querySelectorAll("#examples a"), $("example"));
 const many = new Many($("many"), openFile);
@@ -72,56 +77,35 @@ function showVerdict() {
 
 // ---- The file.
 
-const isIn = (at, range) => range !== null && at >= range.from && at < range.to;
-
-// A mark is asked for later, too, when another file may be shown: so both keep the file that they are of.
-function markOfFile(file, findings) {
-  const { about } = file;
-  return (at) => {
-    if (about.refusal) return isIn(at, picked) ? { tone: "refused", title: "refused here" } : null;
-    const finding = lastAt(findings, at);
-    const tone = isIn(at, picked) ? "picked" : "";
-    if (finding >= 0 && at < findings[finding] + 4) return { tone: `finding ${tone}`, title: "a finding" };
-    if (at >= about.length) return { tone: "after", title: "after the file" };
-    const block = lastAt(file.blockPlaces, at);
-    const kind = block < 0 || at >= file.blocks.get(block, "place") + file.blocks.get(block, "bytes")
-      ? null : file.blocks.get(block, "kind");
-    const title = kind === null ? "header" : `${blockName(kind)}, hunk ${file.blocks.get(block, "hunk")}`;
-    return { colour: blockColour(kind), tone, title };
-  };
-}
+const chip = ([colour, text]) => `<span><i style="background:${colour}"></i>${text}</span>`;
+const legendOf = (colours) => colours.map(chip).join("");
 
 function showFile() {
   const { about, bytes } = file;
   const { refusal } = about;
-  picked = refusal ? { from: refusal.place, to: refusal.place + 4 } : null;
-  const findings = refusal ? [] : file.findingPlaces();
   const length = refusal ? Math.max(bytes.length, refusal.place + 4) : bytes.length;
-  fileView.show(bytes, 0, length, markOfFile(file, findings));
-  if (refusal) fileView.go(refusal.place);
-  $("file-picture").hidden = Boolean(refusal) || !file.hasBlocks;
-  $("legend").hidden = $("file-picture").hidden;
-  if ($("file-picture").hidden) return;
-  drawFile($("file-picture"), file);
-  $("legend").innerHTML = file
-    .kinds()
-    .map((kind) => `<span><i style="background:${blockColour(kind, 68)}"></i>${blockName(kind)}</span>`)
-    .join("");
+  fileView.show(bytes, 0, length, sourceOfFile(file));
+  if (refusal) fileView.pick(refusal.place, refusal.place + 4);
+  const isDrawn = !refusal && file.hasBlocks;
+  filePicture.show(isDrawn ? fileScene(file, (at) => jump({ place: at })) : null);
+  $("file-legend").innerHTML = isDrawn ? legendOf(fileLegend(file)) : "";
+}
+
+/** The map of the hunks, where the blocks are listed. */
+function showMap() {
+  const began = performance.now();
+  const isDrawn = !file.about.refusal && file.hasBlocks && file.contents().count > 0;
+  $("hunks").hidden = !isDrawn;
+  if (!isDrawn) return;
+  const map = new HunkMap(file);
+  const shown = file;
+  mapPicture.show(mapScene(map, $("map-picture"), (number) => jump(shown.contents().target(number))));
+  $("map-legend").innerHTML = legendOf(mapLegend(map));
+  $("map-arcs").hidden = map.arcs.length === 0;
+  performance.measure("the map of hunks", { start: began });
 }
 
 // ---- The memory.
-
-function markOfMemory(file) {
-  const { places, targets } = file.relocated();
-  return (at) => {
-    const long = lastAt(places, at);
-    if (long >= 0 && at < places[long] + RELOCATED) {
-      return { colour: hunkColour(targets[long], 70), tone: "relocated", title: `the base of hunk ${targets[long]} is added` };
-    }
-    const number = lastAt(file.starts, at);
-    return { colour: hunkColour(number, 92), title: `hunk ${number}` };
-  };
-}
 
 function noMemory(error) {
   if (file.isTooLarge) return "It declares more memory than this page shows.";
@@ -136,21 +120,22 @@ function showMemory() {
   const [loaded, error] = file.isTooLarge ? [null, null] : file.load(file.base);
   memory = loaded;
   $("memory-note").textContent = memory ? "" : noMemory(error);
-  for (const id of ["memory-picture", "memory-hex", "save-memory"]) $(id).hidden = !memory;
-  if (!memory) return;
-  memoryView.show(memory, file.base, memory.length, markOfMemory(file));
-  drawMemory($("memory-picture"), file, memory);
+  for (const id of ["memory-legend", "memory-hex", "memory-item", "save-memory"]) $(id).hidden = !memory;
+  memoryPicture.show(memory ? memoryScene(file, memory, (at) => jump({ memory: at })) : null);
+  if (memory) memoryView.show(memory, file.base, memory.length, sourceOfMemory(file, memory));
+}
+
+/** Shows a byte of the file, one of the memory, or both. */
+function jump({ place, bytes = 4, memory: at }) {
+  if (place !== undefined) fileView.pick(place, place + bytes);
+  if (memory && at !== undefined) memoryView.pick(at, at + 4);
 }
 
 /** Shows an item of a list where it stands. */
 function pick(item) {
-  if (item.place !== undefined) {
-    picked = { from: item.place, to: item.place + item.bytes };
-    fileView.go(item.place);
-  }
-  if (!memory) return;
-  if (item.memory !== undefined && item.place === undefined) memoryView.go(item.memory);
-  else if (item.offset !== undefined) memoryView.go(file.starts[item.hunk] + item.offset);
+  const { place, bytes, hunk, offset } = item;
+  const isInside = file.table && offset < file.table.rows.get(hunk, "bytes");
+  jump({ place, bytes, memory: isInside ? file.starts[hunk] + offset : item.memory });
 }
 
 // ---- What is shown.
@@ -164,7 +149,7 @@ function show(bytes, name) {
   try {
     showWhole(bytes, name);
   } catch (error) {
-    closeFile(name, `${name} can't be shown here: ${error.message}`);
+    closeFile(`${name} can't be shown here: ${error.message}`);
     throw error;
   }
 }
@@ -176,10 +161,11 @@ function showWhole(bytes, name) {
   document.body.classList.add("has-file");
   opening.mark(example);
   entitle(name);
+  $("lists").hidden = Boolean(file.about.refusal);
   showVerdict();
   showFile();
   showMemory();
-  $("lists").hidden = Boolean(file.about.refusal);
+  showMap();
   if (!file.about.refusal) lists.show(file);
   $("save-stripped").hidden = Boolean(file.about.refusal);
   $("saved").textContent = "";
@@ -195,14 +181,13 @@ function rebase() {
   if (!file) return;
   file.base = base.address;
   showMemory();
+  fileView.retell();
   lists.refresh();
   tellShown();
 }
 
 /** Shows no file any more, and says why. */
-function closeFile(title, text) {
-  opening.mark(null);
-  entitle(title);
+function closeFile(text) {
   file = null;
   memory = null;
   document.body.classList.remove("has-file");
@@ -219,7 +204,9 @@ async function openFile(found) {
     show(bytes, found.name);
     return;
   }
-  closeFile(found.name, unreadText([{ name: found.name, why }]));
+  opening.mark(null);
+  entitle(found.name);
+  closeFile(unreadText([{ name: found.name, why }]));
   tellShown();
 }
 
@@ -233,7 +220,9 @@ async function openAll({ files, isPartial }) {
     return;
   }
   forgetLink();
-  closeFile(counted(files.length, "file"), files.length > 0 ? "" : `There is no file in it. ${partial}`);
+  opening.mark(null);
+  entitle(counted(files.length, "file"));
+  closeFile(files.length > 0 ? "" : `There is no file in it. ${partial}`);
   await many.show(hunk, files, partial);
   tellShown();
 }
@@ -299,8 +288,6 @@ function listen() {
   $("save-stripped").addEventListener("click", saveStripped);
   $("save-memory").addEventListener("click", () => save(memory, `${file.name}.memory`));
   $("save-csv").addEventListener("click", () => save(many.csv(), "hunks.csv", "text/csv"));
-  $("file-picture").addEventListener("click", (event) => fileView.go((event.offsetX / event.target.clientWidth) * file.bytes.length));
-  $("memory-picture").addEventListener("click", (event) => memoryView.go((event.offsetX / event.target.clientWidth) * memory.length));
   whenSchemeChanges(() => file && show(file.input, file.name));
   addEventListener("hashchange", openLink);
   addEventListener("dragover", (event) => {
@@ -312,11 +299,6 @@ function listen() {
     event.preventDefault();
     $("drop").classList.remove("over");
     await openAll(await droppedFiles(event.dataTransfer));
-  });
-  addEventListener("resize", () => {
-    if (!file || file.about.refusal) return;
-    if (file.hasBlocks) drawFile($("file-picture"), file);
-    if (memory) drawMemory($("memory-picture"), file, memory);
   });
 }
 

@@ -1,6 +1,7 @@
 // The names of the format's numbers, and how numbers are shown.
 
-import { entryKindName, flagNames, kindName, MEMORIES } from "../../bindings/javascript/kinds.js";
+import { nameOf } from "../../bindings/javascript/hunk.js";
+import { ENTRY_KINDS, entryKindName, flagNames, kindName, KINDS, MEMORIES } from "../../bindings/javascript/kinds.js";
 
 const FAULTS = {
   1: "BadTarget: the target of the relocation is no hunk of its unit",
@@ -19,11 +20,30 @@ export const blockName = kindName;
 export const entryName = entryKindName;
 export const faultText = (fault) => FAULTS[fault] ?? `fault ${fault}`;
 export const flagsText = (flags) => flagNames(flags).join(" ");
+export const isDefinition = (kind) => kind <= ENTRY_KINDS.ABS;
+export const isCommon = (kind) => kind === ENTRY_KINDS.COMMON || kind === ENTRY_KINDS.RELCOMMON;
+
+/** Whether a type of block is in the table; all others are advisory. */
+export const isKnown = (kind) => Object.values(KINDS).includes(kind);
+
+/** Where an item stands: in an object file with its unit. */
+export const whereText = (file, row) => (file.table ? `hunk ${row.hunk}` : `unit ${row.unit}, hunk ${row.hunk}`);
+
+export const memoryName = (memory) => (memory === 3 ? "memory by attributes" : `${MEMORIES[memory]} memory`);
 export const memoryText = (row) => MEMORIES[row.memory] + (row.memory === 3 ? ` ${hex(row.extra)}` : "");
 
 /** A name as it may be shown: bytes that are no printable ASCII, and the backslash, as `\x` and two digits. */
 export function shown(name) {
   return name.replace(/[^\x20-\x5b\x5d-\x7e]/g, (c) => `\\x${hex(c.charCodeAt(0), 2)}`);
+}
+
+/** The most bytes of a name that are shown beside others: a file may have one of any length. */
+const MOST_NAME = 100;
+
+/** The name of a row as it may be shown, without the zero bytes that fill up its last longword. */
+export function nameText(bytes, { name, nameBytes }) {
+  const text = nameOf(bytes, { name, nameBytes: Math.min(nameBytes, MOST_NAME) });
+  return shown(text.replace(/\0+$/, "")) + (nameBytes > MOST_NAME ? "…" : "");
 }
 
 const scheme = matchMedia("(prefers-color-scheme: dark)");
@@ -51,14 +71,25 @@ export function blockColour(kind, light = 78) {
   return name === "" || name === "END" ? tint(0, light, 0) : tint(HUES[name] ?? 95, light);
 }
 
-/** The number of the last element that is at most this one, of a rising list; -1 where there is none. */
-export function lastAt(list, number) {
+const MEMORY_HUES = [0, 330, 45, 275];
+
+/** The colour of a kind of memory, by its number in a row of the table: that of any memory is grey. */
+export const memoryColour = (memory) => tint(MEMORY_HUES[memory], memory === 0 ? 80 : 55, memory === 0 ? 0 : 1);
+
+/** The number of the last of so many that is at most this one, where `at` gives each and they rise; -1 where there is none. */
+export function lastOf(count, at, number) {
   let low = 0;
-  let high = list.length;
+  let high = count;
   while (low < high) {
     const middle = (low + high) >> 1;
-    if (list[middle] <= number) low = middle + 1;
+    if (at(middle) <= number) low = middle + 1;
     else high = middle;
   }
   return low - 1;
 }
+
+/** The number of the last element of a list that is at most this one; -1 where there is none. */
+export const lastAt = (list, number) => lastOf(list.length, (i) => list[i], number);
+
+/** The longword at a byte, high byte first. */
+export const longAt = (bytes, at) => ((bytes[at] << 24) | (bytes[at + 1] << 16) | (bytes[at + 2] << 8) | bytes[at + 3]) >>> 0;

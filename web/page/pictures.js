@@ -1,9 +1,10 @@
 // Pictures of a file and of its memory, a column for each of so many parts.
 
-import { blockColour, hunkColour, lastAt } from "./names.js";
+import { KINDS } from "../../bindings/javascript/kinds.js";
+import { blockColour, blockName, counted, hex, hunkColour, lastAt, lastOf, nameText, whereText } from "./names.js";
 
 /** Sizes a canvas to the pixels that it has on the screen. */
-function prepared(canvas) {
+export function prepared(canvas) {
   const scale = window.devicePixelRatio || 1;
   canvas.width = Math.max(1, Math.round(canvas.clientWidth * scale));
   canvas.height = Math.max(1, Math.round(canvas.clientHeight * scale));
@@ -25,7 +26,7 @@ function fullness(bytes, from, to) {
 }
 
 /** The memory: each hunk in its colour, darker where it is not zero, and below it the relocated longs in their target's. */
-export function drawMemory(canvas, file, memory) {
+function drawMemory(canvas, file, memory) {
   const drawing = prepared(canvas);
   const { width, height } = canvas;
   const low = Math.round(height * 0.7);
@@ -48,7 +49,7 @@ export function drawMemory(canvas, file, memory) {
 }
 
 /** The file: each block in the colour of its kind, with a line before it where there is room. */
-export function drawFile(canvas, file) {
+function drawFile(canvas, file) {
   const drawing = prepared(canvas);
   const { width, height } = canvas;
   const length = file.bytes.length;
@@ -62,4 +63,71 @@ export function drawFile(canvas, file) {
     drawing.fillRect(x, 0, 1, height);
     before = block;
   }
+}
+
+const linear = (length) => ({ length, share: (at) => at / length, at: (share) => share * length });
+const bytesText = (from, to) => `${counted(to - from, "byte")} from ${hex(from)}`;
+
+/** The header of a load file, or a UNIT and its name: what is before the first block, or between two. */
+function headText(file, from) {
+  if (file.table) return "HEADER";
+  const { rows } = file.list("units");
+  const unit = lastOf(rows.length, (i) => rows.get(i, "place"), from);
+  return `UNIT ${unit} ${nameText(file.bytes, rows.at(unit))}`.trimEnd();
+}
+
+/** Where the unit that follows a byte begins, or the next block. */
+function nextPlace(file, at, block) {
+  const next = block + 1 < file.blockPlaces.length ? file.blockPlaces[block + 1] : file.about.length;
+  if (file.table) return next;
+  const { rows } = file.list("units");
+  const unit = lastOf(rows.length, (i) => rows.get(i, "place"), at) + 1;
+  return unit < rows.length ? Math.min(next, rows.get(unit, "place")) : next;
+}
+
+/** The block of a file to which a byte belongs, or its header, or what comes after it: {from, to, text}. */
+export function partOfFile(file, at) {
+  const { length } = file.about;
+  const end = file.bytes.length;
+  if (at >= length) return { from: length, to: end, text: `after the file, ${bytesText(length, end)}` };
+  const block = lastAt(file.blockPlaces, at);
+  const from = block < 0 ? 0 : file.blockPlaces[block];
+  const behind = block < 0 ? 0 : from + file.blocks.get(block, "bytes");
+  if (block >= 0 && at < behind) {
+    const row = file.blocks.at(block);
+    return { from, to: behind, text: `${blockName(row.kind)}, ${whereText(file, row)}, ${bytesText(from, behind)}` };
+  }
+  const begins = file.table ? behind : unitPlace(file, at);
+  const to = nextPlace(file, at, block);
+  return { from: begins, to, text: `${headText(file, begins)}, ${bytesText(begins, to)}` };
+}
+
+function unitPlace(file, at) {
+  const { rows } = file.list("units");
+  return rows.get(lastOf(rows.length, (i) => rows.get(i, "place"), at), "place");
+}
+
+export function fileScene(file, go) {
+  const { length } = file.bytes;
+  return { ...linear(length), part: (at) => partOfFile(file, at), draw: (canvas) => drawFile(canvas, file), go };
+}
+
+/** The colour of each kind of block that a file has; headers have that of END. */
+export function fileLegend(file) {
+  const head = file.table ? "HEADER" : "UNIT";
+  const name = (kind) => (kind === KINDS.END ? `${head}, END` : blockName(kind));
+  return file.kinds().map((kind) => [blockColour(kind, 68), name(kind)]);
+}
+
+function partOfMemory(file, memory, at) {
+  const hunk = lastAt(file.starts, at);
+  const from = file.starts[hunk];
+  const to = hunk + 1 < file.starts.length ? file.starts[hunk + 1] : memory.length;
+  const texts = [`hunk ${hunk}`, file.contents().name(hunk), bytesText(file.base + from, file.base + to)];
+  return { from, to, text: texts.filter(Boolean).join(", ") };
+}
+
+export function memoryScene(file, memory, go) {
+  const part = (at) => partOfMemory(file, memory, at);
+  return { ...linear(memory.length), part, draw: (canvas) => drawMemory(canvas, file, memory), go };
 }

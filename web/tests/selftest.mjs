@@ -6,8 +6,10 @@ import { execFileSync } from "node:child_process";
 import { copyFileSync, mkdirSync, readFileSync, statSync, writeFileSync } from "node:fs";
 import { createServer } from "node:http";
 import { pathToFileURL } from "node:url";
-import { tryMany } from "./many.mjs";
 import { compareOpening } from "./opening.mjs";
+import { tryMany } from "./many.mjs";
+import { compareCursor } from "./cursor.mjs";
+import { compareMap, comparePictures } from "./pictures.mjs";
 
 const [browserName, pagePath, program, everyPath, oneOf, pictures, work] = process.argv.slice(2);
 const { Chromium, Firefox } = { ...(await import("./chromium.mjs")), ...(await import("./firefox.mjs")) };
@@ -196,7 +198,7 @@ async function compareLists(page, name, path) {
   const said = await page.in(
     `document.getElementById("tab-symbols").click();
      const rows = [...document.querySelectorAll("#list-panel [data-row]")];
-     return rows.map((row) => [...row.children].slice(2).map((it) => it.textContent).join(" ")).join("\\n")`,
+     return rows.map((row) => [row.children[2], row.lastChild].map((it) => it.textContent).join(" ")).join("\\n")`,
   );
   hold(`${name}, symbols`, symbols.join("\n"), said);
 }
@@ -351,7 +353,12 @@ try {
   await compareOpening(page, hold, { root, pagePath, work });
   await compareUse(page);
   await browser.size(1280, 900);
-  if (oneOf === "1") await large(page);
+  await compareCursor(page, hold);
+  await comparePictures(page, hold);
+  if (oneOf === "1") {
+    await large(page);
+    await compareMap(page, hold, work);
+  }
   await takePictures(page);
   for (const fault of browser.faults()) hold("an error in the page", "none", fault);
 } catch (error) {

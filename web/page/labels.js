@@ -1,0 +1,75 @@
+// The names that are shown beside bytes: of blocks in a file, and of symbols in its memory.
+
+import { blockName, hex, lastAt, lastOf, nameText } from "./names.js";
+
+/** The places from one byte to before another, of a list in which they rise. */
+function placesBetween(rows, from, to, call) {
+  const place = (i) => rows.get(i, "place");
+  for (let i = lastOf(rows.length, place, from - 1) + 1; i < rows.length && place(i) < to; i++) call(i, place(i));
+}
+
+/** What begins in these bytes of a file: its header, units and blocks. */
+export function namesInFile(file, from, to) {
+  const found = file.table && from === 0 ? [[0, "HEADER"]] : [];
+  if (!file.table) placesBetween(file.list("units").rows, from, to, (_, place) => found.push([place, "UNIT"]));
+  placesBetween(file.blocks, from, to, (i, place) => found.push([place, blockName(file.blocks.get(i, "kind"))]));
+  return found.sort(([one], [other]) => one - other).map(([, name]) => name);
+}
+
+/** As many rows as a list has at most: a place and a row in one number are below 2^53, and are sorted together. */
+const MOST_ROWS = 2 ** 21;
+
+/** The symbols of a load file by where they stand in its memory. */
+export class Labels {
+  constructor(file) {
+    const { rows } = file.list("symbols");
+    const both = new Float64Array(rows.length);
+    let count = 0;
+    for (let i = 0; i < rows.length; i++) {
+      const hunk = rows.get(i, "hunk");
+      const value = rows.get(i, "value");
+      // One that stands behind its hunk would be shown in another.
+      if (value < file.table.rows.get(hunk, "bytes")) both[count++] = (file.starts[hunk] + value) * MOST_ROWS + i;
+    }
+    this.file = file;
+    this.sorted = both.subarray(0, count).sort();
+  }
+
+  #place(i) {
+    return Math.floor(this.sorted[i] / MOST_ROWS);
+  }
+
+  #name(i) {
+    const { bytes, lists } = this.file;
+    return nameText(bytes, lists.symbols.rows.at(this.sorted[i] % MOST_ROWS));
+  }
+
+  /** The number of the first label that stands at this byte or after it. */
+  #first(at) {
+    return lastOf(this.sorted.length, (i) => this.#place(i), at - 1) + 1;
+  }
+
+  isAt(at) {
+    const first = this.#first(at);
+    return first < this.sorted.length && this.#place(first) === at;
+  }
+
+  /** The names from a byte to before another: so many at most. */
+  between(from, to, most) {
+    const found = [];
+    for (let i = this.#first(from); i < this.sorted.length && this.#place(i) < to; i++) {
+      if (found.length === most) return [...found, "…"];
+      found.push(this.#name(i));
+    }
+    return found;
+  }
+
+  /** The last label of the same hunk that is not after a byte, and how far after it that stands. */
+  before(at) {
+    const last = lastOf(this.sorted.length, (i) => this.#place(i), at);
+    const { starts } = this.file;
+    if (last < 0 || this.#place(last) < starts[lastAt(starts, at)]) return "";
+    const place = this.#place(last);
+    return this.#name(this.#first(place)) + (place === at ? "" : ` + ${hex(at - place)}`);
+  }
+}

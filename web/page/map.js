@@ -1,0 +1,241 @@
+// The map of hunks: a bar for each, and an arc from each hunk to those whose base is added in it.
+
+import { rowsOfHunk } from "./contents.js";
+import { KINDS, MEMORIES } from "../../bindings/javascript/kinds.js";
+import { blockColour, blockName, counted, hunkColour, lastOf, memoryColour, memoryName, whereText } from "./names.js";
+import { prepared } from "./pictures.js";
+
+/** The most bars of a map: of more hunks some stand in one bar. */
+const MOST_BARS = 64;
+/** The most arcs: those of most relocations. */
+const MOST_ARCS = 250;
+const BAR = 24;
+const BAND = 6;
+const GAP = 2;
+const TIP = 4;
+
+/** The hunks of a file in bars, with what is relocated between them. */
+export class HunkMap {
+  constructor(file) {
+    this.file = file;
+    this.contents = file.contents();
+    this.hunks = this.contents.count;
+    this.count = Math.min(this.hunks, MOST_BARS);
+    this.bars = Array.from({ length: this.count }, (_, i) => this.#bar(this.#first(i), this.#first(i + 1)));
+    this.arcs = this.#findArcs();
+  }
+
+  #first(bar) {
+    return Math.ceil((bar * this.hunks) / this.count);
+  }
+
+  barOf(hunk) {
+    return Math.floor((hunk * this.count) / this.hunks);
+  }
+
+  #bytes(hunk) {
+    const { table } = this.file;
+    return table ? table.rows.get(hunk, "bytes") : this.contents.get(hunk, "memory");
+  }
+
+  /** The number of its kind of memory. In an object file the block's word names it: its flags are an advisory bit, and these. */
+  #memory(hunk) {
+    const { table } = this.file;
+    return table ? table.rows.get(hunk, "memory") : this.contents.get(hunk, "flags") >> 1;
+  }
+
+  /** A bar, with how many of its hunks have each kind of content, from CODE on, and each kind of memory. */
+  #bar(first, end) {
+    const bar = { first, end, bytes: 0, kinds: [0, 0, 0], memories: [0, 0, 0, 0] };
+    for (let i = bar.first; i < bar.end; i++) {
+      bar.bytes += this.#bytes(i);
+      bar.kinds[this.contents.get(i, "kind") - KINDS.CODE] += 1;
+      bar.memories[this.#memory(i)] += 1;
+    }
+    return bar;
+  }
+
+  /** Calls for each relocated longword of a load file, as they rise, with the numbers of its hunk and of its target. */
+  #eachLong(call) {
+    const { starts } = this.file;
+    const { places, targets } = this.file.relocated();
+    let hunk = 0;
+    for (let i = 0; i < places.length; i++) {
+      while (starts[hunk + 1] <= places[i]) hunk += 1;
+      call(hunk, targets[i]);
+    }
+  }
+
+  /** The same for the relocations of an object file whose target is a hunk of their unit. */
+  #eachRelocation(call) {
+    const { contents } = this;
+    const { rows } = this.file.list("relocations");
+    for (let i = 0; i < rows.length; i++) {
+      const unit = rows.get(i, "unit");
+      const target = contents.number(unit, rows.get(i, "target"));
+      if (target !== undefined) call(contents.number(unit, rows.get(i, "hunk")), target);
+    }
+  }
+
+  /** How many relocations each pair of bars has, most first. */
+  #findArcs() {
+    const { count } = this;
+    const pairs = new Float64Array(count * count);
+    const add = (hunk, target) => {
+      pairs[this.barOf(hunk) * count + this.barOf(target)] += 1;
+    };
+    if (this.file.table) this.#eachLong(add);
+    else this.#eachRelocation(add);
+    const arcs = [];
+    pairs.forEach((many, i) => many > 0 && arcs.push({ from: Math.floor(i / count), to: i % count, many }));
+    return arcs.sort((one, other) => other.many - one.many);
+  }
+
+  /** A hunk's number: in an object file with its unit. */
+  numberText(number) {
+    const { contents, file } = this;
+    return file.table ? `${number}` : `${contents.get(number, "unit")}.${contents.get(number, "hunk")}`;
+  }
+
+  /** What is said of a hunk. */
+  text(number) {
+    const row = { unit: this.contents.get(number, "unit"), hunk: this.contents.get(number, "hunk") };
+    const memory = memoryName(this.#memory(number));
+    const texts = [whereText(this.file, row), this.contents.name(number), counted(this.#bytes(number), "byte"), memory];
+    const [first, end] = rowsOfHunk(this.file.list("relocations").rows, row.unit, row.hunk);
+    if (end > first) texts.push(counted(end - first, "relocation") + this.#targetsText(number));
+    return texts.join(", ");
+  }
+
+  #targetsText(number) {
+    if (this.count < this.hunks) return "";
+    const arcs = this.arcs.filter((arc) => arc.from === number);
+    const told = arcs.slice(0, 3).map(({ to, many }) => `${many.toLocaleString("en")} to hunk ${this.contents.get(to, "hunk")}`);
+    return `: ${told.join(", ")}${arcs.length > 3 ? ", …" : ""}`;
+  }
+}
+
+/** Where the bars stand in a picture of this width: each has at least some pixels, and else its share by its bytes. */
+function lay(map, width) {
+  const total = map.bars.reduce((sum, bar) => sum + bar.bytes, 0) || 1;
+  const least = Math.min(22, (0.6 * width) / map.count);
+  const free = width - map.count * least;
+  let x = 0;
+  map.width = width;
+  for (const bar of map.bars) {
+    bar.x = x;
+    bar.width = least + (free * bar.bytes) / total;
+    x += bar.width;
+  }
+}
+
+const middle = (bar, share) => bar.x + (bar.width - GAP) * share;
+
+function drawArc(drawing, map, { from, to, many }, base) {
+  const [a, b] = [middle(map.bars[from], 0.35), middle(map.bars[to], 0.65)];
+  const high = from === to ? 18 : 16 + Math.min(1, Math.abs(a - b) / 500) * (base - 22);
+  drawing.strokeStyle = hunkColour(to, 45);
+  drawing.lineWidth = 0.8 + Math.min(3.2, map.width / 250) * Math.sqrt(many / map.arcs[0].many);
+  drawing.beginPath();
+  drawing.moveTo(a, base);
+  drawing.bezierCurveTo(a, base - high * 1.33, b, base - high * 1.33, b, base);
+  drawing.stroke();
+  drawing.fillStyle = drawing.strokeStyle;
+  drawing.beginPath();
+  drawing.moveTo(b, base);
+  drawing.lineTo(b - TIP, base - 1.6 * TIP);
+  drawing.lineTo(b + TIP, base - 1.6 * TIP);
+  drawing.fill();
+}
+
+const kindColour = (kind) => blockColour(KINDS.CODE + kind, 60);
+
+/** A bar in the shares of what is counted. */
+function drawShares(drawing, bar, counts, colourOf, y) {
+  let x = bar.x;
+  for (const [what, many] of counts.entries()) {
+    const width = ((bar.width - GAP) * many) / (bar.end - bar.first);
+    drawing.fillStyle = colourOf(what);
+    drawing.fillRect(x, y, width, BAND);
+    x += width;
+  }
+}
+
+/** What a bar may have as its text, the longest first. */
+function barTexts(map, bar) {
+  const first = map.numberText(bar.first);
+  const number = bar.end - bar.first === 1 ? first : `${first} – ${map.numberText(bar.end - 1)}`;
+  const bytes = bar.bytes.toLocaleString("en");
+  return [`hunk ${number} · ${bytes} bytes`, `${number} · ${bytes}`, number];
+}
+
+function drawBar(drawing, map, bar, y, ink) {
+  drawing.fillStyle = hunkColour(bar.first, 75);
+  drawing.fillRect(bar.x, y, bar.width - GAP, BAR);
+  drawShares(drawing, bar, bar.kinds, kindColour, y + BAR + GAP);
+  drawShares(drawing, bar, bar.memories, memoryColour, y + BAR + 2 * GAP + BAND);
+  const text = barTexts(map, bar).find((it) => drawing.measureText(it).width < bar.width - 8);
+  drawing.fillStyle = ink;
+  if (text) drawing.fillText(text, middle(bar, 0.5), y + BAR / 2);
+}
+
+/** The height that a map needs: of arcs only where there are some. */
+function heightOf(map) {
+  const arcs = map.arcs.some(({ from, to }) => from !== to) ? 96 : map.arcs.length > 0 ? 26 : 4;
+  return arcs + BAR + 2 * (BAND + GAP);
+}
+
+function drawMap(canvas, map, chosen) {
+  canvas.style.height = `${heightOf(map) + 2}px`;
+  const drawing = prepared(canvas);
+  const style = getComputedStyle(canvas);
+  drawing.scale(canvas.width / canvas.clientWidth, canvas.height / canvas.clientHeight);
+  drawing.font = `12px ${style.fontFamily}`;
+  drawing.textAlign = "center";
+  drawing.textBaseline = "middle";
+  lay(map, canvas.clientWidth);
+  const base = canvas.clientHeight - BAR - 2 * (BAND + GAP);
+  const bar = chosen === null ? -1 : map.barOf(chosen);
+  for (const arc of map.arcs.slice(0, MOST_ARCS).reverse()) {
+    drawing.globalAlpha = bar < 0 ? 0.75 : arc.from === bar || arc.to === bar ? 1 : 0.1;
+    drawArc(drawing, map, arc, base);
+  }
+  drawing.globalAlpha = 1;
+  for (const it of map.bars) drawBar(drawing, map, it, base, style.color);
+}
+
+/** Where a hunk stands across the picture, and which one stands there: those of one bar share it alike. */
+function shareOf(map, canvas, hunk) {
+  if (hunk >= map.hunks) return 1;
+  const bar = map.bars[map.barOf(hunk)];
+  return (bar.x + (bar.width * (hunk - bar.first)) / (bar.end - bar.first)) / canvas.clientWidth;
+}
+
+function hunkAt(map, canvas, share) {
+  const x = share * canvas.clientWidth;
+  const bar = map.bars[Math.max(0, lastOf(map.count, (i) => map.bars[i].x, x))];
+  return bar.first + ((x - bar.x) / bar.width) * (bar.end - bar.first);
+}
+
+export function mapScene(map, canvas, go) {
+  return {
+    length: map.hunks,
+    follows: true,
+    part: (at) => ({ from: at, to: at + 1, text: map.text(at) }),
+    share: (at) => shareOf(map, canvas, at),
+    at: (share) => hunkAt(map, canvas, share),
+    draw: (_, at) => drawMap(canvas, map, at),
+    go,
+  };
+}
+
+/** The legend: what the colours of the bands below a bar mean, of those that are in the map. */
+export function mapLegend(map) {
+  const has = (counts, number) => map.bars.some((bar) => bar[counts][number] > 0);
+  const kinds = [0, 1, 2].filter((kind) => has("kinds", kind));
+  const memories = [...MEMORIES.keys()].filter((memory) => has("memories", memory));
+  return [
+    ...kinds.map((kind) => [kindColour(kind), blockName(KINDS.CODE + kind)]),
+    ...memories.map((memory) => [memoryColour(memory), memoryName(memory)]),
+  ];
+}
