@@ -1,5 +1,6 @@
 /* Hunk files of AmigaDOS: tables of load files, loading them, whole or piece by piece, checking and
- * stripping load files and object files, what stands in them item by item, the names of refusals.
+ * stripping load files and object files, what stands in them item by item, also before a fault, the
+ * names of refusals.
  *
  * Whatever the bytes are, each call gives one of the answers listed with it; what of this is proved
  * is in docs/PROVED.md of the source tree. A call reads and writes only what its arguments point
@@ -106,8 +107,9 @@ uint32_t hunk_abi(void);
 #define HUNK_STRANGE UINT32_C(33)
 
 /* What a call answers: 24 bytes. On a machine of 32 bits a count may be above what the machine can
- * address: bytes that hunks declare, that a plain spelling has, or that are still to come. So may
- * the bytes of rows, a count times the size of one. A program compares before it narrows them. */
+ * address: bytes that hunks declare, that a plain spelling or a front with what closes it has, or
+ * that are still to come. So may the bytes of rows, a count times the size of one. A program
+ * compares before it narrows them. */
 struct hunk_answer {
     uint32_t number; /* HUNK_OK, the number of a reason, HUNK_NO_ROOM or HUNK_STRANGE */
     uint32_t hunk;   /* the hunks of a load file, or as the call says; else 0 */
@@ -503,7 +505,7 @@ struct hunk_answer hunk_strip(const uint8_t *bytes, uint64_t bytes_len, uint8_t 
  * or at the end of the file. No call above takes such a file. hunk_plain writes the plain spelling
  * of it, which all of them take, and which stands for the same hunks.
  *
- * None of the three calls refuses any bytes. What they do not know is as it is in the plain
+ * None of these three calls refuses any bytes. What they do not know is as it is in the plain
  * spelling, and refused there; so no reason is lost.
  */
 
@@ -538,6 +540,37 @@ struct hunk_answer hunk_plain(const uint8_t *bytes, uint64_t bytes_len, uint8_t 
  * word, of an END that is left out what comes in its place, and after the last byte the end of the
  * input, or where its last longword begins that is not whole. At most bytes_len. */
 uint64_t hunk_input_place(const uint8_t *bytes, uint64_t bytes_len, uint64_t place);
+
+/* ---- What stands before a fault.
+ *
+ * The calls above list a file that is accepted, and no other. Of one that is refused, or not whole,
+ * hunk_front writes another file that begins as it does and is accepted. So they list what stands
+ * before the fault.
+ *
+ * The front of an input is the longest run of its first longwords that ends where a block word of
+ * an open hunk would come, and of which none is refused: after the table, after a block, or after
+ * an END where the table has a hunk left. So the front of a whole file ends before its last END.
+ * What closes a front is END, before it a BSS block of no longwords where the open hunk has no
+ * CODE, DATA or BSS block yet, and then such a block and END for each hunk that is left.
+ */
+
+/* Writes the front of the bytes to the text, and what closes it.
+ *
+ *   bytes   the input, of any bytes
+ *   text    where the file goes: four times as many bytes as there are in are always enough
+ *
+ * HUNK_OK       hunk: the hunks of the file, 1 or more; place: the bytes of the front; count: the
+ *               bytes that were written. All are 0 where there is no front: the bytes begin as no
+ *               load file, or its header is refused or not whole.
+ * HUNK_NO_ROOM  the text is too short. count: the bytes that are needed; hunk and place as at
+ *               HUNK_OK. With text_len 0 this asks for them.
+ *
+ * No bytes are refused. A row that another call writes of the text is of the input where its place
+ * is below that of this answer, and else of what closes it. Text after what is written, and at
+ * HUNK_NO_ROOM all text, is as it was.
+ */
+struct hunk_answer hunk_front(const uint8_t *bytes, uint64_t bytes_len, uint8_t *text,
+                              uint64_t text_len);
 
 /* Writes the name of an answer's number to the text, with no zero after it.
  *

@@ -42,6 +42,7 @@ static uint8_t many[4 * (TABLE_LONGS + MANY) + MANY * sizeof hunk_longs];
 static uint8_t memory[12];
 static uint8_t many_memory[4 * MANY];
 static uint8_t text[sizeof load_longs];
+static uint8_t many_text[sizeof many];
 static struct hunk_row rows[HUNKS];
 static struct hunk_place places[HUNKS] = {{2, 0, 0}, {1, 0, 8}};
 static const uint32_t bases[HUNKS] = {0, 8};
@@ -111,6 +112,11 @@ static void input_place(void)
     uint64_t place = hunk_input_place(wide, sizeof wide, sizeof file - 1);
     answer.number = place == sizeof wide ? HUNK_OK : 1;
 }
+static void front(void) { answer = hunk_front(file, sizeof file - 4, text, sizeof text); }
+static void front_of_many(void)
+{
+    answer = hunk_front(many, sizeof many, many_text, sizeof many_text);
+}
 static void reason(void) { answer = hunk_reason(HUNK_NOTHING_TO_RELOCATE, text, sizeof text); }
 static void meaning(void) { answer = hunk_reason_text(HUNK_MISPLACED, text, sizeof text); }
 
@@ -147,6 +153,8 @@ static const struct {
     {"hunk_plain", plain, ALL},
     {"hunk_spelling_of", spelled, ALL},
     {"hunk_input_place", input_place, ALL},
+    {"hunk_front", front, ALL},
+    {"hunk_front of many hunks", front_of_many, ALL},
     {"hunk_reason", reason, ALL},
     {"hunk_reason_text", meaning, ALL},
 };

@@ -30,6 +30,7 @@ struct hunk_answer hunk_strip(const uint8_t *, uint64_t, uint8_t *, uint64_t);
 struct hunk_spelling hunk_spelling_of(const uint8_t *, uint64_t);
 struct hunk_answer hunk_plain(const uint8_t *, uint64_t, uint8_t *, uint64_t);
 uint64_t hunk_input_place(const uint8_t *, uint64_t, uint64_t);
+struct hunk_answer hunk_front(const uint8_t *, uint64_t, uint8_t *, uint64_t);
 struct hunk_answer hunk_reason(uint32_t, uint8_t *, uint64_t);
 struct hunk_answer hunk_reason_text(uint32_t, uint8_t *, uint64_t);
 
