@@ -26,6 +26,11 @@ OBJECT = bytes.fromhex("000003e700000000" "400003eb00000002000003f2" "800003ea00
 # A load file with a short block, whose offset is 0, and without END; and one whose target is no hunk.
 WIDE = bytes.fromhex("000003f3" "00000000" "00000001" "00000000" "00000000" "00000002" "000003e9" "00000002" "0000000000000000" "000003fc" "0001000000000000")
 BAD_WIDE = WIDE[:44] + bytes.fromhex("0001000500000000")
+# Two hunks of 8 bytes: CODE with a symbol, and then END; and DATA before its relocation of hunk 2.
+BROKEN = bytes.fromhex(
+    "000003f3 00000000 00000002 00000000 00000001 00000002 40000002"
+    "000003e9 00000002 4e714e71 4e714e75 000003f0 00000001 5f6d0000 00000004 00000000 000003f2"
+    "000003ea 00000001 00000007 000003ec 00000001 00000002 00000000 00000000 000003f2")
 
 
 # ---- The conformance suite.
@@ -178,6 +183,38 @@ def placed(data, bases, start=0x10000, size=24):
     return memory.hex("-", 8)
 
 
+def partial_calls(one, two):
+    """Calls for what stands before a fault, and what they come to."""
+    def read(data, **words):
+        return hunk.read(data, partial=True, **words)
+
+    def kinds(data):
+        return [(it.hunk, it.kind.name, it.place) for it in read(data).blocks]
+
+    code, data = hunk.Hunk(8, "any", 0, 0, 0, hunk.Kind.CODE), hunk.Hunk(8, "chip", 0, 0, 1, hunk.Kind.DATA)
+    first = [(0, "CODE", 28), (0, "SYMBOL", 44), (0, "END", 64)]
+    return {
+        "partial": (lambda: repr(read(BROKEN)), "<load file, 80 bytes, 2 hunks, refused at byte 88: BadTarget (23)>"),
+        "partial blocks": (lambda: kinds(BROKEN), [*first, (1, "DATA", 68)]),
+        "partial hunks": (lambda: read(BROKEN).hunks, [code, data]),
+        "partial symbols": (lambda: [it.name for it in read(BROKEN).symbols], [b"_m"]),
+        "partial lists": (lambda: (read(BROKEN).relocations, read(BROKEN).entries, read(BROKEN).findings), ([], [], [])),
+        "partial content": (lambda: read(BROKEN).content(read(BROKEN).blocks[3]).hex(), "00000007"),
+        "partial data": (lambda: (read(BROKEN).data, read(BROKEN).spelling), (BROKEN, hunk.Spelling(len(BROKEN), 0, 0))),
+        "no content": (lambda: read(BROKEN[:75]).hunks, [code, data._replace(kind=None)]),
+        "no block": (lambda: (kinds(BROKEN[:75]), read(BROKEN[:75]).size), (first, 68)),
+        "no hunk": (lambda: read(BROKEN[:45]).hunks, [code, data._replace(kind=None)]),
+        "a table alone": (lambda: (kinds(BROKEN[:30]), [it.kind for it in read(BROKEN[:30]).hunks]), ([], [None, None])),
+        "partial of a file": (lambda: (read(one).refusal, read(one + one).size), (None, 40)),
+        "partial of a file, its blocks": (lambda: read(two).blocks, hunk.read(two).blocks),
+        "partial and wide": (
+            lambda: repr(read(BAD_WIDE, wide=True)),
+            "<load file, 40 bytes, 1 hunks, refused at byte 46: BadTarget (23)>",
+        ),
+        "partial of a wide file": (lambda: (read(WIDE, wide=True).refusal, read(WIDE).refusal.place), (None, 40)),
+    }
+
+
 def wrong_calls(texts):
     """What other calls, and the texts of errors, are not as they must be."""
     one, two, symbol = (bytes.fromhex(texts[it]) for it in ("one-hunk", "two-hunks", "symbol"))
@@ -208,6 +245,7 @@ def wrong_calls(texts):
         "wide of a plain file": (lambda: hunk.read(one, wide=True).spelling, hunk.read(one).spelling),
         "wide load": (lambda: hunk.load(WIDE, 0x21000, wide=True), [bytes.fromhex("0002100000000000")]),
         "input place": (lambda: hunk.input_place(WIDE, 60), len(WIDE)),
+        **partial_calls(one, two),
     }
     for name, (call, wanted) in calls.items():
         if call() != wanted:
@@ -221,6 +259,8 @@ def wrong_calls(texts):
         "refused at byte 44: Truncated (26)": lambda: hunk.stream.load_from(Narrow(one[:36] + bytes.fromhex("000003f1ffffffff"))),
         "refused at byte 40: ShortReloc (13)": lambda: hunk.read(WIDE),
         "refused at byte 46: BadTarget (23)": lambda: hunk.read(BAD_WIDE, wide=True),
+        "refused at byte 24: Truncated (26)": lambda: hunk.read(BROKEN[:26], partial=True),
+        "refused at byte 0: NotLoadFile (1)": lambda: hunk.read(b"text", partial=True),
         "base is no number of 32 bits: 4294967296": lambda: hunk.load(one, 1 << 32),
     }
     for wanted, call in errors.items():

@@ -20,6 +20,9 @@ OBJECT = """000003e7 00000001 61000000
     000003eb 00000004 000003f0 00000001 62756600 00000008 00000000 000003f2"""
 # A load file with a short block, and without its last END.
 WIDE = "000003f3 00000000 00000001 00000000 00000000 00000002 000003e9 00000002 00000004 00000000 000003fc 0001000000000000"
+# Two hunks: CODE of 4 bytes with a symbol, and its END; and a DATA of 8 bytes in chip memory, of which 4 are there.
+CUT = """000003f3 00000000 00000002 00000000 00000001 00000001 40000002
+    000003e9 00000001 4e714e75 000003f0 00000001 5f6d0000 00000002 00000000 000003f2 000003ea 00000002 00000007"""
 
 
 def suite(table):
@@ -40,9 +43,10 @@ def make(folder):
     folder.mkdir()
     sum_text = (TOP / "bindings/c/examples/sum.hex").read_text(encoding="utf-8")
     made = {
-        "sum": bytes.fromhex(sum_text), "part.o": bytes.fromhex(OBJECT), "wide": bytes.fromhex(WIDE), "symbol": load["symbol"],
-        "attributes": load["attributes-and-two-contents"], "text": b"text", "empty": b"", "overlay": load["overlay"],
-        "unknown": load["unknown-block"], "behind": load["bytes-behind"], "findings.o": objects["two-findings"],
+        "sum": bytes.fromhex(sum_text), "part.o": bytes.fromhex(OBJECT), "wide": bytes.fromhex(WIDE), "cut": bytes.fromhex(CUT),
+        "symbol": load["symbol"], "attributes": load["attributes-and-two-contents"], "text": b"text", "empty": b"",
+        "overlay": load["overlay"], "unknown": load["unknown-block"], "behind": load["bytes-behind"],
+        "findings.o": objects["two-findings"],
     }
     for name, data in made.items():
         (folder / name).write_bytes(data)

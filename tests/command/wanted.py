@@ -35,6 +35,16 @@ hunk 0 8 bytes any
     0 0x00000000
   END
 """
+SHOWN_CUT = """load file 2 hunks 12 bytes
+hunk 0 4 bytes any
+  CODE 4 bytes
+  SYMBOL 1
+    0x00000002 _m
+  END
+hunk 1 8 bytes chip
+refused at byte 76: Truncated (26)
+"""
+SAID_CUT = "hunk: cut: refused at byte 76: Truncated: the input ends too soon (damaged)\n"
 HEAD = "   text\t   data\t    bss\t    dec\t    hex\tfilename\n"
 SIZE_OF_SUM = "     48\t      0\t     12\t     60\t     3c\tsum\n"
 NO_HUNK_FILE = "refused at byte 0: NotLoadFile: the first longword is not 3F3 (no hunk file)"
@@ -57,6 +67,10 @@ RUNS = [
     ("show wide", "", "hunk: wide: refused at byte 40: ShortReloc: a block of short relocations, whose offsets have 16 bits"
      " (not supported); its spelling is one that --wide reads\n", 1),
     ("show --wide wide", SHOWN_WIDE, "hunk: wide: 1 block of short relocations, 1 END put in\n", 0),
+    ("show cut", "", SAID_CUT, 1),
+    ("show --partial cut text symbol", f"== cut\n{SHOWN_CUT}== symbol\n{SHOWN_SYMBOL}",
+     f"{SAID_CUT}hunk: text: {NO_HUNK_FILE}\n", 1),
+    ("show --partial --wide wide", SHOWN_WIDE, "hunk: wide: 1 block of short relocations, 1 END put in\n", 0),
     ("size sum part.o attributes", f"{HEAD}{SIZE_OF_SUM}"
      "     16\t      0\t     16\t     32\t     20\tpart.o\n      8\t      0\t      4\t     12\t      c\tattributes\n", "", 0),
     ("size -t sum text sum", f"{HEAD}{SIZE_OF_SUM}{SIZE_OF_SUM}"

@@ -42,13 +42,17 @@ def input_place(data: Data, place: int) -> int:
     return int(_input_place(data, len(data), number_of(place, 64, "place")))
 
 
+def in_input(data: Data, error: HunkError) -> HunkError:
+    """A refusal of the plain spelling, with its place in the input."""
+    return HunkError(error.reason, error.number, input_place(data, error.place), error.hunk, error.meaning)
+
+
 def by_plain(call: Callable[[bytes], _Made], data: Data) -> _Made:
     """What the call makes of the plain spelling. A refusal has its place in the input."""
     try:
         return call(plain(data))
     except HunkError as error:
-        place = input_place(data, error.place)
-        raise HunkError(error.reason, error.number, place, error.hunk, error.meaning) from None
+        raise in_input(data, error) from None
 
 
 def strip(data: Data) -> bytes:

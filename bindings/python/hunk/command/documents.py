@@ -17,7 +17,8 @@ NAME = "json"
 HELP = "what stands in files, a document of JSON each"
 DESCRIPTION = """Writes a document of JSON for each file; where several files are named, a list of them. --schema says what
 a document has. Names in files are taken for ISO 8859-1, so each byte of them is a character. Of a file
-that is spelled otherwise (--wide) places are those of the plain spelling."""
+that is spelled otherwise (--wide) places are those of the plain spelling. Of a file that is refused,
+--partial writes what stands before the fault, with its `refusal`."""
 
 Document = Dict[str, Any]
 
@@ -32,7 +33,7 @@ class PrintSchema(argparse.Action):
 
 
 def add_arguments(parser: argparse.ArgumentParser) -> None:
-    inputs.add_arguments(parser)
+    inputs.add_arguments(parser, partial=True)
     parser.add_argument("--lines", action="store_true", help="each document on a line of its own, and no list")
     parser.add_argument("--schema", action=PrintSchema, nargs=0, help="print the JSON Schema of a document")
 
@@ -86,16 +87,20 @@ def of_hunks(file: hunk.File) -> Iterator[Document]:
     for it in file.hunks:
         which = it.unit, it.number
         its_blocks = blocks(*which)
-        content = next(block for block in its_blocks if block.kind in CONTENTS)
+        content = next(((block.content, block.content_bytes) for block in its_blocks if block.kind in CONTENTS), (0, 0))
         yield {
-            "unit": it.unit, "hunk": it.number, "kind": kind_word(content.kind), "bytes": it.size,
+            "unit": it.unit, "hunk": it.number, "kind": it.kind and kind_word(it.kind), "bytes": it.size,
             "memory": it.memory, "attributes": it.attributes,
-            "content": {"place": content.content, "bytes": content.content_bytes},
+            "content": {"place": content[0], "bytes": content[1]},
             "blocks": [of_block(file, block) for block in its_blocks],
             "symbols": [*map(of_symbol, symbols(*which))],
             "relocations": [*map(of_relocation, relocations(*which))],
             "entries": [*map(of_entry, entries(*which))],
         }
+
+
+def of_refusal(error: hunk.HunkError) -> Document:
+    return {"place": error.place, "reason": error.reason, "number": error.number, "meaning": error.meaning}
 
 
 def of_file(name: str, file: hunk.File) -> Document:
@@ -104,6 +109,7 @@ def of_file(name: str, file: hunk.File) -> Document:
     return {
         "name": name, "kind": "object" if file.is_object else "load",
         "bytes": file.size, "rest": len(file.data) - file.size,
+        **({"refusal": of_refusal(file.refusal)} if file.refusal else {}),
         "spelling": {"short_blocks": file.spelling.short_blocks, "ends": file.spelling.ends},
         "units": units, "findings": [it._asdict() for it in file.findings],
     }

@@ -40,12 +40,16 @@ class Found(NamedTuple):
     error: Optional[OSError] = None
 
 
-def add_arguments(parser: argparse.ArgumentParser, wide: bool = True) -> None:
+def add_arguments(parser: argparse.ArgumentParser, wide: bool = True, partial: bool = False) -> None:
     """The arguments that subcommands have in common."""
     parser.add_argument("names", metavar="FILE", nargs="+", help="a file, a folder with its subfolders, or - for standard input")
     if wide:
         parser.add_argument("--wide", action="store_true",
                             help="read short relocations, and hunks whose END is left out, as their plain spelling")
+    if partial:
+        parser.add_argument("--partial", action="store_true", help="of a file that is refused, tell what stands before the fault")
+    else:
+        parser.set_defaults(partial=False)
 
 
 # ---- Going over names.
@@ -178,12 +182,12 @@ def tell_spelling(name: str, spelling: hunk.Spelling) -> None:
         say(name, ", ".join(parts))
 
 
-def opened(found: Found, wide: bool) -> Optional[hunk.File]:
-    """What stands in a file; None where it can't be read or is refused, which is told."""
+def opened(found: Found, wide: bool, partial: bool = False) -> Optional[hunk.File]:
+    """What stands in a file, or with `partial` before its fault; None where it can't be read or is refused, which is told."""
     name, data = words.printed(found.name), None
     try:
         data = read_bytes(found)
-        file = hunk.read(data, wide)
+        file = hunk.read(data, wide, partial)
     except (hunk.HunkError, OSError, NoFile, MemoryError) as error:
         say(name, explained(error) + hint(error, data, wide))
         return None
@@ -196,18 +200,20 @@ def each(options: argparse.Namespace, act: Callable[[str, hunk.File], None]) -> 
     status = 0
     for name in options.names:
         for found in found_at(os.fsencode(name)):
-            status |= not act_on(found, options.wide, act)
+            status |= not act_on(found, options, act)
     return status
 
 
-def act_on(found: Found, wide: bool, act: Callable[[str, hunk.File], None]) -> bool:
-    """Whether the file was accepted, and so what was to be done with it."""
-    file = opened(found, wide)
+def act_on(found: Found, options: argparse.Namespace, act: Callable[[str, hunk.File], None]) -> bool:
+    """Whether the file was accepted, and so what was to be done with it. With --partial it may be done, too, where it was not."""
+    name, file = words.printed(found.name), opened(found, options.wide, options.partial)
     if file is None:
         return False
+    failure: Optional[Failure] = file.refusal
     try:
-        act(words.printed(found.name), file)
+        act(name, file)
     except (hunk.HunkError, MemoryError) as error:
-        say(words.printed(found.name), explained(error))
-        return False
-    return True
+        failure = error
+    if failure:
+        say(name, explained(failure) + hint(failure, file.data, options.wide))
+    return not failure

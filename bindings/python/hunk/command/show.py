@@ -14,10 +14,14 @@ from hunk.command.words import flag_words, kind_word, text_of
 NAME = "show"
 HELP = "list the hunks and blocks of files, as hunkinfo show does"
 DESCRIPTION = """Lists the hunks and blocks of load files and object files, in the words of `hunkinfo show`:
-docs/OUTPUT.md has each line. Where several files are named, `== NAME` stands before each."""
+docs/OUTPUT.md has each line. Where several files are named, `== NAME` stands before each. Of a file that is
+refused, --partial lists what stands before the fault, and then its line `refused at byte`."""
 
 ITS_WORD = {hunk.Kind.CODE: "memory", hunk.Kind.DATA: "memory", hunk.Kind.BSS: "memory", hunk.Kind.DEBUG: "content_bytes"}
-add_arguments = inputs.add_arguments
+
+
+def add_arguments(parser: argparse.ArgumentParser) -> None:
+    inputs.add_arguments(parser, partial=True)
 
 
 def block_lines(file: hunk.File, block: hunk.Block, items: dict[hunk.Kind, Iterator[Any]]) -> Iterator[str]:
@@ -59,7 +63,8 @@ def hunk_lines(file: hunk.File, unit: int, hunks: Iterator[hunk.Hunk], blocks: I
     for row in hunks:
         attributes = f" 0x{row.attributes:08x}" if row.memory == "attributes" else ""
         yield f"hunk {row.number} {row.size} bytes" + ("" if file.is_object else f" {row.memory}{attributes}")
-        for block in next(blocks)[1]:
+        # Only the hunks at and after a fault have no blocks.
+        for block in next(blocks, (None, ()))[1]:
             yield from block_lines(file, block, items)
 
 
@@ -76,7 +81,9 @@ def lines(file: hunk.File) -> Iterator[str]:
         yield f"unit {number} {text_of(unit.name)}"
         yield from hunk_lines(file, number, itertools.islice(hunks, unit.hunks), blocks, items)
     yield from hunk_lines(file, 0, hunks, blocks, items)
-    if file.size < len(file.data):
+    if file.refusal:
+        yield str(file.refusal)
+    elif file.size < len(file.data):
         yield f"rest {len(file.data) - file.size} bytes"
 
 
