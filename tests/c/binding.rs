@@ -4,8 +4,8 @@
 //! binding --show FILE..: prints what stands in the files by the package, in the words of `hunkinfo show` after `== FILE` for
 //! each. It ends with status 1 where something does not stand at the place that its row has.
 
-use hunk::{Block, Entry, EntryKind, Error, Fault, File, Finding, Hunk, Kind, Memory, Plain, Reference, Relocation, Spelling, Symbol,
-    BUDGET};
+use hunk::{Block, Entry, EntryKind, Error, Fault, File, Finding, Front, Hunk, Kind, Memory, Plain, Reference, Relocation,
+    Spelling, Symbol, BUDGET};
 use std::process::ExitCode;
 use std::{env, fs};
 
@@ -95,6 +95,30 @@ fn wrong_spellings(one: &[u8]) -> Vec<String> {
         ("wide refusal", Plain::of(&bad).read().unwrap_err().to_string() == "refused at byte 46: BadTarget (23)"),
         ("no wide load", Plain::of(&bad).load_packed(0, BUDGET).unwrap_err().place == 46),
         ("input place", plain.input_place(60) == wide.len() as u64),
+    ];
+    checks.iter().filter(|(_, holds)| !holds).map(|(name, _)| format!("{name}: another answer")).collect()
+}
+
+/// What stands before a fault, where that is not as it must be: of two hunks of 8 bytes, CODE with a symbol and END, and DATA
+/// before its relocation of hunk 2; of less of them; and of a whole file.
+fn wrong_fronts(one: &[u8]) -> Vec<String> {
+    let code = "000003f3000000000000000200000000000000010000000240000002000003e9000000024e714e714e714e75";
+    let rest = "000003f0000000015f6d00000000000400000000000003f2000003ea0000000100000007000003ec000000010000000200000000";
+    let broken = [bytes_of(code), bytes_of(rest)].concat();
+    let (front, cut) = (Front::of(&broken).unwrap(), Front::of(&broken[..75]).unwrap());
+    let (file, less) = (front.read().unwrap(), cut.read().unwrap());
+    let first = Hunk { unit: 0, number: 0, size: 8, memory: Memory::Any, kind: Some(Kind::CODE) };
+    let second = Hunk { number: 1, memory: Memory::Chip, kind: Some(Kind::DATA), ..first };
+    let kinds: Vec<Kind> = file.blocks().iter().map(|it| it.kind).collect();
+    let closed = [&broken[..68], &bytes_of("000003eb00000000000003f2")].concat();
+    let checks = [
+        ("front", front.place() == 80 && front.bytes() == [&broken[..80], &bytes_of("000003f2")].concat()),
+        ("blocks of a front", kinds == [Kind::CODE, Kind::SYMBOL, Kind::END, Kind::DATA]),
+        ("hunks of a front", file.hunks() == [first, second] && file.bytes() == &broken[..80]),
+        ("no content", less.hunks() == [first, Hunk { kind: None, ..second }] && less.blocks().len() == 3),
+        ("what closes it", cut.place() == 68 && cut.bytes() == closed && less.bytes() == &broken[..68]),
+        ("no front", Front::of(&broken[..27]).is_none() && Front::of(b"text").is_none()),
+        ("front of a file", Front::of(one).unwrap().place() == 36 && Front::of(one).unwrap().bytes() == one),
     ];
     checks.iter().filter(|(_, holds)| !holds).map(|(name, _)| format!("{name}: another answer")).collect()
 }
@@ -292,7 +316,9 @@ fn main() -> ExitCode {
     let (load, objects) = (rows_of(&paths[0]), rows_of(&paths[1]));
     let mut wrong = wrong_rows(&load, &objects);
     wrong.extend(wrong_calls(&load, &objects));
-    wrong.extend(wrong_spellings(&load.iter().find(|row| row.name == "one-hunk").unwrap().data));
+    let one = &load.iter().find(|row| row.name == "one-hunk").unwrap().data;
+    wrong.extend(wrong_spellings(one));
+    wrong.extend(wrong_fronts(one));
     for line in &wrong {
         println!("{line}");
     }

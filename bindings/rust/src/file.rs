@@ -79,6 +79,15 @@ impl<'a> File<'a> {
         })
     }
 
+    /// The same up to this byte, after which it has only BSS blocks and END.
+    pub(crate) fn up_to(mut self, place: usize) -> File<'a> {
+        self.bytes = Bytes(&self.bytes.0[..place]);
+        self.blocks.retain(|it| it.place < place as u64);
+        let whole = self.blocks.iter().filter(|it| it.kind.is_content()).count();
+        self.hunks.iter_mut().skip(whole).for_each(|it| it.kind = None);
+        self
+    }
+
     /// Whether it is an object file; else it is a load file.
     ///
     /// ```

@@ -40,6 +40,7 @@
 //! | find what is wrong with its offsets | [`check`] |
 //! | leave names, symbols and debug data out | [`strip`] |
 //! | take short relocations, or hunks without END | [`Plain`] |
+//! | see what stands before the fault of a refused file | [`Front`] |
 //!
 //! The build script links the first `libhunk` that it finds, statically where it has the choice: in the folder `HUNK_LIB_DIR`,
 //! beside this package in an archive or a clone, or where pkg-config says. README.md has how to choose.
@@ -49,6 +50,7 @@
 mod error;
 mod file;
 mod finding;
+mod front;
 mod kind;
 mod load;
 mod plain;
@@ -59,6 +61,7 @@ mod show;
 pub use error::Error;
 pub use file::{read, File};
 pub use finding::{check, strip, Fault, Finding};
+pub use front::Front;
 pub use kind::{EntryKind, Kind};
 pub use load::{load, load_at, load_into, load_packed, table, Hunk, Memory, BUDGET};
 pub use plain::{spelling, Plain, Spelling};

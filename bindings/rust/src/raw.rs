@@ -154,6 +154,7 @@ extern "C" {
     fn hunk_spelling_of(bytes: *const u8, bytes_len: u64) -> Spelling;
     fn hunk_plain(bytes: *const u8, bytes_len: u64, text: *mut u8, text_len: u64) -> Answer;
     fn hunk_input_place(bytes: *const u8, bytes_len: u64, place: u64) -> u64;
+    fn hunk_front(bytes: *const u8, bytes_len: u64, text: *mut u8, text_len: u64) -> Answer;
     fn hunk_reason(number: u32, text: *mut u8, text_len: u64) -> Answer;
     fn hunk_reason_text(number: u32, text: *mut u8, text_len: u64) -> Answer;
 }
@@ -234,6 +235,11 @@ pub fn plain(data: &[u8], text: &mut [u8]) -> Answer {
 pub fn input_place(data: &[u8], place: u64) -> u64 {
     // SAFETY: as in `load`.
     unsafe { hunk_input_place(data.as_ptr(), length(data), place) }
+}
+
+pub fn front(data: &[u8], text: &mut [u8]) -> Answer {
+    // SAFETY: as in `load`.
+    unsafe { hunk_front(data.as_ptr(), length(data), text.as_mut_ptr(), length(text)) }
 }
 
 pub fn reason(number: u32, text: &mut [u8]) -> Answer {
