@@ -6,7 +6,9 @@
 void refuse(struct hunk_answer a);
 size_t next_piece(uint8_t *piece);
 void load_program(const uint8_t *file, size_t len, uint8_t *ram, size_t size, uint32_t base);
+void show_block(const struct hunk_block *block);
 void strip_file(const uint8_t *file, size_t len, uint8_t *text, FILE *out);
+void show_front(const uint8_t *input, size_t len, uint8_t *text, struct hunk_block *rows, size_t rows_len);
 struct hunk_answer load_spelled(const uint8_t *input, size_t len, uint8_t *text, uint32_t base, uint8_t *memory, size_t size);
 struct hunk_answer load_pieces(const struct hunk_place *places, struct hunk_answer t, uint8_t *memory, uint8_t *piece);
 struct hunk_answer load_apart(const uint8_t *file, size_t len, struct hunk_answer t, const struct hunk_row *rows,
@@ -33,6 +35,14 @@ struct hunk_answer load_spelled(const uint8_t *input, size_t len, uint8_t *text,
     if (a.number != HUNK_OK)
         a.place = hunk_input_place(input, len, a.place);
     return a;
+}
+
+void show_front(const uint8_t *input, size_t len, uint8_t *text, struct hunk_block *rows, size_t rows_len)
+{
+    struct hunk_answer f = hunk_front(input, len, text, 4 * len);
+    struct hunk_answer a = hunk_blocks(text, f.count, rows, rows_len);
+    for (uint64_t i = 0; a.number == HUNK_OK && i < a.count && rows[i].place < f.place; i++)
+        show_block(&rows[i]);
 }
 
 struct hunk_answer load_pieces(const struct hunk_place *places, struct hunk_answer t, uint8_t *memory, uint8_t *piece)
