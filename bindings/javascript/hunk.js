@@ -292,6 +292,15 @@ export class Hunk {
     }
   }
 
+  /** A file that is accepted: what stands before the fault of the bytes, which the text begins with, and what closes that. It is
+   * empty where their header is refused. */
+  front(bytes) {
+    return this.#with(bytes, (lease, file) => {
+      const { count } = this.#memory.call("hunk_front", ...file, 0n, 0n);
+      return this.#written("hunk_front", lease, file, count);
+    });
+  }
+
   /** The file without its names, symbols and debug data. */
   strip(bytes) {
     return this.#with(bytes, (lease, file, { length }) => this.#written("hunk_strip", lease, file, length));

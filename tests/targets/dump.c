@@ -182,6 +182,13 @@ static void plain_file(void)
     printf("  %08" PRIx32 " %" PRIu64 "\n", sum(text, a.count), hunk_input_place(bytes, len, a.count));
 }
 
+static void front_of_file(void)
+{
+    struct hunk_answer a = hunk_front(bytes, len, text, MOST);
+    say("front", a);
+    printf("  %08" PRIx32 "\n", sum(text, a.count));
+}
+
 static void say_reasons(void)
 {
     for (uint32_t number = 0; number < 40; number++) {
@@ -214,6 +221,7 @@ int main(void)
         references_of_file();
         strip_file();
         plain_file();
+        front_of_file();
         load_file();
     }
     return 0;

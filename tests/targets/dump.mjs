@@ -119,6 +119,12 @@ function plainFile(hunk, bytes) {
   say(`  ${sum(hunk.plain(bytes))} ${hunk.inputPlace(bytes, length)}`);
 }
 
+function frontOfFile(hunk, bytes) {
+  const { hunks, bytes: place, text } = hunk.front(bytes);
+  say(`front ${hunks} ${place} ${text.length}`);
+  say(`  ${sum(text)}`);
+}
+
 const [module, way] = process.argv.slice(2);
 const isInPlace = way === "in-place";
 const hunk = await Hunk.open(readFileSync(module));
@@ -131,6 +137,7 @@ for (const name of readFileSync(0, "utf8").split("\n").filter(Boolean)) {
   for (const table of TABLES) list(hunk, table, bytes);
   stripFile(hunk, bytes);
   plainFile(hunk, bytes);
+  frontOfFile(hunk, bytes);
   loadFile(hunk, bytes);
   if (isInPlace) bytes.free();
   if (lines.length > 100000) process.stdout.write(lines.splice(0).join("\n") + "\n");
