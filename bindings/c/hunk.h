@@ -547,21 +547,24 @@ uint64_t hunk_input_place(const uint8_t *bytes, uint64_t bytes_len, uint64_t pla
  * hunk_front writes another file that begins as it does and is accepted. So they list what stands
  * before the fault.
  *
- * The front of an input is the longest run of its first longwords that ends where a block word of
- * an open hunk would come, and of which none is refused: after the table, after a block, or after
- * an END where the table has a hunk left. So the front of a whole file ends before its last END.
- * What closes a front is END, before it a BSS block of no longwords where the open hunk has no
- * CODE, DATA or BSS block yet, and then such a block and END for each hunk that is left.
+ * The front of an input is the longest run of its first longwords that ends where a block word may
+ * come, and of which none is refused: after the table of a load file, after the name of a unit,
+ * after a block, or after an END, but for the last of a load file. So the front of a load file that
+ * is whole ends before its last END. What closes a front is END, where a hunk is open, before it a
+ * BSS block of no longwords where that has no CODE, DATA or BSS block yet; and then such a block
+ * and END for each hunk of the table that is left.
  */
 
-/* Writes the front of the bytes to the text, and what closes it.
+/* Writes the front of the bytes to the text, and what closes it. Which kind of file they begin as
+ * is as at hunk_check.
  *
  *   bytes   the input, of any bytes
  *   text    where the file goes: four times as many bytes as there are in are always enough
  *
- * HUNK_OK       hunk: the hunks of the file, 1 or more; place: the bytes of the front; count: the
- *               bytes that were written. All are 0 where there is no front: the bytes begin as no
- *               load file, or its header is refused or not whole.
+ * HUNK_OK       hunk: the hunks of a load file, 1 or more; 0 of an object file; place: the bytes of
+ *               the front; count: the bytes that were written. All are 0 where there is no front:
+ *               the bytes begin as neither kind of file, or the header of the load file, or the
+ *               first unit's word and name, are refused or not whole.
  * HUNK_NO_ROOM  the text is too short. count: the bytes that are needed; hunk and place as at
  *               HUNK_OK. With text_len 0 this asks for them.
  *

@@ -1,22 +1,26 @@
-"""front.py VECTORS..: holds hunk_front of the library that LIBHUNK names to a model of it, which is written from bindings/c/hunk.h
-and docs/FORMAT.md: on the texts of the conformance suite, each cut at each byte, and with each longword changed to others. Of each
-it also sees that a text that is a byte too short stays as it was. Prints the first that differ, and ends with status 1 where one
-does, or where too few were compared."""
+"""front.py VECTORS..: holds hunk_front of the library that LIBHUNK names to a model of it, which is written from hunk.h and
+docs/FORMAT.md. They are compared on the texts of the conformance suite, each cut at each byte, and with each longword changed to
+others; also where the text is a byte too short. Prints the first that differ, and ends with status 1 where one does, or where too
+few were compared."""
 
 import ctypes
 import os
 import pathlib
 import sys
 
-NAME, CODE, DATA, BSS, RELOC32, SYMBOL, DEBUG, END, HEADER = (
-    0x3E8, 0x3E9, 0x3EA, 0x3EB, 0x3EC, 0x3F0, 0x3F1, 0x3F2, 0x3F3)
+UNIT, NAME, CODE, DATA, BSS, RELOC32, EXT, SYMBOL, DEBUG, END, HEADER = (
+    0x3E7, 0x3E8, 0x3E9, 0x3EA, 0x3EB, 0x3EC, 0x3EF, 0x3F0, 0x3F1, 0x3F2, 0x3F3)
+RELOCATIONS = (RELOC32, 0x3ED, 0x3EE, 0x3F7, 0x3F8, 0x3F9, 0x3FD, 0x3FE)
+# The types of entries of an EXT block: definitions, and references, of which some have a size before their count.
+DEFINITIONS, COMMONS, REFERENCES = (0, 1, 2), (130, 137), range(129, 140)
 # The types that have names: of the numbers between the first and the last all but one.
 KNOWN = {*range(0x3E7, 0x3FF)} - {0x3F4}
 ADVISORY, BOTH_MEMORIES = 1 << 29, 3 << 30
 NO_ROOM = 32
-# What a longword is changed to, beside its neighbours and what it is with another flag.
-OTHERS = (0, 1, 2, 4, 0x3E7, NAME, CODE, DATA, BSS, RELOC32, 0x3ED, 0x3EF, SYMBOL, DEBUG, END, HEADER, 0x3F5, 0x3FA, 0x3FC, 0x500,
-          0x20000500, 0x400003EB, 0xC00003E9, 0x1000001, 0x81000001, 0x82000000, 0xFF000000, 0x3FFFFFFF, 0xFFFFFFFF)
+# What each longword is changed to.
+OTHERS = (0, 1, 2, 4, UNIT, NAME, CODE, DATA, BSS, RELOC32, 0x3ED, EXT, SYMBOL, DEBUG, END, HEADER, 0x3FA, 0x3FC, 0x500,
+          0x200003F4, 0x200003F5, 0x20000500, 0x400003EB, 0xC00003E9, 0x1000001, 0x81000001, 0x82000000, 0xFF000000, 0x3FFFFFFF,
+          0xFFFFFFFF)
 
 
 class Stopped(Exception):
@@ -38,6 +42,10 @@ class Longs:
             raise Stopped
         self.taken += 1
         return self.all[self.taken - 1]
+
+    @property
+    def next(self):
+        return self.all[self.taken] if self.taken < len(self.all) else None
 
     def skip(self, count):
         if count > len(self.all) - self.taken:
@@ -65,7 +73,7 @@ def take_symbols(longs):
         longs.skip((word & 0xFFFFFF) + 1)
 
 
-def take_groups(longs, targets, size):
+def take_groups(longs, targets=1 << 32, size=1 << 33):
     """The groups of a relocation block, in a hunk of so many bytes."""
     while count := longs.take(lambda it: it == 0 or size > 0):
         longs.take(lambda it: it < targets)
@@ -73,27 +81,18 @@ def take_groups(longs, targets, size):
             longs.take(lambda it: it + 4 <= size)
 
 
-class LoadHunks:
-    """The hunks of a load file, block by block."""
+def take_entries(longs):
+    while word := longs.take(lambda it: it >> 24 in DEFINITIONS or it >> 24 in REFERENCES):
+        longs.skip((word & 0xFFFFFF) + (word >> 24 in DEFINITIONS or word >> 24 in COMMONS))
+        if word >> 24 in REFERENCES:
+            longs.skip(longs.take())
 
-    def __init__(self, sizes):
-        self.sizes = sizes
-        self.ended, self.has_content = 0, False
 
-    def take_block(self, longs):
-        kind = longs.take(self.may_stand) & ~(7 << 29)
-        if kind == END:
-            self.ended, self.has_content = self.ended + 1, False
-        elif kind in (CODE, DATA, BSS):
-            size = longs.take(lambda it: it & 0x3FFFFFFF <= self.sizes[self.ended]) & 0x3FFFFFFF
-            longs.skip(0 if kind == BSS else size)
-            self.has_content = True
-        elif kind == RELOC32:
-            take_groups(longs, len(self.sizes), 4 * self.sizes[self.ended])
-        elif kind == SYMBOL:
-            take_symbols(longs)
-        else:
-            longs.skip(longs.take(lambda it: kind != NAME or it >> 24 == 0))
+class Hunks:
+    """Hunks, block by block, of which the open one may have its content."""
+
+    def __init__(self):
+        self.has_content = False
 
     def may_stand(self, word):
         """Whether a block with this word may come next."""
@@ -104,30 +103,103 @@ class LoadHunks:
             return bool(word & ADVISORY)
         if kind in (CODE, DATA, BSS):
             return not self.has_content
-        return kind in (NAME, SYMBOL, DEBUG) or kind in (RELOC32, END) and self.has_content
+        return kind in (NAME, SYMBOL, DEBUG) or self.has_content and (kind == END or kind in self.after_content)
+
+    def take_block(self, longs):
+        """Takes a block, and gives its kind."""
+        kind = longs.take(self.may_stand) & ~(7 << 29)
+        if kind == END:
+            self.has_content = False
+        elif kind in (CODE, DATA, BSS):
+            size = longs.take(self.may_have) & 0x3FFFFFFF
+            longs.skip(0 if kind == BSS else size)
+            self.has_content = True
+        elif kind in RELOCATIONS:
+            self.take_offsets(longs)
+        elif kind in (SYMBOL, EXT):
+            (take_symbols if kind == SYMBOL else take_entries)(longs)
+        else:
+            longs.skip(longs.take(lambda it: kind != NAME or it >> 24 == 0))
+        return kind
 
     @property
     def closing(self):
-        """What closes the hunk that is open and those that are left."""
-        left = len(self.sizes) - self.ended
-        return [BSS, 0][2 * self.has_content :] + [END] + [BSS, 0, END] * (left - 1)
+        """What closes the open hunk."""
+        return [END] if self.has_content else [BSS, 0, END]
+
+
+class LoadHunks(Hunks):
+    """Those of a load file."""
+
+    after_content = (RELOC32,)
+
+    def __init__(self, longs):
+        super().__init__()
+        self.sizes = table_of(longs)
+        self.hunks, self.ended = len(self.sizes), 0
+
+    def may_have(self, word):
+        """Whether this may be the size word of the content."""
+        return word & 0x3FFFFFFF <= self.sizes[self.ended]
+
+    def take_offsets(self, longs):
+        take_groups(longs, self.hunks, 4 * self.sizes[self.ended])
+
+    def step(self, longs):
+        """Takes what stands up to the next place at which a front may end. Nothing does after the last END."""
+        self.ended += self.take_block(longs) == END
+        if self.ended == self.hunks:
+            raise Stopped
+
+    @property
+    def closing(self):
+        return super().closing + [BSS, 0, END] * (self.hunks - self.ended - 1)
+
+
+class ObjectHunks(Hunks):
+    """Those of an object file."""
+
+    after_content = (*RELOCATIONS, EXT)
+
+    def __init__(self, longs):
+        super().__init__()
+        self.hunks, self.is_open = 0, False
+        self.take_unit(longs)
+
+    def may_have(self, _):
+        return True
+
+    def take_offsets(self, longs):
+        take_groups(longs)
+
+    def take_unit(self, longs):
+        longs.take(lambda it: it == UNIT)
+        longs.skip(longs.take(lambda it: it >> 24 == 0))
+
+    def step(self, longs):
+        if not self.is_open and longs.next == UNIT:
+            self.take_unit(longs)
+        else:
+            self.is_open = self.take_block(longs) != END
+
+    @property
+    def closing(self):
+        return super().closing if self.is_open else []
 
 
 def front_of(data):
     """The hunks of a load file, the longwords of the front, and what closes it."""
     longs = Longs(data)
     try:
-        hunks = LoadHunks(table_of(longs))
+        hunks = (ObjectHunks if longs.next == UNIT else LoadHunks)(longs)
     except Stopped:
         return 0, 0, []
-    front = longs.taken, hunks.closing
     try:
-        while hunks.ended < len(hunks.sizes):
+        while True:
             front = longs.taken, hunks.closing
-            hunks.take_block(longs)
+            hunks.step(longs)
     except Stopped:
-        pass
-    return (len(hunks.sizes), *front)
+        return (hunks.hunks, *front)
 
 
 # ---- The library.
@@ -168,12 +240,17 @@ def fault_of(data):
 # ---- The inputs.
 
 
+def others_of(word):
+    """What a longword is changed to. What may begin an entry also to those of all other types."""
+    near = {word + 1, word - 1, word ^ ADVISORY, word ^ 1 << 30, word ^ 1 << 31}
+    kinds = {(kind << 24) + (word & 0xFFFFFF) for kind in (*range(4), *range(128, 141))}
+    return near.union(OTHERS, kinds if word >> 24 in (*DEFINITIONS[1:], *REFERENCES) else ())
+
+
 def changed(data):
     """The text with one of its longwords changed."""
     for at in range(0, len(data), 4):
-        word = int.from_bytes(data[at : at + 4], "big")
-        near = (word + 1, word - 1, word ^ ADVISORY, word ^ 1 << 30, word ^ 1 << 31)
-        for it in {*OTHERS, *near}:
+        for it in others_of(int.from_bytes(data[at : at + 4], "big")):
             yield data[:at] + (it & 0xFFFFFFFF).to_bytes(4, "big") + data[at + 4 :]
 
 
