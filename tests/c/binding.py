@@ -31,6 +31,12 @@ BROKEN = bytes.fromhex(
     "000003f3 00000000 00000002 00000000 00000001 00000002 40000002"
     "000003e9 00000002 4e714e71 4e714e75 000003f0 00000001 5f6d0000 00000004 00000000 000003f2"
     "000003ea 00000001 00000007 000003ec 00000001 00000002 00000000 00000000 000003f2")
+# A unit `a` of a CODE of 4 bytes, whose relocation of hunk 2 lies outside, an EXT block and END; and a hunk with a name, before
+# OVERLAY.
+BROKEN_OBJECT = bytes.fromhex(
+    "000003e7 00000001 61000000 000003e9 00000001 4e714e75 000003ec 00000001 00000002 00000004 00000000"
+    "000003ef 01000001 5f610000 00000002 81000001 5f620000 00000001 00000000 00000000 000003f2"
+    "000003e8 00000001 62000000 000003f5 00000000")
 
 
 # ---- The conformance suite.
@@ -211,7 +217,27 @@ def partial_calls(one, two):
             lambda: repr(read(BAD_WIDE, wide=True)),
             "<load file, 40 bytes, 1 hunks, refused at byte 46: BadTarget (23)>",
         ),
+        **partial_object_calls(),
         "partial of a wide file": (lambda: (read(WIDE, wide=True).refusal, read(WIDE).refusal.place), (None, 40)),
+    }
+
+
+def partial_object_calls():
+    """The same of an object file."""
+    def read(size):
+        return hunk.read(BROKEN_OBJECT[:size], partial=True)
+
+    code = hunk.Hunk(4, "any", 0, 0, 0, hunk.Kind.CODE)
+    return {
+        "partial object": (lambda: repr(read(None)), "<object file, 96 bytes, 2 hunks, refused at byte 96: Overlay (11)>"),
+        "its hunks": (lambda: read(None).hunks, [code, hunk.Hunk(0, "any", 0, 0, 1, None)]),
+        "its units": (lambda: read(None).units, [hunk.Unit(0, b"a", 2)]),
+        "its blocks": (lambda: [it.kind.name for it in read(None).blocks], ["CODE", "RELOC32", "EXT", "END", "NAME"]),
+        "its entries": (lambda: [(it.name, len(it.references)) for it in read(None).entries], [(b"_a", 0), (b"_b", 1)]),
+        "its findings": (lambda: read(None).findings, []),
+        "an open hunk": (lambda: (read(79).hunks, len(read(79).blocks), read(79).units), ([code], 2, [hunk.Unit(0, b"a", 1)])),
+        "a unit alone": (lambda: (read(13).hunks, read(13).units, read(13).size), ([], [hunk.Unit(0, b"a", 0)], 12)),
+        "whole": (lambda: (read(84).refusal, len(read(84).findings), read(84).hunks), (None, 2, [code])),
     }
 
 
@@ -261,6 +287,7 @@ def wrong_calls(texts):
         "refused at byte 46: BadTarget (23)": lambda: hunk.read(BAD_WIDE, wide=True),
         "refused at byte 24: Truncated (26)": lambda: hunk.read(BROKEN[:26], partial=True),
         "refused at byte 0: NotLoadFile (1)": lambda: hunk.read(b"text", partial=True),
+        "refused at byte 8: Truncated (26)": lambda: hunk.read(BROKEN_OBJECT[:11], partial=True),
         "base is no number of 32 bits: 4294967296": lambda: hunk.load(one, 1 << 32),
     }
     for wanted, call in errors.items():

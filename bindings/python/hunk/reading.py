@@ -85,8 +85,9 @@ class File:
     def hunks(self) -> list[Hunk]:
         contents = [it for it in self._listed_blocks if it.kind in (Kind.CODE, Kind.DATA, Kind.BSS)]
         if self.is_object:
-            return [Hunk(it.memory, MEMORY[it.flags >> 1], 0, it.unit, it.hunk, it.kind) for it in contents]
-        rows = table(self.data, (1 << 64) - 1)
+            rows = [Hunk(it.memory, MEMORY[it.flags >> 1], 0, it.unit, it.hunk) for it in contents]
+        else:
+            rows = table(self.data, (1 << 64) - 1)
         return [row._replace(kind=it.kind if it.place < self.size else None) for row, it in zip(rows, contents)]
 
     @cached_property
@@ -131,7 +132,8 @@ class File:
 
     @cached_property
     def findings(self) -> list[Finding]:
-        return check(self._listed)
+        """None of a file that is refused, as the target of a relocation may be a hunk after the fault."""
+        return [] if self.refusal else check(self.data)
 
 
 def _before_fault(data: Data) -> File:
@@ -156,8 +158,9 @@ def read(data: Data, wide: bool = False, partial: bool = False) -> File:
     With `wide`, a load file may have short relocations, and leave END out: its plain spelling is read. The HunkError of a
     refusal has its place in `data`.
 
-    With `partial`, a load file whose header is accepted is never refused: the File has what stands before the fault, whole
-    blocks alone, and the HunkError as its `refusal`. Hunks without a content there have the `kind` None."""
+    With `partial`, no file is refused whose header, or whose first unit's name, is accepted: the File has what stands before
+    the fault, whole blocks alone, and the HunkError as its `refusal`. Hunks without a content there have the `kind` None, and
+    those of an object file no size."""
     opened = _before_fault if partial else File
     if not wide:
         return opened(data)

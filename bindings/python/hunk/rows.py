@@ -59,7 +59,7 @@ kind_of, flags_of = lru_cache(maxsize=None)(Kind), lru_cache(maxsize=None)(Flags
 class Hunk(NamedTuple):
     """A hunk: its bytes in memory, and which memory it asks for: "any", "chip", "fast" or "attributes".
 
-    `attributes` is 0 unless the memory is "attributes". `kind` is that of its content, None where only a header was read."""
+    `attributes` is 0 unless the memory is "attributes". `kind` is that of its content, None where that was not read."""
 
     size: int
     memory: str
