@@ -111,12 +111,21 @@ fn wrong_fronts(one: &[u8]) -> Vec<String> {
     let second = Hunk { number: 1, memory: Memory::Chip, kind: Some(Kind::DATA), ..first };
     let kinds: Vec<Kind> = file.blocks().iter().map(|it| it.kind).collect();
     let closed = [&broken[..68], &bytes_of("000003eb00000000000003f2")].concat();
+    // CODE with a relocation of hunk 2, END, and a hunk with a name alone.
+    let unit = bytes_of("000003e70000000161000000000003e9000000014e754e75000003ec000000010000000200000000");
+    let object = [unit, bytes_of("00000000000003f2000003e8000000016200000000")].concat();
+    let object_front = Front::of(&object).unwrap();
+    let begun = object_front.read().unwrap();
+    let (code, none) = (Hunk { size: 4, ..first }, Hunk { number: 1, size: 0, kind: None, ..first });
     let checks = [
         ("front", front.place() == 80 && front.bytes() == [&broken[..80], &bytes_of("000003f2")].concat()),
         ("blocks of a front", kinds == [Kind::CODE, Kind::SYMBOL, Kind::END, Kind::DATA]),
         ("hunks of a front", file.hunks() == [first, second] && file.bytes() == &broken[..80]),
         ("no content", less.hunks() == [first, Hunk { kind: None, ..second }] && less.blocks().len() == 3),
         ("what closes it", cut.place() == 68 && cut.bytes() == closed && less.bytes() == &broken[..68]),
+        ("front of an object file", object_front.place() == 60 && object_front.bytes()[60..] == closed[68..]),
+        ("its hunks", begun.hunks() == [code, none] && begun.units()[0].hunks == 2 && begun.blocks().len() == 4),
+        ("its findings", begun.findings().is_empty() && begun.relocations().len() == 1),
         ("no front", Front::of(&broken[..27]).is_none() && Front::of(b"text").is_none()),
         ("front of a file", Front::of(one).unwrap().place() == 36 && Front::of(one).unwrap().bytes() == one),
     ];

@@ -79,12 +79,13 @@ impl<'a> File<'a> {
         })
     }
 
-    /// The same up to this byte, after which it has only BSS blocks and END.
+    /// The same up to this byte, after which it has only BSS blocks and END. It has no findings: a target may be a hunk after it.
     pub(crate) fn up_to(mut self, place: usize) -> File<'a> {
         self.bytes = Bytes(&self.bytes.0[..place]);
         self.blocks.retain(|it| it.place < place as u64);
         let whole = self.blocks.iter().filter(|it| it.kind.is_content()).count();
         self.hunks.iter_mut().skip(whole).for_each(|it| it.kind = None);
+        self.findings.clear();
         self
     }
 

@@ -2,7 +2,7 @@
 
 use crate::{raw, Error, File};
 
-/// The front of a load file, which ends before the block in which it is refused, and a file that begins with it.
+/// The front of a load file or an object file, which ends before the block in which that is refused; and a file of it.
 ///
 /// ```
 /// # let longs = [0x3F3_u32, 0, 2, 0, 1, 2, 1, 0x3E9, 2, 0x4EF9_0000, 0x0000_4E71, 0x3EC, 1, 1, 2, 0, 0x3F0, 1,
@@ -23,7 +23,8 @@ pub struct Front {
 }
 
 impl Front {
-    /// Of these bytes. Where they begin as no load file, or its header is refused or not whole, there is none.
+    /// Of these bytes. There is none where they begin as neither kind of file, or where the header, or the first unit's name, is
+    /// refused or not whole.
     ///
     /// ```
     /// # let longs = [0x3F3_u32, 0, 2, 0, 1, 2, 1, 0x3E9, 2, 0x4EF9_0000, 0x0000_4E71, 0x3EC, 1, 1, 2, 0, 0x3F0, 1,
@@ -71,7 +72,8 @@ impl Front {
         &self.text
     }
 
-    /// What stands in the front: all hunks of the table, those without a content there with no kind, and the whole blocks.
+    /// What stands in the front: all hunks of the table, or of an object file those that have begun, and the whole blocks. A hunk
+    /// whose content is not there has no kind. There are no findings, as a target may be a hunk after the fault.
     ///
     /// ```
     /// use hunk::Kind;
