@@ -203,8 +203,8 @@ export class Hunk {
   inputPlace(bytes: Bytes, place: number): number;
   wide<Answer>(bytes: Bytes, call: (plain: Uint8Array) => Answer): Answer;
   strip(bytes: Bytes): FileAnswer & { text: Uint8Array };
-  /** What stands before the fault of a load file, as a file that all calls take: `text` begins with so many `bytes` of the input,
-   * all whole blocks, and goes on with what closes its hunks. Rows of it whose place is below `bytes` are the input's. Where the
-   * header itself is refused, `hunks` and `bytes` are 0, and the text is empty. */
+  /** What stands before the fault of a file, as a file that all calls take: `text` begins with so many `bytes` of the input, all
+   * whole blocks, and goes on with what closes its hunks. Rows of it whose place is below `bytes` are the input's. Where the
+   * header, or the first unit's name, is refused, `bytes` is 0, and the text is empty. */
   front(bytes: Bytes): FileAnswer & { text: Uint8Array };
 }
