@@ -152,6 +152,15 @@ def hex_lines(data):
     return lines
 
 
+def block_lines(data):
+    """The blocks of a file, or those before its fault, as docs/CALLING.md takes them."""
+    file = hunk.read(data, partial=True)
+    lines = [f"{it.place:08x} hunk {it.hunk} {it.kind.name}" for it in file.blocks]
+    if file.refusal:
+        lines.append(f"byte {file.refusal.place}: {file.refusal.meaning}")
+    return lines
+
+
 def raises_type_error(call, data):
     try:
         call(data)
@@ -202,6 +211,10 @@ def partial_calls(one, two):
     return {
         "partial": (lambda: repr(read(BROKEN)), "<load file, 80 bytes, 2 hunks, refused at byte 88: BadTarget (23)>"),
         "partial blocks": (lambda: kinds(BROKEN), [*first, (1, "DATA", 68)]),
+        "partial lines": (
+            lambda: block_lines(BROKEN)[2:],
+            ["00000040 hunk 0 END", "00000044 hunk 1 DATA", "byte 88: the target of a relocation is no hunk of the file"],
+        ),
         "partial hunks": (lambda: read(BROKEN).hunks, [code, data]),
         "partial symbols": (lambda: [it.name for it in read(BROKEN).symbols], [b"_m"]),
         "partial lists": (lambda: (read(BROKEN).relocations, read(BROKEN).entries, read(BROKEN).findings), ([], [], [])),
