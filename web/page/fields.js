@@ -71,11 +71,11 @@ export function placeIn(file, unit, hunk, offset) {
   const number = contents.number(unit, hunk);
   if (number === undefined) return null;
   const isInside = offset < (file.table ? file.table.rows.get(hunk, "bytes") : contents.get(number, "memory"));
-  const address = file.table ? ` = ${hex((file.base + file.starts[hunk] + offset) >>> 0)}` : "";
+  const address = file.isLoadable ? ` = ${hex((file.base + file.starts[hunk] + offset) >>> 0)}` : "";
   return {
     text: `hunk ${hunk} + ${hex(offset)}${address}${isInside ? "" : ", outside of it"}`,
     place: contents.place(number, offset),
-    memory: file.table && isInside ? file.starts[hunk] + offset : undefined,
+    memory: file.isLoadable && isInside ? file.starts[hunk] + offset : undefined,
   };
 }
 

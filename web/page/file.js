@@ -2,6 +2,7 @@
 
 import { HunkError } from "../../bindings/javascript/hunk.js";
 import { Contents } from "./contents.js";
+import { Front } from "./front.js";
 import { Labels } from "./labels.js";
 import { Parts } from "./parts.js";
 
@@ -46,14 +47,20 @@ export function summary(hunk, bytes) {
   return { kind, hunks, length, units: hunk.units(bytes, 0).count, findings: checked.count };
 }
 
-/** The plain spelling of bytes that are refused, and what that is, where it is accepted. */
-export function inPlain(hunk, bytes, { refusal }) {
+/** The plain spelling of bytes that are refused, what that is, and the byte of the input where it is refused. */
+function plainReading(hunk, input, { refusal }) {
   if (!OF_SPELLING.includes(refusal?.number)) return null;
-  const spelling = hunk.spelling(bytes);
+  const spelling = hunk.spelling(input);
   if (spelling.shortBlocks + spelling.ends === 0) return null;
-  const plain = hunk.plain(bytes);
-  const about = summary(hunk, plain);
-  return about.refusal ? null : { plain, about: { ...about, spelling, strict: refusal } };
+  const bytes = hunk.plain(input);
+  const about = { ...summary(hunk, bytes), spelling, strict: refusal };
+  return { bytes, about, place: about.refusal && hunk.inputPlace(input, about.refusal.place) };
+}
+
+/** The same, where it is accepted. */
+export function inPlain(hunk, bytes, about) {
+  const reading = plainReading(hunk, bytes, about);
+  return reading?.about.refusal ? null : reading;
 }
 
 /** The bytes that a load file declares; there are 65,536 hunks at most. */
@@ -61,26 +68,44 @@ function declared(hunk, bytes) {
   return hunk.table(bytes, Number.MAX_SAFE_INTEGER).size;
 }
 
-/** A file that is looked at. Its lists are read when they are first asked for. Where only the plain spelling of the input is
- * accepted, that is the file. */
+/** A file that is looked at. Its lists are read when they are first asked for. Where it is refused they have what stands before
+ * the fault, if that is anything: its `front`. */
 export class Examined {
-  constructor(hunk, input, name) {
-    const strict = summary(hunk, input);
-    const spelled = inPlain(hunk, input, strict);
+  /** Which of its readings is shown: 0 is the input as it is, 1 its plain spelling, as where only that is accepted. */
+  constructor(hunk, input, name, which) {
+    const about = summary(hunk, input);
+    const plain = plainReading(hunk, input, about);
+    this.readings = [{ bytes: input, about, place: about.refusal?.place }, ...(plain ? [plain] : [])];
+    this.reading = this.readings[which ?? (plain && !plain.about.refusal ? 1 : 0)];
     this.hunk = hunk;
     this.input = input;
-    this.bytes = spelled?.plain ?? input;
+    this.bytes = this.reading.bytes;
     this.name = name;
-    this.about = spelled?.about ?? strict;
+    this.about = this.reading.about;
     this.lists = {};
-    if (this.about.refusal) return;
     this.table = null;
+    this.front = null;
+    this.hasBlocks = false;
+    if (this.about.refusal && !this.#readFront()) return;
     if (this.about.hunks > 0) this.#readTable();
     const { rows, count } = this.list("blocks");
     this.blocks = rows;
     const units = this.table ? null : this.list("units");
     this.hasBlocks = rows.length === count && units?.rows.length === units?.count;
     this.blockPlaces = Float64Array.from({ length: rows.length }, (_, i) => rows.get(i, "place"));
+  }
+
+  /** Whether it can be loaded: all of it, and not only what stands before a fault. */
+  get isLoadable() {
+    return this.table !== null && this.front === null;
+  }
+
+  /** Reads what stands before the fault; whether that is anything. */
+  #readFront() {
+    const found = this.hunk.front(this.bytes);
+    if (found.bytes > 0) this.front = new Front(found);
+    this.about = { ...this.about, hunks: found.hunks, length: found.bytes };
+    return this.front !== null;
   }
 
   #readTable() {
@@ -98,8 +123,13 @@ export class Examined {
 
   /** The rows of a table of the library, where they are not too many. */
   list(name) {
-    this.lists[name] ??= this.hunk[name](this.bytes, name === "blocks" ? MOST_BLOCKS : MOST_ITEMS);
+    this.lists[name] ??= this.#listed(name);
     return this.lists[name];
+  }
+
+  #listed(name) {
+    const listed = this.hunk[name](this.front?.text ?? this.bytes, name === "blocks" ? MOST_BLOCKS : MOST_ITEMS);
+    return this.front ? this.front.only(name, listed) : listed;
   }
 
   /** The memory of a load file from this address on, or why there is none. */

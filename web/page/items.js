@@ -1,10 +1,12 @@
 // What a byte of a file belongs to: an item of its header, of a unit, or of a block, with what it says.
 //
 // An item is {from, to, where, name, says, targets}: its bytes, the texts of it, and what it leads to. A target is {text, place,
-// memory}: a byte of the file, and one of the memory. All this is of files that are accepted, so each block is whole.
+// memory}: a byte of the file, and one of the memory. All this is of files that are accepted, or of what stands before the fault
+// of others, so each block is whole.
 
 import { KINDS } from "../../bindings/javascript/kinds.js";
 import { fieldAt, leadsTo } from "./fields.js";
+import { markAtFault } from "./front.js";
 import * as names from "./names.js";
 import { entryItem, groupItem, symbolItem } from "./parts.js";
 
@@ -63,7 +65,7 @@ function contentItem(file, row, where, at) {
   const memory = file.table ? file.starts[row.hunk] + field.offset : undefined;
   const texts = [file.table && file.labels().before(memory), field.says];
   const isWhole = to - from === field.width;
-  const targets = [isWhole && leadsTo(file, row, field, longAt(file.bytes, from)), file.table && memoryTarget(file, memory)];
+  const targets = [isWhole && leadsTo(file, row, field, longAt(file.bytes, from)), file.isLoadable && memoryTarget(file, memory)];
   return { from, to, where, name, says: texts.filter(Boolean).join(", "), targets: targets.filter(Boolean) };
 }
 
@@ -113,15 +115,16 @@ function blockItem(file, row, at) {
 /** A longword of which no more is known. */
 const plainItem = (from, where) => ({ from, to: from + 4, where, name: "", says: "" });
 
-function refusedItem({ place, reason }, from) {
-  return plainItem(from, from === place ? `refused here, ${reason}` : "");
+function refusedItem(file, from) {
+  const { place, reason } = file.about.refusal;
+  return plainItem(from, from === place ? `refused here, ${reason}` : (markAtFault(file, from)?.title ?? ""));
 }
 
 /** The item of a file to which a byte belongs. */
 export function itemOfFile(file, at) {
   const { refusal, length } = file.about;
   const from = at - (at % 4);
-  if (refusal) return refusedItem(refusal, from);
+  if (refusal && at >= length) return refusedItem(file, from);
   if (at >= length) return plainItem(from, "after the file");
   if (!file.hasBlocks) return plainItem(from, "");
   const block = lastAt(file.blockPlaces, at);

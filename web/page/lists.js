@@ -2,6 +2,7 @@
 
 import { nameOf } from "../../bindings/javascript/hunk.js";
 import { Filter } from "./filter.js";
+import { stateOfHunk } from "./front.js";
 import { Grid } from "./grid.js";
 import * as names from "./names.js";
 
@@ -12,13 +13,17 @@ const whereOf = (file, row) => (file.about.hunks > 0 ? row.hunk : `${row.unit}.$
 
 function hunkRows(file) {
   const counts = file.relocationCounts();
+  // A file that is refused lies nowhere.
+  const [where, whereOf] = file.front
+    ? ["read", (i) => stateOfHunk(file, i)]
+    : ["base", (i) => hex((file.base + file.starts[i]) >>> 0)];
   return {
-    columns: [["hunk", "4em", true], ["bytes", "6em", true], ["memory", "minmax(5em, 1fr)"], ["base", "5.6em"], ["relocated", "5em", true]],
+    columns: [["hunk", "4em", true], ["bytes", "6em", true], ["memory", "minmax(5em, 1fr)"], [where, "5.6em"], ["relocated", "5em", true]],
     count: file.starts.length,
     item: (i) => file.contents().target(i),
     cells(i) {
       const row = file.table.rows.at(i);
-      const base = hex((file.base + file.starts[i]) >>> 0);
+      const base = whereOf(i);
       const number = { text: i, chip: names.hunkColour(i) };
       return [number, row.bytes.toLocaleString("en"), names.memoryText(row), base, counts[i].toLocaleString("en")];
     },
@@ -60,7 +65,7 @@ function unitRows(file) {
 function symbolRows(file) {
   const { rows } = file.list("symbols");
   const name = ["name", "minmax(9em, 1fr)"];
-  const isLoad = Boolean(file.table);
+  const isLoad = file.isLoadable;
   return {
     columns: [["at", "5.6em"], ["hunk", "3em", true], ["value", "5.6em"], ...(isLoad ? [["address", "5.6em"]] : []), name],
     count: rows.length,

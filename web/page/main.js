@@ -4,6 +4,7 @@ import { Hunk } from "../../bindings/javascript/hunk.js";
 import { BaseField } from "./base.js";
 import { droppedFiles, pickedFiles } from "./dropped.js";
 import { Examined } from "./file.js";
+import { beforeText, showLines } from "./front.js";
 import { HexView } from "./hexview.js";
 import { ItemLine } from "./itemline.js";
 import { copyLink, forgetLink, fromHex, linkOf, moveLink, readLink } from "./link.js";
@@ -18,6 +19,7 @@ import { fileLegend, fileScene, memoryScene } from "./pictures.js";
 import { bytesOf, PARTIAL, unreadText } from "./reading.js";
 import { classOf, toneOf, whyText } from "./reasons.js";
 import { sourceOfFile, sourceOfMemory } from "./sources.js";
+import { showReadings } from "./spellings.js";
 import { MODULES } from "./data.js";
 
 const $ = (id) => document.getElementById(id);
@@ -43,17 +45,24 @@ const base = new BaseField($("base"), $("base-note"), rebase);
 /** By its first longword. Its class says what is known of the whole file. */
 const BEGINS = { "load file": "Begins as a load file", "object file": "Begins as an object file" };
 
-function refusalText({ kind, refusal }) {
+const refusedText = ({ reason, number }, place) => `refused at byte ${place} (${hex(place)}), ${reason} (${number}).`;
+
+/** What an input has that its plain spelling has otherwise. */
+function otherwiseText({ shortBlocks, ends }) {
+  const short = shortBlocks > 0 ? [`${counted(shortBlocks, "block")} of short relocations`] : [];
+  const left = ends > 0 ? [`${ends.toLocaleString("en")} END left out`] : [];
+  return `In another spelling, with ${[...short, ...left].join(" and ")}`;
+}
+
+function refusalText({ kind, refusal, spelling }, place) {
   const what = BEGINS[kind] ?? "Neither a load file nor an object file";
-  return `${what}: refused at byte ${refusal.place} (${hex(refusal.place)}), ${refusal.reason} (${refusal.number}).`;
+  if (!spelling) return `${what}: ${refusedText(refusal, place)}`;
+  return `${otherwiseText(spelling)}. Its plain spelling is shown: ${refusedText(refusal, place)}`;
 }
 
 /** Of a file that is shown in its plain spelling: what it has otherwise, and why it is refused as it is. */
 function spelledText({ spelling, strict }, what) {
-  const short = spelling.shortBlocks > 0 ? [`${counted(spelling.shortBlocks, "block")} of short relocations`] : [];
-  const ends = spelling.ends > 0 ? [`${spelling.ends.toLocaleString("en")} END left out`] : [];
-  const found = `In another spelling, with ${[...short, ...ends].join(" and ")}, ${what}. Its plain spelling is shown.`;
-  return `${found} As it is, it is refused at byte ${strict.place} (${hex(strict.place)}), ${strict.reason} (${strict.number}).`;
+  return `${otherwiseText(spelling)}, ${what}. Its plain spelling is shown. As it is, it is ${refusedText(strict, strict.place)}`;
 }
 
 function acceptedText(about) {
@@ -69,9 +78,11 @@ function acceptedText(about) {
 function showVerdict() {
   const { about } = file;
   $("verdict").className = toneOf(classOf(about));
-  $("verdict").textContent = about.refusal ? refusalText(about) : acceptedText(about);
+  $("verdict").textContent = about.refusal ? refusalText(about, file.reading.place) : acceptedText(about);
+  showReadings($("readings"), file, (which) => show(file.input, file.name, which));
+  $("before").textContent = beforeText(file);
   const refusal = about.refusal ?? about.strict;
-  $("why").textContent = refusal ? whyText(refusal) : "";
+  showLines($("why"), refusal ? whyText(refusal) : "");
   $("file-name").textContent = `${file.name}, ${counted(file.input.length, "byte")}`;
 }
 
@@ -86,7 +97,7 @@ function showFile() {
   const length = refusal ? Math.max(bytes.length, refusal.place + 4) : bytes.length;
   fileView.show(bytes, 0, length, sourceOfFile(file));
   if (refusal) fileView.pick(refusal.place, refusal.place + 4);
-  const isDrawn = !refusal && file.hasBlocks;
+  const isDrawn = file.hasBlocks;
   filePicture.show(isDrawn ? fileScene(file, (at) => jump({ place: at })) : null);
   $("file-legend").innerHTML = isDrawn ? legendOf(fileLegend(file)) : "";
 }
@@ -113,10 +124,9 @@ function noMemory(error) {
 }
 
 function showMemory() {
-  const isLoad = Boolean(file.table);
-  $("memory").hidden = !isLoad;
+  $("memory").hidden = !file.isLoadable;
   memory = null;
-  if (!isLoad) return;
+  if (!file.isLoadable) return;
   const [loaded, error] = file.isTooLarge ? [null, null] : file.load(file.base);
   memory = loaded;
   $("memory-note").textContent = memory ? "" : noMemory(error);
@@ -145,28 +155,30 @@ function tellShown() {
   document.body.dataset.shows = ++shows;
 }
 
-function show(bytes, name) {
+/** `which` of the readings of a file is to be shown, where that is said. */
+function show(bytes, name, which) {
   try {
-    showWhole(bytes, name);
+    showWhole(bytes, name, which);
   } catch (error) {
     closeFile(`${name} can't be shown here: ${error.message}`);
     throw error;
   }
 }
 
-function showWhole(bytes, name) {
+function showWhole(bytes, name, which) {
   const began = performance.now();
-  file = new Examined(hunk, bytes, name);
+  file = new Examined(hunk, bytes, name, which);
   file.base = base.address;
   document.body.classList.add("has-file");
   opening.mark(example);
   entitle(name);
-  $("lists").hidden = Boolean(file.about.refusal);
+  const isListed = !file.about.refusal || file.front !== null;
+  $("lists").hidden = !isListed;
   showVerdict();
   showFile();
   showMemory();
   showMap();
-  if (!file.about.refusal) lists.show(file);
+  if (isListed) lists.show(file);
   $("save-stripped").hidden = Boolean(file.about.refusal);
   $("saved").textContent = "";
   $("copied").textContent = "";
@@ -191,7 +203,8 @@ function closeFile(text) {
   file = null;
   memory = null;
   document.body.classList.remove("has-file");
-  for (const id of ["file-name", "why"]) $(id).textContent = "";
+  for (const id of ["file-name", "why", "before"]) $(id).textContent = "";
+  $("readings").hidden = true;
   $("verdict").className = "warn";
   $("verdict").textContent = text;
 }

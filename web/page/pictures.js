@@ -1,6 +1,7 @@
 // Pictures of a file and of its memory, a column for each of so many parts.
 
 import { KINDS } from "../../bindings/javascript/kinds.js";
+import { drawFault, partAtFault } from "./front.js";
 import { blockColour, blockName, counted, hex, hunkColour, lastAt, lastOf, nameText, whereText } from "./names.js";
 
 /** Sizes a canvas to the pixels that it has on the screen. */
@@ -89,6 +90,7 @@ function nextPlace(file, at, block) {
 export function partOfFile(file, at) {
   const { length } = file.about;
   const end = file.bytes.length;
+  if (at >= length && file.about.refusal) return partAtFault(file, at);
   if (at >= length) return { from: length, to: end, text: `after the file, ${bytesText(length, end)}` };
   const block = lastAt(file.blockPlaces, at);
   const from = block < 0 ? 0 : file.blockPlaces[block];
@@ -109,14 +111,21 @@ function unitPlace(file, at) {
 
 export function fileScene(file, go) {
   const { length } = file.bytes;
-  return { ...linear(length), part: (at) => partOfFile(file, at), draw: (canvas) => drawFile(canvas, file), go };
+  const draw = (canvas) => {
+    drawFile(canvas, file);
+    if (file.about.refusal) drawFault(canvas, file);
+  };
+  return { ...linear(length), part: (at) => partOfFile(file, at), draw, go };
 }
 
 /** The colour of each kind of block that a file has; headers have that of END. */
 export function fileLegend(file) {
   const head = file.table ? "HEADER" : "UNIT";
   const name = (kind) => (kind === KINDS.END ? `${head}, END` : blockName(kind));
-  return file.kinds().map((kind) => [blockColour(kind, 68), name(kind)]);
+  const parts = file.kinds().map((kind) => [blockColour(kind, 68), name(kind)]);
+  if (!file.about.refusal) return parts;
+  const header = file.kinds().includes(KINDS.END) ? [] : [[blockColour(null, 68), head]];
+  return [...header, ...parts, ["var(--bad)", "the fault"]];
 }
 
 function partOfMemory(file, memory, at) {

@@ -2,6 +2,7 @@
 //
 // They ask later, too, when another file may be shown: so each source keeps the file that it is of.
 
+import { markAtFault } from "./front.js";
 import { itemOfMemory } from "./inmemory.js";
 import { itemOfFile } from "./items.js";
 import { namesInFile } from "./labels.js";
@@ -19,9 +20,9 @@ function markOfBlock(file, at) {
 }
 
 function sourceOfRefused(file) {
-  const { place } = file.about.refusal;
-  const mark = (at) => (at >= place && at < place + 4 ? { tone: "refused", title: "refused here" } : null);
-  return { mark, item: (at) => itemOfFile(file, at), names: () => [] };
+  const mark = (at) => markAtFault(file, at) ?? (file.front ? markOfBlock(file, at) : null);
+  const names = (from, to) => (file.front ? namesInFile(file, from, to) : []);
+  return { mark, item: (at) => itemOfFile(file, at), names };
 }
 
 export function sourceOfFile(file) {

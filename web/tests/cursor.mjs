@@ -197,7 +197,7 @@ export async function compareCursor(page, hold) {
   await page.hex(`${SUM.slice(0, 0x58 * 2)}00000001 00000002`.replace(" ", ""));
   const refused = "0000005c | refused here, BadTarget | 00000002";
   hold("what is told of a refused file", refused, await page.in(`${LINE} return line("file")`));
-  hold("another longword of it", "00000058 | 00000001", await pointed(page, "file", 0x5b));
+  hold("another longword of it", "00000058 | in the block that is refused | 00000001", await pointed(page, "file", 0x5b));
   await page.hex(`000003e70000001a${"61".repeat(104)}`);
   hold("a long name", `00000008 | UNIT 0: name | ${"a".repeat(100)}…`, await pointed(page, "file", 8));
   await page.hex(`${SUM}00`);

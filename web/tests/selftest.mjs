@@ -10,6 +10,7 @@ import { compareOpening } from "./opening.mjs";
 import { tryMany } from "./many.mjs";
 import { compareCursor } from "./cursor.mjs";
 import { compareMap, comparePictures } from "./pictures.mjs";
+import { compareRefused } from "./refused.mjs";
 
 const [browserName, pagePath, program, everyPath, oneOf, pictures, work] = process.argv.slice(2);
 const { Chromium, Firefox } = { ...(await import("./chromium.mjs")), ...(await import("./firefox.mjs")) };
@@ -351,6 +352,7 @@ try {
   await tryMany(page, hold, { work, pagePath });
   await page.open();
   await compareOpening(page, hold, { root, pagePath, work });
+  await compareRefused(page, hold);
   await compareUse(page);
   await browser.size(1280, 900);
   await compareCursor(page, hold);
