@@ -559,7 +559,8 @@ uint64_t hunk_input_place(const uint8_t *bytes, uint64_t bytes_len, uint64_t pla
  * is as at hunk_check.
  *
  *   bytes   the input, of any bytes
- *   text    where the file goes: four times as many bytes as there are in are always enough
+ *   text    where the file goes: 12 bytes more than there are in, and 12 for each hunk of the
+ *           table, are always enough, and so are four times as many bytes as there are in
  *
  * HUNK_OK       hunk: the hunks of a load file, 1 or more; 0 of an object file; place: the bytes of
  *               the front; count: the bytes that were written. All are 0 where there is no front:

@@ -90,7 +90,8 @@ static const uint8_t *text_of(const char *name, const uint8_t *bytes, size_t len
     *all = few;
     all->number = HUNK_OK;
     expect(few.number == (few.count > 0 ? HUNK_NO_ROOM : HUNK_OK), name, "no text");
-    expect(few.count <= 4 * len, name, "how long the text is");
+    int is_enough = few.count <= len + 12 * (uint64_t)few.hunk + 12 && few.count <= 4 * len;
+    expect(is_enough, name, "how long the text is");
     if (few.count > text_room.size)
         exit(3);
     uint8_t *text = marked(&text_room, few.count);
