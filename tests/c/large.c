@@ -79,7 +79,7 @@ static void fill(void)
 }
 
 /* hunk_check, with so many findings, each of offset 5 in the first hunk, one right after the other,
- * and hunk_strip, which leaves so many bytes. */
+ * hunk_strip, which leaves so many bytes, and hunk_front, which leaves all. */
 static void checked(const char *name, uint32_t hunks, size_t count, size_t left)
 {
     struct hunk_answer a = hunk_check(file, len, findings, MANY);
@@ -94,6 +94,10 @@ static void checked(const char *name, uint32_t hunks, size_t count, size_t left)
     a = hunk_strip(file, len, text, len);
     expect(same(a, (struct hunk_answer){HUNK_OK, hunks, len, left}), name, "hunk_strip");
     expect(all_marked(text + left, len - left), name, "the text after a stripped file");
+    text = marked(&text_room, len);
+    struct hunk_answer whole = {HUNK_OK, hunks, hunks > 0 ? len - 4 : len, len};
+    expect(same(hunk_front(file, len, text, len), whole), name, "hunk_front");
+    expect(memcmp(text, file, len) == 0, name, "the front of a whole file");
 }
 
 /* hunk_blocks, of blocks that stand one after the other from the first byte up to the last. */
