@@ -2,7 +2,8 @@
 Prints each row with another answer, and ends with status 1 where there is one.
 
 binding.py --show FILE..: prints what `hunk show` prints of the files, in the words of `hunkinfo show`, after `== FILE` for each.
-It ends with status 1 where something does not stand at the place that its row has."""
+It ends with status 1 where something does not stand at the place that its row has, also before the fault of a file that is
+refused."""
 
 import ctypes
 import io
@@ -95,9 +96,18 @@ def wrong_rows(path):
 # ---- What stands in files.
 
 
-def wrong_places(data):
-    """The rows whose place is not where the file has what they say, or whose width is not that of their kind."""
-    file = hunk.read(data)
+def before_fault(data):
+    """What stands before the fault of a file that is refused, or nothing."""
+    try:
+        return hunk.read(data, partial=True)
+    except hunk.HunkError:
+        return None
+
+
+def wrong_places(file):
+    """The rows whose place is not where the file has what they say, or whose width is not that of their kind; and the blocks that
+    don't follow the one before, or go past the end."""
+    data = file.data
     references = [reference for entry in file.entries for reference in entry.references]
 
     def long_at(place):
@@ -116,8 +126,10 @@ def wrong_places(data):
         room = 4 * (long_at(start - 4) & 0xFFFFFF)
         if it.name != data[start : start + room].split(bytes(1))[0]:
             yield it
-    for it in file.blocks:
-        if long_at(it.place) != it.kind + (it.flags << 29):
+    starts = [*(it.place for it in file.blocks), file.size]
+    for it, after in zip(file.blocks, starts[1:]):
+        follows = it.place + it.bytes == after or file.is_object and it.place + it.bytes <= after
+        if long_at(it.place) != it.kind + (it.flags << 29) or not follows:
             yield it
 
 
@@ -127,11 +139,12 @@ def show_files(paths):
         data = pathlib.Path(path).read_bytes()
         print("==", path)
         try:
-            print(*show.lines(hunk.read(data)), sep="\n")
-            wrong = list(wrong_places(data))
+            file = hunk.read(data)
+            print(*show.lines(file), sep="\n")
         except hunk.HunkError as error:
             print(error)
-            continue
+            file = before_fault(data)
+        wrong = list(wrong_places(file)) if file else []
         if wrong:
             print(f"{path}: not in its place: {wrong[0]}", file=sys.stderr)
             status = 1
