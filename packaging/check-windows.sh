@@ -5,12 +5,12 @@ mingw=x86_64-w64-mingw32
 export WINEPREFIX="$work/wine" WINEDEBUG=-all WINEDLLOVERRIDES='mscoree=;mshtml='
 
 # under_wine PROGRAM WORD..: runs PROGRAM.exe, or a program of Windows itself. What programs in C print has the line ends of
-# Windows, which those of Unix take the place of.
+# Windows, which those of Unix take the place of. At random places wine does not always find its own free.
 under_wine() {
   under=$1
   shift
   [ ! -f "$under.exe" ] || under=$under.exe
-  wine "$under" "$@" > "$work/printed" || return
+  setarch -R wine "$under" "$@" > "$work/printed" || return
   tr -d '\r' < "$work/printed"
 }
 # prompt FOLDER LINES: what a command prompt in the folder prints when it is given the lines of the file

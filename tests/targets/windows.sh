@@ -3,9 +3,14 @@
 # Linux's.
 
 windows=x86_64-pc-windows
-# starts_wine: makes a folder of wine's own, so that nothing of the user's is touched, and sees to it that nothing of it stays
+# starts_wine: makes a folder of wine's own, so that nothing of the user's is touched, and sees to it that nothing of it stays.
+# Programs begin at places that are not random: else wine finds its own place taken in one of some thousand starts, and ends.
 starts_wine() {
   export WINEPREFIX="$work/wine" WINEDEBUG=-all WINEDLLOVERRIDES='mscoree,mshtml='
+  mkdir "$work/wine-first"
+  printf '#!/bin/sh\nexec setarch -R %s "$@"\n' "$(command -v wine)" > "$work/wine-first/wine"
+  chmod +x "$work/wine-first/wine"
+  PATH=$work/wine-first:$PATH
   trap 'wineserver -k 2> /dev/null || true; rm -rf "$work"' EXIT
   wine cmd /c ver > "$work/log" 2>&1 || lack "wine does not start: $(tail -n 1 "$work/log")"
   # What xargs gives to a program is more than a command line of Windows takes: windows/words.h reads it from a file.
