@@ -155,7 +155,7 @@ def show_files(paths):
 
 
 def hex_lines(data):
-    """The bytes of each hunk, as the README takes them."""
+    """The bytes of each hunk, as the package's README takes them."""
     lines = []
     try:
         for segment in hunk.load(data, base=0x21000):
