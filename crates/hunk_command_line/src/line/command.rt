@@ -28,8 +28,9 @@ Limits:
   The input: fewer than 67108864 bytes (64 MiB); for relocate, and as text of
   --hex, at most 67108864.
   File names are UTF-8; `hunkinfo show < FILE` reads a file of any name.
-  relocate holds the bytes that the hunks declare, and 12 for each hunk. The
-  other commands hold the input, and nothing that grows with the number of its
+  relocate holds the bytes that the hunks declare, and 12 for each hunk, and
+  validate of a load file those 12. The other commands, and validate of an
+  object file, hold the input, and nothing that grows with the number of its
   parts. With --hex the bytes that the text spells are held in addition. With
   --wide each command holds the input, and its plain spelling where that is
   another; both have fewer than 67108864 bytes.
@@ -40,7 +41,8 @@ Exit status:
   2  the command line was refused
   3  reading or writing failed
   4  out of memory
-Where it is not 0, standard error says what is wrong, and in which file.";
+Where it is not 0, standard error says what is wrong, and in which file. What
+validate found is in what it prints.";
 
 const AFTER_SHOW: &str = "\
 Examples:
