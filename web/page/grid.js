@@ -4,12 +4,14 @@ import { Scroller, escaped, rowOfKey } from "./scroller.js";
 
 /** A finger takes more room than a pointer. */
 const HEIGHT = matchMedia("(pointer: coarse)").matches ? 36 : 22;
+const GAP = 12;
+const AROUND = 36;
 let grids = 0;
 
 /** What columns take at least, with their gaps, the space around them and a scrollbar: so head and rows have one width. */
 function leastWidth(columns) {
   const ems = columns.reduce((sum, [, width]) => sum + parseFloat(width.match(/[\d.]+/)[0]), 0);
-  return `calc(${ems}em + ${columns.length - 1} * var(--gap) + var(--around))`;
+  return `calc(${ems}em + ${(columns.length - 1) * GAP + AROUND}px)`;
 }
 
 export class Grid {

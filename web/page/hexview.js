@@ -60,6 +60,11 @@ export class HexView {
     this.go(from);
   }
 
+  /** Tells of the item at the caret again, as after a change of the base. */
+  retell() {
+    this.#tell(this.caret);
+  }
+
   /** Moves the caret, and scrolls as little as needed. */
   #move(at) {
     this.caret = Math.min(Math.max(0, at), Math.max(0, this.length - 1));

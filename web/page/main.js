@@ -193,6 +193,7 @@ function rebase() {
   if (!file) return;
   file.base = base.address;
   showMemory();
+  fileView.retell();
   lists.refresh();
   tellShown();
 }
@@ -216,15 +217,10 @@ async function openFile(found) {
     show(bytes, found.name);
     return;
   }
-  showNone(unreadText([{ name: found.name, why }]), found.name);
-  tellShown();
-}
-
-/** Files are told in the place of one. */
-function showNone(text, title) {
   opening.mark(null);
-  entitle(title);
-  closeFile(text);
+  entitle(found.name);
+  closeFile(unreadText([{ name: found.name, why }]));
+  tellShown();
 }
 
 /** One file is shown, of many a table. */
@@ -237,7 +233,9 @@ async function openAll({ files, isPartial }) {
     return;
   }
   forgetLink();
-  showNone(files.length > 0 ? "" : `There is no file in it. ${partial}`, counted(files.length, "file"));
+  opening.mark(null);
+  entitle(counted(files.length, "file"));
+  closeFile(files.length > 0 ? "" : `There is no file in it. ${partial}`);
   await many.show(hunk, files, partial);
   tellShown();
 }
@@ -251,11 +249,7 @@ async function openPicked(field) {
 
 function openExample(name) {
   const bytes = opening.bytes(name);
-  if (!bytes) {
-    showNone(`There is no example with the name ${name}.`, "no example");
-    tellShown();
-    return;
-  }
+  if (!bytes) return;
   example = name;
   show(bytes, name);
 }

@@ -171,9 +171,12 @@ async function compareSymbols(page, hold) {
 /** Another base, by which addresses are others. */
 async function compareBase(page, hold) {
   await page.hex(SUM);
+  await pointed(page, "file", 0x24, "click");
   await page.shows(() => page.in(`const base = document.getElementById("base"); base.value = "40";
     base.dispatchEvent(new Event("change"))`));
   const wanted = "00000048 | hunk 0 + 00000008, CODE | 00000074 | the base of hunk 1 is added";
+  const first = "00000024 | hunk 0, CODE: content at offset 00000000 | 41f9 | → memory 00000040";
+  hold("the caret at another base", first, await page.in(`${LINE} return line("file")`));
   const leads = "→ hunk 1 + 00000004 = 00000074 | → byte 0000002c of the file";
   hold("a byte at another base", `${wanted} | ${leads}`, await pointed(page, "memory", 8));
 }

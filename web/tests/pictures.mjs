@@ -134,7 +134,7 @@ async function compareDrawn(page, hold) {
   hold("arcs that are drawn", true, await page.in(arcs));
   // The arc from hunk 0 to itself is pale while the pointer is at hunk 1: fewer of all that is drawn above the bars is opaque.
   const strong = `const { data } = canvas.getContext("2d").getImageData(0, 0, canvas.width, canvas.height - 50);
-    return data.filter((it, i) => i % 4 === 3 && it > 60).length`;
+    return data.filter((it, i) => i % 4 === 3 && it > 150).length`;
   const all = await page.in(`${PICTURE} ${strong}`, "map");
   const chosen = await page.in(`${PICTURE} point("pointermove", 0.95); ${strong}`, "map");
   hold("arcs that are pale under the pointer", true, chosen > 0.3 * all && chosen < 0.9 * all);

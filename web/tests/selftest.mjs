@@ -6,9 +6,9 @@ import { execFileSync } from "node:child_process";
 import { copyFileSync, mkdirSync, readFileSync, statSync, writeFileSync } from "node:fs";
 import { createServer } from "node:http";
 import { pathToFileURL } from "node:url";
-import { compareCursor } from "./cursor.mjs";
-import { tryMany } from "./many.mjs";
 import { compareOpening } from "./opening.mjs";
+import { tryMany } from "./many.mjs";
+import { compareCursor } from "./cursor.mjs";
 import { compareMap, comparePictures } from "./pictures.mjs";
 import { compareRefused } from "./refused.mjs";
 
