@@ -1,21 +1,15 @@
 // A table of any length, by Scroller: its rows are picked by a click, or by the arrow keys and Enter.
 
 import { Scroller, escaped, rowOfKey } from "./scroller.js";
+import { Widths } from "./widths.js";
 
 /** A finger takes more room than a pointer. */
 const HEIGHT = matchMedia("(pointer: coarse)").matches ? 36 : 22;
-const GAP = 12;
-const AROUND = 36;
 let grids = 0;
 
-/** What columns take at least, with their gaps, the space around them and a scrollbar: so head and rows have one width. */
-function leastWidth(columns) {
-  const ems = columns.reduce((sum, [, width]) => sum + parseFloat(width.match(/[\d.]+/)[0]), 0);
-  return `calc(${ems}em + ${(columns.length - 1) * GAP + AROUND}px)`;
-}
-
 export class Grid {
-  /** `columns`: [name, width, is a number]. `rows.cells(i)` gives the texts of a row; `rows.pick(i)` is called for it. */
+  /** `columns`: {name, isNumber, least}, as Widths takes them. `rows.cells(i)` gives the texts of a row; `rows.pick(i)` is called
+   *  for it. */
   constructor(box, label, columns, onSort) {
     this.id = `grid${grids++}`;
     this.columns = columns;
@@ -27,9 +21,9 @@ export class Grid {
     box.setAttribute("aria-colcount", columns.length);
     box.tabIndex = 0;
     box.style.setProperty("--row", `${HEIGHT}px`);
-    box.style.setProperty("--columns", columns.map(([, width]) => width).join(" "));
-    box.style.setProperty("--least", leastWidth(columns));
+    box.style.setProperty("--gaps", columns.length - 1);
     this.box = box;
+    this.widths = new Widths(box, columns, Boolean(onSort));
     this.#addHeads(onSort);
     this.body = document.createElement("div");
     this.body.className = "body";
@@ -39,13 +33,16 @@ export class Grid {
     box.addEventListener("keydown", (event) => this.#key(event));
     this.body.addEventListener("click", (event) => this.#click(event));
     this.body.addEventListener("pointerover", (event) => this.#tellCut(event.target));
+    // A scrollbar of the body comes and goes; the head has the width of the rows.
+    const fit = () => box.style.setProperty("--bar", `${this.body.offsetWidth - this.body.clientWidth}px`);
+    new ResizeObserver(fit).observe(this.scroller.tall);
   }
 
   #addHeads(onSort) {
     this.head = document.createElement("div");
     this.head.className = "head";
     this.head.setAttribute("role", "row");
-    this.columns.forEach(([name, , isNumber], i) => {
+    this.columns.forEach(({ name, isNumber }, i) => {
       const cell = document.createElement(onSort ? "button" : "span");
       cell.setAttribute("role", "columnheader");
       cell.textContent = name;
@@ -59,7 +56,11 @@ export class Grid {
   /** Shows rows, where it was scrolled to when they are the same with some more. */
   show(rows, isSamePlace = false) {
     this.rows = rows;
-    if (!isSamePlace) this.active = 0;
+    if (!isSamePlace) {
+      this.active = 0;
+      this.widths.clear();
+    }
+    this.widths.sample(rows.cells, rows.count);
     this.box.setAttribute("aria-rowcount", rows.count + 1);
     this.scroller.setCount(rows.count, isSamePlace ? this.scroller.top : 0);
   }
@@ -70,21 +71,21 @@ export class Grid {
   }
 
   #draw(first, count) {
-    const rows = [];
-    for (let i = first; i < first + count; i++) {
-      const cells = this.rows.cells(i).map((cell, column) => {
-        const { text, chip, tone } = typeof cell === "object" ? cell : { text: cell };
-        const kind = [this.columns[column][2] && "number", tone].filter(Boolean).join(" ");
-        const mark = chip ? `<i style="background:${chip}"></i>` : "";
-        return `<span role="gridcell" class="${kind}">${mark}${escaped(text)}</span>`;
-      });
-      const is = i === this.active;
-      rows.push(
-        `<div role="row" id="${this.id}-${i}" aria-rowindex="${i + 2}" aria-selected="${is}" data-row="${i}">${cells.join("")}</div>`,
-      );
-    }
+    const rows = Array.from({ length: count }, (_, i) => this.rows.cells(first + i));
+    this.widths.include(rows);
     this.box.setAttribute("aria-activedescendant", `${this.id}-${this.active}`);
-    return rows.join("");
+    return rows.map((cells, i) => this.#row(first + i, cells)).join("");
+  }
+
+  #row(i, cells) {
+    const drawn = cells.map((cell, column) => {
+      const { text, chip, tone } = typeof cell === "object" ? cell : { text: cell };
+      const kind = [this.columns[column].isNumber && "number", tone].filter(Boolean).join(" ");
+      const mark = chip ? `<i style="background:${chip}"></i>` : "";
+      return `<span role="gridcell" class="${kind}">${mark}${escaped(text)}</span>`;
+    });
+    const is = i === this.active;
+    return `<div role="row" id="${this.id}-${i}" aria-rowindex="${i + 2}" aria-selected="${is}" data-row="${i}">${drawn.join("")}</div>`;
   }
 
   #key(event) {

@@ -4,7 +4,8 @@ import { hex } from "./names.js";
 import { Scroller, escaped } from "./scroller.js";
 
 const HEIGHT = 19;
-const NARROW = 560;
+/** Of fewer pixels, a line has 8 bytes. */
+const NARROW = 616;
 /** The most names that stand behind a line. */
 const NAMES = 4;
 

@@ -8,6 +8,11 @@ import * as names from "./names.js";
 
 const { counted, hex, shown } = names;
 
+const text = (name) => ({ name });
+const number = (name) => ({ name, isNumber: true });
+/** The column that has the rest of the room, and so many ems at least. */
+const rest = (name, least = 5) => ({ name, least });
+
 /** Where an item stands: in an object file with its unit. */
 const whereOf = (file, row) => (file.about.hunks > 0 ? row.hunk : `${row.unit}.${row.hunk}`);
 
@@ -18,14 +23,14 @@ function hunkRows(file) {
     ? ["read", (i) => stateOfHunk(file, i)]
     : ["base", (i) => hex((file.base + file.starts[i]) >>> 0)];
   return {
-    columns: [["hunk", "4em", true], ["bytes", "6em", true], ["memory", "minmax(5em, 1fr)"], [where, "5.6em"], ["relocated", "5em", true]],
+    columns: [number("hunk"), number("bytes"), rest("memory"), text(where), number("relocated")],
     count: file.starts.length,
     item: (i) => file.contents().target(i),
     cells(i) {
       const row = file.table.rows.at(i);
       const base = whereOf(i);
-      const number = { text: i, chip: names.hunkColour(i) };
-      return [number, row.bytes.toLocaleString("en"), names.memoryText(row), base, counts[i].toLocaleString("en")];
+      const hunk = { text: i, chip: names.hunkColour(i) };
+      return [hunk, row.bytes.toLocaleString("en"), names.memoryText(row), base, counts[i].toLocaleString("en")];
     },
   };
 }
@@ -33,7 +38,7 @@ function hunkRows(file) {
 function blockRows(file) {
   const { rows } = file.list("blocks");
   return {
-    columns: [["at", "5.6em"], ["hunk", "3em", true], ["block", "7em"], ["bytes", "5em", true], ["of it", "minmax(8em, 1fr)"]],
+    columns: [text("at"), number("hunk"), text("block"), number("bytes"), rest("of it")],
     count: rows.length,
     item: (i) => rows.at(i),
     cells(i) {
@@ -52,7 +57,7 @@ function blockRows(file) {
 function unitRows(file) {
   const { rows } = file.list("units");
   return {
-    columns: [["at", "5.6em"], ["unit", "5em", true], ["hunks", "5em", true], ["name", "minmax(9em, 1fr)"]],
+    columns: [text("at"), number("unit"), number("hunks"), rest("name")],
     count: rows.length,
     item: (i) => ({ place: rows.get(i, "place"), bytes: 4 }),
     cells(i) {
@@ -64,10 +69,9 @@ function unitRows(file) {
 
 function symbolRows(file) {
   const { rows } = file.list("symbols");
-  const name = ["name", "minmax(9em, 1fr)"];
   const isLoad = file.isLoadable;
   return {
-    columns: [["at", "5.6em"], ["hunk", "3em", true], ["value", "5.6em"], ...(isLoad ? [["address", "5.6em"]] : []), name],
+    columns: [text("at"), number("hunk"), text("value"), ...(isLoad ? [text("address")] : []), rest("name")],
     count: rows.length,
     item: (i) => ({ ...rows.at(i), bytes: 4, offset: rows.get(i, "value") }),
     cells(i) {
@@ -81,7 +85,7 @@ function symbolRows(file) {
 function relocationRows(file) {
   const { rows } = file.list("relocations");
   return {
-    columns: [["at", "5.6em"], ["hunk", "3em", true], ["offset", "5.6em"], ["target", "4em", true], ["kind", "minmax(6em, 1fr)"]],
+    columns: [text("at"), number("hunk"), text("offset"), number("target"), rest("kind")],
     count: rows.length,
     item: (i) => ({ ...rows.at(i), bytes: 4 }),
     cells(i) {
@@ -95,7 +99,7 @@ function relocationRows(file) {
 function entryRows(file) {
   const { rows } = file.list("entries");
   return {
-    columns: [["at", "5.6em"], ["hunk", "3em", true], ["entry", "7em"], ["value", "5.6em"], ["used", "4em", true], ["name", "minmax(9em, 1fr)"]],
+    columns: [text("at"), number("hunk"), text("entry"), text("value"), number("used"), rest("name")],
     count: rows.length,
     item: (i) => ({ place: rows.get(i, "place"), bytes: 4 }),
     cells(i) {
@@ -110,7 +114,7 @@ function referenceRows(file) {
   const { rows } = file.list("references");
   const entries = file.list("entries").rows;
   return {
-    columns: [["at", "5.6em"], ["hunk", "3em", true], ["offset", "5.6em"], ["bytes", "4em", true], ["name", "minmax(9em, 1fr)"]],
+    columns: [text("at"), number("hunk"), text("offset"), number("bytes"), rest("name")],
     count: rows.length,
     item: (i) => ({ place: rows.get(i, "place"), bytes: 4 }),
     cells(i) {
@@ -125,7 +129,7 @@ function referenceRows(file) {
 function findingRows(file) {
   const { rows } = file.list("check");
   return {
-    columns: [["at", "5.6em"], ["hunk", "3em", true], ["offset", "5.6em"], ["what is wrong", "minmax(14em, 1fr)"]],
+    columns: [text("at"), number("hunk"), text("offset"), rest("what is wrong", 10)],
     count: rows.length,
     item: (i) => ({ place: rows.get(i, "place"), bytes: 4 }),
     cells(i) {

@@ -7,15 +7,15 @@ import { bytesOf, unreadText } from "./reading.js";
 import { toneOf } from "./reasons.js";
 
 const COLUMNS = [
-  ["file", "file", "minmax(12em, 3fr)"],
-  ["bytes", "bytes", "6em", true],
-  ["class", "class", "8em"],
-  ["hunks", "hunks", "4em", true],
-  ["memory", "in memory", "7em", true],
-  ["units", "units", "4em", true],
-  ["findings", "findings", "5em", true],
-  ["place", "refused at", "6em", true],
-  ["reason", "reason", "minmax(8em, 1fr)"],
+  { field: "file", name: "file", least: 10 },
+  { field: "bytes", name: "bytes", isNumber: true },
+  { field: "class", name: "class" },
+  { field: "hunks", name: "hunks", isNumber: true },
+  { field: "memory", name: "in memory", isNumber: true },
+  { field: "units", name: "units", isNumber: true },
+  { field: "findings", name: "findings", isNumber: true },
+  { field: "place", name: "refused at", isNumber: true },
+  { field: "reason", name: "reason" },
 ];
 
 /** How long lines are gathered before they are shown. */
@@ -45,7 +45,7 @@ export class Many {
     this.note = part("note");
     this.partial = part("partial");
     this.filter = part("filter");
-    this.grid = new Grid(part("list"), "Files", COLUMNS.map(([, ...rest]) => rest), (column) => this.sort(column));
+    this.grid = new Grid(part("list"), "Files", COLUMNS, (column) => this.sort(column));
     this.choices = ["", ...CLASSES].map((name) => this.#choice(name));
     part("classes").append(...this.choices);
     this.filter.addEventListener("input", () => this.#arrange());
@@ -93,7 +93,7 @@ export class Many {
     const text = this.filter.value.trim().toLowerCase();
     const isWanted = (line) => (!this.wanted || line.class === this.wanted) && line.file.toLowerCase().includes(text);
     this.shown = this.lines.filter(isWanted);
-    if (this.sorted) sortLines(this.shown, COLUMNS[this.sorted.column][0], this.sorted.direction);
+    if (this.sorted) sortLines(this.shown, COLUMNS[this.sorted.column].field, this.sorted.direction);
     this.#tell();
     const rows = {
       count: this.shown.length,
@@ -111,7 +111,7 @@ export class Many {
 
   #cells(line) {
     const told = { ...line, class: { text: line.class, tone: toneOf(line.class) } };
-    return COLUMNS.map(([field]) => shownCell(told[field]));
+    return COLUMNS.map(({ field }) => shownCell(told[field]));
   }
 
   #tell() {

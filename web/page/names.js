@@ -4,8 +4,8 @@ import { nameOf } from "../../bindings/javascript/hunk.js";
 import { ENTRY_KINDS, entryKindName, flagNames, kindName, KINDS, MEMORIES } from "../../bindings/javascript/kinds.js";
 
 const FAULTS = {
-  1: "BadTarget: the target of the relocation is no hunk of its unit",
-  2: "OutsideHunk: what stands at the offset runs past the end of its hunk",
+  1: "BadTarget: no hunk of its unit",
+  2: "OutsideHunk: past its hunk's end",
 };
 
 export const hex = (number, digits = 8) => number.toString(16).padStart(digits, "0");
