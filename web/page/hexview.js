@@ -177,7 +177,7 @@ export class HexView {
       if (byte !== undefined) text += byte > 31 && byte < 127 ? escaped(String.fromCharCode(byte)) : "·";
     }
     const begins = escaped(this.source.names(from, from + this.per, NAMES).join(" "));
-    const names = begins && `  <span class="names" title="${begins}">${begins}</span>`;
+    const names = begins && `<span class="names" title="${begins}">${begins}</span>`;
     const rest = " ".repeat(Math.max(0, from + this.per - this.bytes.length));
     const address = `<span class="at">${hex(this.start + from)}</span>`;
     return `<div class="line">${address}  ${digits}<span class="text">${text}${rest}</span>${names}</div>`;

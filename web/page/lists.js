@@ -11,7 +11,7 @@ const { counted, hex, shown } = names;
 const text = (name) => ({ name });
 const number = (name) => ({ name, isNumber: true });
 /** The column that has the rest of the room, and so many ems at least. */
-const rest = (name, least = 5) => ({ name, least });
+const rest = (name, least = 4) => ({ name, least });
 
 /** Where an item stands: in an object file with its unit. */
 const whereOf = (file, row) => (file.about.hunks > 0 ? row.hunk : `${row.unit}.${row.hunk}`);

@@ -54,31 +54,38 @@ function otherwiseText({ shortBlocks, ends }) {
   return `In another spelling, with ${[...short, ...left].join(" and ")}`;
 }
 
-function refusalText({ kind, refusal, spelling }, place) {
+function refusalTexts({ kind, refusal, spelling }, place) {
   const what = BEGINS[kind] ?? "Neither a load file nor an object file";
-  if (!spelling) return `${what}: ${refusedText(refusal, place)}`;
-  return `${otherwiseText(spelling)}. Its plain spelling is shown: ${refusedText(refusal, place)}`;
+  if (!spelling) return [`${what}: ${refusedText(refusal, place)}`];
+  return [`${otherwiseText(spelling)}.`, `Its plain spelling is shown: ${refusedText(refusal, place)}`];
 }
 
 /** Of a file that is shown in its plain spelling: what it has otherwise, and why it is refused as it is. */
-function spelledText({ spelling, strict }, what) {
-  return `${otherwiseText(spelling)}, ${what}. Its plain spelling is shown. As it is, it is ${refusedText(strict, strict.place)}`;
+function spelledTexts({ spelling, strict }, what) {
+  const asItIs = `As it is, it is ${refusedText(strict, strict.place)}`;
+  return [`${otherwiseText(spelling)}, ${what}.`, `Its plain spelling is shown. ${asItIs}`];
 }
 
-function acceptedText(about) {
+function acceptedTexts(about) {
   const what =
     about.hunks > 0
       ? `a load file: ${counted(about.hunks, "hunk")}, ${counted(about.declared, "byte")} in memory`
       : `an object file: ${counted(about.units, "unit")}, ${counted(about.findings, "finding")}`;
-  if (about.strict) return spelledText(about, what);
+  if (about.strict) return spelledTexts(about, what);
   const rest = about.length < file.bytes.length ? `; ${counted(file.bytes.length - about.length, "byte")} after it are not read` : "";
-  return `A${what.slice(1)}${rest}.`;
+  return [`A${what.slice(1)}${rest}.`];
+}
+
+/** A first sentence that is told in large letters, and what else there is to tell. */
+function tellVerdict([first, ...others], tone) {
+  const small = others.map((text) => Object.assign(document.createElement("small"), { textContent: text }));
+  $("verdict").className = tone;
+  $("verdict").replaceChildren(first, ...small.flatMap((it) => [" ", it]));
 }
 
 function showVerdict() {
   const { about } = file;
-  $("verdict").className = toneOf(classOf(about));
-  $("verdict").textContent = about.refusal ? refusalText(about, file.reading.place) : acceptedText(about);
+  tellVerdict(about.refusal ? refusalTexts(about, file.reading.place) : acceptedTexts(about), toneOf(classOf(about)));
   showReadings($("readings"), file, (which) => show(file.input, file.name, which));
   $("before").textContent = beforeText(file);
   const refusal = about.refusal ?? about.strict;

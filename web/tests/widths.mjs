@@ -1,0 +1,68 @@
+// The columns of tables: as wide as what is in them, so that common lists fit a phone and a window of 980 pixels.
+
+import { PROGRAM } from "./program.mjs";
+
+const WINDOWS = [390, 980, 981, 1120, 1280];
+const LISTS = ["hunks", "blocks", "symbols", "relocations"];
+
+/** How much wider the open list is than its box, and which of its texts are cut; of names and what is in a block some may be. */
+const OPEN = `
+  document.getElementById("tab-" + values[0]).click();
+  const grid = document.querySelector("#list-panel .grid");
+  const cells = [...grid.querySelectorAll("[role=columnheader], [role=gridcell]")];
+  const isRest = (cell) => [...cell.parentNode.children].indexOf(cell) === values[1];
+  const cut = cells.filter((it) => it.scrollWidth > it.clientWidth && !isRest(it));
+  return [grid.scrollWidth - grid.clientWidth, ...cut.map((it) => it.textContent)].join()`;
+
+/** The column that has the rest of the room, where it may be cut. */
+const REST = { blocks: 4, symbols: 4 };
+
+/** Where each column begins, from the left of the table. */
+const COLUMNS = `
+  const { left } = document.querySelector("#list-panel .grid").getBoundingClientRect();
+  const columns = (line) => [...line.children].map((it) => Math.round(it.getBoundingClientRect().left - left)).join();
+  return [".head", "[data-row]"].map((it) => columns(document.querySelector("#list-panel " + it)))`;
+
+export async function compareWidths(page, hold) {
+  for (const width of WINDOWS) {
+    await page.browser.size(width, 800);
+    await page.browser.touch(width === 390);
+    await page.open();
+    for (const list of ["hunks", "blocks", "relocations"]) {
+      hold(`sum, ${list} at ${width} pixels`, "0", await page.in(OPEN, list, REST[list]));
+    }
+    await page.drop([["program", PROGRAM]]);
+    for (const list of LISTS) {
+      hold(`a program, ${list} at ${width} pixels`, "0", await page.in(OPEN, list, REST[list]));
+      const [head, row] = await page.in(COLUMNS);
+      hold(`a program, heads of ${list} at ${width} pixels`, head, row);
+    }
+    const wide = await page.in("return document.documentElement.scrollWidth > innerWidth");
+    hold(`a page of ${width} pixels that scrolls sideways`, false, wide);
+  }
+  await page.browser.touch(false);
+  await page.browser.size(1280, 900);
+  await compareGrown(page, hold);
+}
+
+/** A file of so many hunks of one longword; one of them is large. */
+function manyHunks(count, large) {
+  const long = (number) => number.toString(16).padStart(8, "0");
+  const sizes = Array.from({ length: count }, (_, i) => (i === large ? 0x100000 : 1));
+  const hunks = sizes.flatMap((size) => [0x3eb, size, 0x3f2]);
+  return [0x3f3, 0, count, 0, count - 1, ...sizes, ...hunks].map(long).join("");
+}
+
+/** A column grows for a row that is drawn later, and nothing is cut then. */
+async function compareGrown(page, hold) {
+  await page.drop([["hunks", manyHunks(1000, 701)]]);
+  const cut = `const grid = document.querySelector("#list-panel .grid");
+    const key = (name) => grid.dispatchEvent(new KeyboardEvent("keydown", { key: name, bubbles: true }));
+    key("End");
+    for (let i = 0; i < 298; i++) key("ArrowUp");
+    const row = grid.querySelector("[aria-selected=true]");
+    const cells = [...row.children].map((it) => (it.scrollWidth > it.clientWidth ? "cut " : "") + it.textContent);
+    return [...cells, grid.scrollWidth - grid.clientWidth].join(" | ")`;
+  const wanted = "701 | 4,194,304 | any | 00021af4 | 0 | 0";
+  hold("a row that is wider than those before", wanted, await page.in(cut));
+}
