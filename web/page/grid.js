@@ -28,6 +28,9 @@ export class Grid {
     this.body = document.createElement("div");
     this.body.className = "body";
     this.body.setAttribute("role", "rowgroup");
+    // Browsers stop at what is scrolled, but the keys are those of the grid.
+    this.body.tabIndex = -1;
+    this.body.addEventListener("focus", () => box.focus({ preventScroll: true }));
     box.append(this.body);
     this.scroller = new Scroller(this.body, HEIGHT, (first, count) => this.#draw(first, count));
     box.addEventListener("keydown", (event) => this.#key(event));

@@ -32,6 +32,7 @@ export class ItemLine {
 
   /** Shows an item of a view, or nothing: a line of what it is, and one of what it leads to. */
   show(item, view) {
+    this.view = view;
     const targets = (item?.targets ?? []).filter(Boolean);
     this.targets = targets.filter(isReached);
     const texts = item ? textsOf(item, view) : [];
@@ -45,8 +46,14 @@ export class ItemLine {
     if (!isReached(target)) return part("span", text);
     const button = part("button", text);
     if (target === this.targets[0]) button.title = "Enter or a double click goes there, too";
-    button.addEventListener("click", () => this.jump(target));
+    button.addEventListener("click", () => this.#lead(button, target));
     return button;
+  }
+
+  /** Goes to a target. Where the line is another one then, the focus is left to the view, and not lost with the button. */
+  #lead(button, target) {
+    this.jump(target);
+    if (!button.isConnected) this.view.box.focus({ preventScroll: true });
   }
 
   /** Goes where the value leads to. */

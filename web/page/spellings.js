@@ -13,6 +13,7 @@ function resultText({ about, place }) {
 
 /** A button for each reading of a file; `choose(i)` is called for the one that is to be shown. */
 export function showReadings(box, file, choose) {
+  const isFocused = box.contains(document.activeElement);
   box.hidden = file.readings.length === 1;
   const buttons = file.readings.map((reading, i) => {
     const button = document.createElement("button");
@@ -24,4 +25,5 @@ export function showReadings(box, file, choose) {
     return button;
   });
   box.replaceChildren(...(box.hidden ? [] : buttons));
+  if (isFocused) box.querySelector("[aria-pressed=true]")?.focus();
 }

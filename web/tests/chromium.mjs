@@ -1,6 +1,7 @@
 // A headless Chromium that is driven by its debugging pipe.
 
 import { spawn } from "node:child_process";
+import { eventsOf } from "./keys.mjs";
 
 /** What comes over the pipe: messages that end with a zero byte. */
 class Pipe {
@@ -103,6 +104,11 @@ export class Chromium {
     for (const type of ["dragEnter", "dragOver", "drop"]) {
       await this.send("Input.dispatchDragEvent", { type, x: 200, y: 70, data });
     }
+  }
+
+  /** Presses a key as a keyboard does: "Tab", or "Shift+Tab". */
+  async press(name) {
+    for (const event of eventsOf(name)) await this.send("Input.dispatchKeyEvent", event);
   }
 
   async picture() {

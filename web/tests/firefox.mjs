@@ -3,6 +3,7 @@
 import { spawn } from "node:child_process";
 import { mkdirSync, existsSync, readFileSync, writeFileSync } from "node:fs";
 import { connect } from "node:net";
+import { actionsOf } from "./keys.mjs";
 
 const WAIT = 60000;
 const sleep = (time) => new Promise((done) => setTimeout(done, time));
@@ -114,6 +115,11 @@ export class Firefox {
     const { value } = await this.marionette.send("WebDriver:FindElement", { using: "css selector", value: selector });
     const id = Object.values(value)[0];
     await this.marionette.send("WebDriver:ElementSendKeys", { id, text: paths.join("\n") });
+  }
+
+  /** Presses a key as a keyboard does: "Tab", or "Shift+Tab". */
+  async press(name) {
+    await this.marionette.send("WebDriver:PerformActions", { actions: actionsOf(name) });
   }
 
   async picture() {

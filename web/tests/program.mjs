@@ -63,3 +63,7 @@ function program() {
 }
 
 export const PROGRAM = program();
+
+/** The same, but for the first offset of the last relocations: at 94 of 96 bytes, where no longword fits. */
+const OFFSET = PROGRAM.lastIndexOf("000003ec") + 3 * 8;
+export const DAMAGED = `${PROGRAM.slice(0, OFFSET)}0000005e${PROGRAM.slice(OFFSET + 8)}`;

@@ -11,6 +11,9 @@ import { tryMany } from "./many.mjs";
 import { compareCursor } from "./cursor.mjs";
 import { compareMap, comparePictures } from "./pictures.mjs";
 import { compareRefused } from "./refused.mjs";
+import { compareKeyboard } from "./keyboard.mjs";
+import { compareWidths } from "./widths.mjs";
+import { takePictures } from "./photos.mjs";
 
 const [browserName, pagePath, program, everyPath, oneOf, pictures, work] = process.argv.slice(2);
 const { Chromium, Firefox } = { ...(await import("./chromium.mjs")), ...(await import("./firefox.mjs")) };
@@ -314,30 +317,6 @@ async function large(page) {
   }
 }
 
-async function takePictures(page) {
-  const { browser } = page;
-  const take = async (name) => writeFileSync(`${pictures}/${browserName}-${name}.png`, await browser.picture());
-  mkdirSync(pictures, { recursive: true });
-  await browser.size(1280, 900);
-  await page.open();
-  await take("load");
-  await browser.size(1120, 700);
-  await take("page");
-  await browser.size(1280, 900);
-  await page.open("#example=two-findings");
-  await take("object");
-  await page.open("#example=offset-outside");
-  await take("refused");
-  await browser.dark(true);
-  await page.open();
-  await take("dark");
-  await browser.dark(false);
-  await browser.size(390, 844);
-  await browser.touch(true);
-  await page.open();
-  await take("phone");
-}
-
 const browser = await (browserName === "chromium" ? Chromium : Firefox).open(work);
 try {
   const page = new Page(browser);
@@ -357,11 +336,13 @@ try {
   await browser.size(1280, 900);
   await compareCursor(page, hold);
   await comparePictures(page, hold);
+  await compareWidths(page, hold);
+  await compareKeyboard(page, hold);
   if (oneOf === "1") {
     await large(page);
     await compareMap(page, hold, work);
   }
-  await takePictures(page);
+  await takePictures(page, root, `${pictures}/${browserName}`);
   for (const fault of browser.faults()) hold("an error in the page", "none", fault);
 } catch (error) {
   hold(`the test, at ${what}`, "no error", `${error.message} (${browser.faults().join("; ")})`);
