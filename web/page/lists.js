@@ -129,12 +129,12 @@ function referenceRows(file) {
 function findingRows(file) {
   const { rows } = file.list("check");
   return {
-    columns: [text("at"), number("hunk"), text("offset"), rest("what is wrong", 10)],
+    columns: [number("hunk"), text("offset"), rest("what is wrong")],
     count: rows.length,
     item: (i) => ({ place: rows.get(i, "place"), bytes: 4 }),
     cells(i) {
       const row = rows.at(i);
-      return [hex(row.place), whereOf(file, row), hex(row.offset), { text: names.faultText(row.fault), tone: "bad" }];
+      return [whereOf(file, row), hex(row.offset), { text: names.faultText(row.fault), tone: "bad" }];
     },
   };
 }

@@ -17,9 +17,9 @@ function suite(root) {
 
 /** By the names of the pictures: the size of the window, and what is opened there, a link or files. */
 const STATES = {
-  page: [[1120, 760], "#example=sum"],
-  "page-program": [[1120, 760], [["stars", PROGRAM]]],
-  "page-refused": [[1120, 760], [["stars", DAMAGED]]],
+  page: [[1120, 880], "#example=sum"],
+  "page-program": [[1120, 880], [["stars", PROGRAM]]],
+  "page-refused": [[1120, 800], [["stars", DAMAGED]]],
   "page-many": [[1120, 760], null],
   findings: [[1280, 900], "#example=two-findings"],
   spelling: [[1280, 900], "#example=short-even"],

@@ -37,6 +37,8 @@ export async function compareWidths(page, hold) {
       const [head, row] = await page.in(COLUMNS);
       hold(`a program, heads of ${list} at ${width} pixels`, head, row);
     }
+    await page.open("#example=two-findings");
+    hold(`findings at ${width} pixels`, "0", await page.in(OPEN, "check"));
     const wide = await page.in("return document.documentElement.scrollWidth > innerWidth");
     hold(`a page of ${width} pixels that scrolls sideways`, false, wide);
   }
