@@ -224,10 +224,15 @@ async function openFile(found) {
     show(bytes, found.name);
     return;
   }
-  opening.mark(null);
-  entitle(found.name);
-  closeFile(unreadText([{ name: found.name, why }]));
+  showNone(unreadText([{ name: found.name, why }]), found.name);
   tellShown();
+}
+
+/** Says why no file is shown. */
+function showNone(text, title) {
+  opening.mark(null);
+  entitle(title);
+  closeFile(text);
 }
 
 /** One file is shown, of many a table. */
@@ -240,9 +245,7 @@ async function openAll({ files, isPartial }) {
     return;
   }
   forgetLink();
-  opening.mark(null);
-  entitle(counted(files.length, "file"));
-  closeFile(files.length > 0 ? "" : `There is no file in it. ${partial}`);
+  showNone(files.length > 0 ? "" : `There is no file in it. ${partial}`, counted(files.length, "file"));
   await many.show(hunk, files, partial);
   tellShown();
 }
@@ -256,7 +259,11 @@ async function openPicked(field) {
 
 function openExample(name) {
   const bytes = opening.bytes(name);
-  if (!bytes) return;
+  if (!bytes) {
+    showNone(`There is no example with the name ${name}.`, "no example");
+    tellShown();
+    return;
+  }
   example = name;
   show(bytes, name);
 }

@@ -24,7 +24,8 @@ const COLOURS = `
     let opacity = 1;
     for (let it = element; it; it = it.parentElement) opacity *= Number(getComputedStyle(it).opacity);
     const back = behind(element);
-    const [r, g, b, a] = parts(getComputedStyle(element).color);
+    const part = element.placeholder && !element.value ? "::placeholder" : null;
+    const [r, g, b, a] = parts(getComputedStyle(element, part).color);
     const [low, high] = [light(back), light(over([r, g, b, a * opacity], back))].sort((one, other) => one - other);
     return (high + 0.05) / (low + 0.05);
   };`;

@@ -125,6 +125,8 @@ class Opening {
     hold("a file of one's own, the list", "", await page.in(`return document.getElementById("example").value`));
     await page.drop([["one", manyHunks(2)], ["other", "00"]]);
     hold("two files, the title", "2 files - hunk files", await this.title());
+    await page.shows(() => page.in(`location.hash = "#example=none-such"`));
+    hold("an example that is not there", "There is no example with the name none-such.", await this.verdict());
     await page.shows(() => page.in(`location.hash = "#example=sum"`));
     hold("an example again, the opening", true, await page.in(isThere));
   }
