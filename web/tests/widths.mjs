@@ -2,7 +2,7 @@
 
 import { PROGRAM } from "./program.mjs";
 
-const WINDOWS = [390, 980, 981, 1120, 1280];
+const WINDOWS = [390, 980, 981, 1120, 1280, 1920];
 const LISTS = ["hunks", "blocks", "symbols", "relocations"];
 
 /** How much wider the open list is than its box, and which of its texts are cut; of names and what is in a block some may be. */
@@ -23,6 +23,15 @@ const COLUMNS = `
   const columns = (line) => [...line.children].map((it) => Math.round(it.getBoundingClientRect().left - left)).join();
   return [".head", "[data-row]"].map((it) => columns(document.querySelector("#list-panel " + it)))`;
 
+/** How many lines of the views have letters, or names beside them, for which there is no room: 50 pixels for names. */
+const NARROW = `
+  return [...document.querySelectorAll(".hex .line")].filter((line) => {
+    const room = line.getBoundingClientRect().right - 10;
+    const names = line.querySelector(".names");
+    const isCut = line.querySelector(".text").getBoundingClientRect().right > room + 1;
+    return isCut || (names?.checkVisibility() && names.getBoundingClientRect().left + 50 > room);
+  }).length`;
+
 export async function compareWidths(page, hold) {
   for (const width of WINDOWS) {
     await page.browser.size(width, 800);
@@ -37,6 +46,7 @@ export async function compareWidths(page, hold) {
       const [head, row] = await page.in(COLUMNS);
       hold(`a program, heads of ${list} at ${width} pixels`, head, row);
     }
+    hold(`lines of bytes without room at ${width} pixels`, 0, await page.in(NARROW));
     await page.open("#example=two-findings");
     hold(`findings at ${width} pixels`, "0", await page.in(OPEN, "check"));
     const wide = await page.in("return document.documentElement.scrollWidth > innerWidth");
