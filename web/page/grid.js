@@ -87,8 +87,8 @@ export class Grid {
       const mark = chip ? `<i style="background:${chip}"></i>` : "";
       return `<span role="gridcell" class="${kind}">${mark}${escaped(text)}</span>`;
     });
-    const is = i === this.active;
-    return `<div role="row" id="${this.id}-${i}" aria-rowindex="${i + 2}" aria-selected="${is}" data-row="${i}">${drawn.join("")}</div>`;
+    const states = `aria-rowindex="${i + 2}" aria-selected="${i === this.active}"`;
+    return `<div role="row" id="${this.id}-${i}" ${states} data-row="${i}">${drawn.join("")}</div>`;
   }
 
   #key(event) {

@@ -5,7 +5,9 @@ const CHIP = 0x40000000;
 const FAST = 0x80000000;
 
 /** Longwords that compiled code has often: of entering and leaving a function, of moves and branches. */
-const USUAL = [0x4e55fff8, 0x48e73820, 0x246d0008, 0x7c006006, 0x200a6702, 0x4cdf041c, 0x4e5d4e75, 0x2f0a4eae, 0xff3a504f, 0x52866dec];
+const USUAL = [
+  0x4e55fff8, 0x48e73820, 0x246d0008, 0x7c006006, 0x200a6702, 0x4cdf041c, 0x4e5d4e75, 0x2f0a4eae, 0xff3a504f, 0x52866dec,
+];
 /** JSR and LEA of an address, of which the longword is relocated. */
 const CALL = 0x4e714eb9;
 const TAKE = 0x4e7141f9;
@@ -15,12 +17,19 @@ const textOf = (text) => {
   return padded.match(/[^]{4}/g).map((it) => [...it].reduce((sum, c) => sum * 256 + c.charCodeAt(0), 0));
 };
 
+const TEXTS = ["usage: stars FILE\n", "can't open dos.library\n", "no memory for a screen\n", "dos.library", "graphics.library"];
+
 /** Its hunks: kind, memory, longwords, which hunks' addresses it has and how many of each, and symbols by their offsets. */
 const HUNKS = [
   { kind: CODE, longs: 96, targets: { 1: 9, 2: 3, 3: 4, 5: 1 }, symbols: { _start: 0, _main: 0x48, _usage: 0x120 } },
-  { kind: CODE, longs: 148, targets: { 1: 4, 2: 8, 3: 5, 4: 2, 6: 2 }, symbols: { _draw: 0, _blit: 0x5c, _wait_line: 0x104, _copper: 0x1d0 } },
+  {
+    kind: CODE,
+    longs: 148,
+    targets: { 1: 4, 2: 8, 3: 5, 4: 2, 6: 2 },
+    symbols: { _draw: 0, _blit: 0x5c, _wait_line: 0x104, _copper: 0x1d0 },
+  },
   { kind: CODE, longs: 72, targets: { 3: 3, 5: 2 }, symbols: { _open: 0, _close: 0x60, _read_all: 0xa8 } },
-  { kind: DATA, texts: ["usage: stars FILE\n", "can't open dos.library\n", "no memory for the screen\n", "dos.library", "graphics.library"], symbols: { _messages: 0 } },
+  { kind: DATA, texts: TEXTS, symbols: { _messages: 0 } },
   { kind: DATA, memory: CHIP, longs: 64, symbols: { _copper_list: 0, _sprite: 0x90 } },
   { kind: DATA, longs: 24, targets: { 0: 2, 1: 4, 3: 5 }, symbols: { _table: 0 } },
   { kind: BSS, memory: CHIP, longs: 120, symbols: { _plane: 0 } },
@@ -29,8 +38,9 @@ const HUNKS = [
 
 /** The content of a hunk, and the offsets at which it has addresses: [[target, offset]]. */
 function contentOf({ kind, longs, texts, targets = {} }, number) {
-  const content = texts ? texts.flatMap(textOf) : Array.from({ length: longs }, (_, i) => USUAL[(7 * i + 3 * number) % USUAL.length]);
-  if (kind === DATA && !texts) content.forEach((_, i) => (content[i] = i % 4 === 3 ? 0 : (0x01800111 * (i + number)) >>> 0));
+  const code = (_, i) => USUAL[(7 * i + 3 * number) % USUAL.length];
+  const table = (_, i) => (i % 4 === 3 ? 0 : (0x01800111 * (i + number)) >>> 0);
+  const content = texts ? texts.flatMap(textOf) : Array.from({ length: longs }, kind === CODE ? code : table);
   const wanted = Object.entries(targets).flatMap(([target, many]) => Array(many).fill(Number(target)));
   const step = wanted.length > 0 ? Math.floor((content.length - 2) / wanted.length) : 0;
   const places = wanted.map((target, i) => [target, 4 * (i * step + 1)]);
