@@ -20,6 +20,11 @@ read_one bytes at end w p after inside less here word e =
 run_passed : (bytes : List ℕ) (at end n : ℕ) (p after : Position) → 4 * end ≤ length bytes → at + n ≤ end → n ≡ load.run p → load_at (take at (longs bytes)) ≡ p → after ≡ load.pass p n → load_at (take (at + n) (longs bytes)) ≡ after
 run_passed bytes at end n p after inside less run here e = run_on (longs bytes) at p here n (omega (arith, run)) (omega (arith, inside, less, length-longs bytes)) ∙ sym e
 
+-- Both at once.
+run_read : (bytes : List ℕ) (at end w n : ℕ) (p after last : Position) → 4 * end ≤ length bytes → at < end → p ≡ load_at (take at (longs bytes)) → w ≡ get_or (longs bytes) at 0 → after ≡ load.step p w → at + 1 + n ≤ end → n ≡ load.run after → last ≡ load.pass after n → load_at (take (at + 1 + n) (longs bytes)) ≡ last
+run_read bytes at end w n p after last inside less here word steps run passes e =
+    run_passed bytes (at + 1) end n after last inside run passes (read_one bytes at end w p after inside less here word steps) e
+
 -- Before its end none is found.
 none_in_run : (bytes : List ℕ) (at end : ℕ) (p : Position) → 4 * end ≤ length bytes → load_at (take at (longs bytes)) ≡ p → (m : ℕ) → at ≤ m → m ≤ end → m < at + load.run p → find_hunk (longs bytes) m ≡ None
 none_in_run bytes at end p inside here m from to less = none_within (longs bytes) at p here m less (omega (arith, to, inside, length-longs bytes)) m from (omega arith)
@@ -55,11 +60,9 @@ pub longwords-preserved-in-Some : goal.longwords-preserved-in-Some
 longwords-preserved-in-Some c =
     let w = c.longwords in
     let bytes = c.args.bytes.now in
-    let p = c.step-position.result in
     let n = c.run-run.result in
     let less : w.at + 1 + n ≤ c.args.end = omega (arith, c.if-run-end.false, c.longwords-test.true) in
-    let here = read_one bytes w.at c.args.end _ w.position p c.requires c.longwords-test.true w.invariant.1 c.word_at.ensures c.step-position.ensures in
-    let there = run_passed bytes (w.at + 1) c.args.end n p c.pass-position.result c.requires less c.run-run.ensures.value here c.pass-position.ensures in (
+    let there = run_read bytes w.at c.args.end _ n w.position _ _ c.requires c.longwords-test.true w.invariant.1 c.word_at.ensures c.step-position.ensures less c.run-run.ensures.value c.pass-position.ensures in (
       less,
       sym there,
       last_here (find_hunk (longs bytes)) (w.at + 1 + n) c.in-Some.hunk (ap hunk_between there ∙ sym c.hunk_between.ensures ∙ c.in-Some.is),
@@ -69,10 +72,10 @@ pub longwords-preserved : goal.longwords-preserved
 longwords-preserved c =
     let w = c.longwords in
     let bytes = c.args.bytes.now in
-    let p = c.step-position.result in
     let n = c.run-run.result in
-    let less : w.at + 1 + n ≤ c.args.end = omega (arith, c.if-run-end.false, c.longwords-test.true) in
+    let p = c.step-position.result in
     let here = read_one bytes w.at c.args.end _ w.position p c.requires c.longwords-test.true w.invariant.1 c.word_at.ensures c.step-position.ensures in
+    let less : w.at + 1 + n ≤ c.args.end = omega (arith, c.if-run-end.false, c.longwords-test.true) in
     let there = run_passed bytes (w.at + 1) c.args.end n p c.pass-position.result c.requires less c.run-run.ensures.value here c.pass-position.ensures in
     let none = ap hunk_between there ∙ sym c.hunk_between.ensures ∙ c.in_default.is in (
       less,
