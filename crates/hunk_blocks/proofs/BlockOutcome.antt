@@ -13,7 +13,7 @@ use Rattle.hunk_blocks.proofs.{Admitted.block, BlockCompletion.{completes, run_f
 use Rattle.hunk_blocks.proofs.BlockProgress.{read_inside, read_next, NextFits, step_fits, step_reads}
 use Rattle.hunk_blocks.proofs.OneBlockFault.{Alone, AtWord, After, alone, block_reads, alone_inside, part_not_word}
 use Rattle.hunk_blocks.proofs.Outcomes.{Keeps, state_after, front, judged, completed}
-use Rattle.hunk_blocks.proofs.{BodyFaults.expects_word, Decoding.{front_bytes, no_block}, FaultLaws.words-append}
+use Rattle.hunk_blocks.proofs.{BodyFaults.expects_word, Decoding.{front_bytes, no_block}, FaultLaws.words-append, Lists.not_nil}
 
 -- ---- what is read so far
 
@@ -102,10 +102,6 @@ goes_on_none mode bytes role e =
     let all : block_text e.value ≡ longs bytes ++ left = ap words e.labels ∙ words-append e.done ((role, e.word) ∷ e.more) ∙ ap (λ ws. ws ++ left) e.begins in
     let p = block_prefix b e.value (more ++ left) is e.is.0 (sym (append_assoc (block_text b) more left) ∙ ap (λ ws. ws ++ left) (sym split) ∙ sym all) in
     not_nil more e.word (words e.more) p.1)
-  where
-    not_nil : (xs : List ℕ) (y : ℕ) (ys : List ℕ) → xs ++ y ∷ ys ≡ [] → ⊥
-    not_nil [] y ys h = cc
-    not_nil (x ∷ xs) y ys h = cc
 
 pub some_outcome : (mode : Mode) (bytes : List ℕ) → IsBytes bytes → ((b : BlockValue) × (n : ℕ) × BeginsWithBlock mode bytes b n) ⊎ ((at : ℕ) × (reason : Reason) × HasBlockFault mode bytes at reason)
 unfolding Begun keeps

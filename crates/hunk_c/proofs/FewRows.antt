@@ -1,12 +1,13 @@
 -- A longword of a file stands for one row of a table at most.
 use Rattle.std.proofs.Common.{◌≡◌, ℕ, ◌+◌, ◌-◌, ◌*◌, ◌/◌, ◌≤◌, List, [], ◌∷◌, ◌++◌, length, map, sym, ap, subst, arith, append_assoc, length-append}
 use Rattle.std.specs.List.{AllByRecursion, flat_map}
-use Rattle.std.proofs.lemmas.{List.Sums.sum_by-cons, List.length-map}
+use Rattle.std.proofs.lemmas.{List.length-map}
 use Rattle.hunk_words.specs.Carriers.{saturated}
 use Rattle.hunk_words.proofs.LongLaws.{length-bytes_of}
-use Rattle.hunk_grammar.specs.BlockParts.{EntryWord, ExtWord, GroupCount, Offset, Part}
+use Rattle.hunk_grammar.specs.BlockParts.{EntryWord, ExtWord, GroupCount, Part}
 use Rattle.hunk_blocks.specs.Parts.{block_parts, block_text, body_parts, ext_parts, ext_text, group_parts, symbol_parts, symbol_text}
-use Rattle.hunk_blocks.specs.Values.{BlockBody, BlockValue, ExtEntry, FitsWord, IsBlock, IsExtEntry, RelocGroup, Reloc, Ext, Symbol, offset_count}
+use Rattle.hunk_blocks.specs.Values.{BlockBody, BlockValue, ExtEntry, FitsWord, IsBlock, IsExtEntry, Reloc, Ext, Symbol}
+use Rattle.hunk_blocks.proofs.PartTexts.{offsets_few}
 use Rattle.hunk_files.specs.{Findings.{FindingValue, reference_width}, Hunks.block_texts, HunkFile.{IsFileOf, file_bytes}, LoadFile.{HunkValue, IsLoadFile, LoadFileValue}}
 use Rattle.hunk_files.specs.{LoadText.text, PlacedFindings.placed_findings, Tables.{header_text, hunk_texts}}
 use Rattle.hunk_files.specs.Items.{ItemValue, UnitItem, HunkItem, BlockItem, blocks_items, hunks_items, item_text, units_items}
@@ -108,16 +109,6 @@ few_entries bytes file size is = few_in_file entries.block_rows (λ s. of s s.bl
       length-append (flat_map ext_parts es) ((ExtWord, 0) ∷ []),
     )
     of s _ = omega arith
-
-offsets_few : (groups : List RelocGroup) → offset_count groups ≤ length (flat_map group_parts groups)
-offsets_few [] = omega arith
-offsets_few (g ∷ gs) = omega (
-  arith,
-  offsets_few gs,
-  sum_by-cons (λ (group : RelocGroup). length group.offsets) g gs,
-  length-append (group_parts g) (flat_map group_parts gs),
-  length-map {B = Part × ℕ} g.offsets (λ w. (Offset, w)),
-)
 
 pub few_relocations : (bytes : List ℕ) (file : HunkFile) (size : ℕ) → IsFileOf bytes file → length (file_bytes file) ≤ size → length (relocations_in file) ≤ size / 4
 few_relocations bytes file size is = few_in_file relocations.block_rows (λ s. of s s.block.value.body) file size

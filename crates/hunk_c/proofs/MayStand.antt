@@ -6,7 +6,6 @@ use Rattle.std.proofs.lemmas.List.{length-map, map-append}
 use Rattle.std.proofs.lemmas.List.Sums.{sum_by-cons}
 use Rattle.hunk_words.specs.{Bits.{is_advisory, kind, size_longs}, Carriers.saturated, Longs.bytes_of, PendingBytes.pending_of}
 use Rattle.hunk_words.specs.declared.reason.Reason.TheVariants as reasons
-use Rattle.hunk_words.specs.declared.{pending.Pending.Pending}
 use Rattle.hunk_words.specs.declared.block_word.Kind.TheVariants as kinds
 use Rattle.hunk_words.proofs.{LongLaws.length-bytes_of, PendingLaws.pending_few}
 use Rattle.hunk_blocks.specs.Values.{BlockValue}
@@ -25,7 +24,7 @@ use Rattle.hunk_files.proofs.{walk.FileText.in_place, walk.HunkProgress.Fits, wa
 use Rattle.hunk_scatter.specs.{BodyLoaderFields.EndsWhole, BodyReader.{before, state_of}, Streaming.IsFed, declared.store.BodyState.BodyState}
 use Rattle.hunk_scatter.specs.HeaderBytes.{header_words}
 use Rattle.hunk_scatter.specs.declared.stream.Standing.{Standing}
-use Rattle.hunk_scatter.proofs.{HeaderFronts.text_header, HeaderTexts.header_read}
+use Rattle.hunk_scatter.proofs.{HeaderFronts.text_header, HeaderTexts.header_read, StreamLaws.pending_counted}
 use Rattle.hunk_c.specs.Loaders.{MayOwe, MayStand, MayStandAt}
 
 -- ---- how much was read
@@ -115,9 +114,6 @@ inside_owes o word _ a f = absurd f.1
 before_fours : (hs : List HunkValue) → before hs % 4 ≡ 0
 before_fours [] = refl
 before_fours (h ∷ hs) = omega (arith, before_fours hs, sum_by-cons (λ (x : HunkValue). 4 * size_longs x.entry.word) h hs)
-
-pub pending_counted : (p : Pending) → length (pending_of p) < 4 → length (pending_of p) ≡ p.count
-pending_counted p h = grind arith
 
 saturated_fours : (n longs count : ℕ) → n ≡ 4 * longs + count → count < 4 → (saturated n % 4 ≡ count) ⊎ (saturated n ≡ 2 ^ 64 - 1)
 saturated_fours n longs count e few = go (ltb n (2 ^ 64)) refl

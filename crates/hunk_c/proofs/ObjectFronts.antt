@@ -3,24 +3,21 @@ use Rattle.std.proofs.Common.{◌≡◌, ℕ, ◌+◌, ◌*◌, ◌≤◌, true,
 use Rattle.std.proofs.lemmas.Bool.{cases_lt}
 use Rattle.hunk_words.specs.{Bits.{bss_word, end_word, kind, unit_word}, Longs.{AreLongs, IsBytes, IsLong, bytes_of, longs}}
 use Rattle.hunk_words.proofs.LongLaws.{bytes_of-append}
-use Rattle.hunk_grammar.specs.ObjectPositions as scan
 use Rattle.hunk_grammar.specs.ObjectRoles.{ObjectRole, Within, WordAt}
-use Rattle.hunk_grammar.specs.declared.object_position.ObjectPosition.{ObjectPosition}
 use Rattle.hunk_grammar.specs.declared.object_position.WordPlace.{WordPlace}
 use Rattle.hunk_grammar.specs.declared.object_position.WordPlace.TheVariants.{BeforeUnits, BetweenHunks, InHunk}
-use Rattle.hunk_blocks.specs.{BlockSteps.{AtSize, ForBss, part_of}, Faults.{IsFront, words}}
-use Rattle.hunk_blocks.proofs.{Decoding.front_bytes, FaultScan.front_passes, Fronts.All-left, Outcomes.{expected_role, judged, state_after}}
-use Rattle.hunk_files.specs.{Machines.{leads_to, object_at}, ObjectFault.{objects, units_labelled}}
+use Rattle.hunk_blocks.specs.{BlockSteps.{AtSize, ForBss, part_of}, Faults.words}
+use Rattle.hunk_blocks.proofs.{Decoding.front_bytes, Fronts.All-left, Outcomes.{expected_role, state_after}}
+use Rattle.hunk_files.specs.{Machines.object_at, ObjectFault.{IsInUnit, objects, units_labelled}}
 use Rattle.hunk_files.specs.ObjectFile.{IsObjectFile, ObjectFileValue, object_text}
 use Rattle.hunk_files.specs.declared.hunk_file.HunkFile.TheVariants as files
 use Rattle.hunk_files.proofs.cuts.UnitReading.{object_longs}
-use Rattle.hunk_files.proofs.object_walk.ObjectGoesOn.{SoFar, expected, goes_on, never, whole_units}
-use Rattle.hunk_files.proofs.object_walk.ObjectOutcome.{keeps}
-use Rattle.hunk_files.proofs.object_walk.ObjectWalks.{position_of, step_position}
+use Rattle.hunk_files.proofs.object_walk.ObjectGoesOn.{SoFar, expected, goes_on, whole_units}
+use Rattle.hunk_files.proofs.object_walk.{ObjectPlaces.{object_read, position_from}, ObjectWalks.position_of}
 use Rattle.hunk_files.proofs.object_walk.OneObjectFault.{AtCount, AtWord, InBlock, InName, ObjectState, object_reads, reader}
 use Rattle.hunk_files.proofs.object_walk.UnitFaults.{units_words}
 use Rattle.hunk_c.specs.FrontPlaces.{FindsNone, IsFrontOf, IsLast, ReadsUpTo, find_place, place_between}
-use Rattle.hunk_c.specs.Fronts.{HasNoFrontWhere, InObjectText, IsFrontWhere, IsInUnit, ObjectIsClosed, hunk_end, open_at}
+use Rattle.hunk_c.specs.Fronts.{HasNoFrontWhere, InObjectText, IsFrontWhere, ObjectIsClosed, hunk_end, open_at}
 use Rattle.hunk_c.specs.declared.front.{ObjectPlace.ObjectPlace}
 use Rattle.hunk_c.proofs.LastPlaces.{none_next, still_last, still_none}
 
@@ -29,21 +26,9 @@ use Rattle.hunk_c.proofs.LastPlaces.{none_next, still_last, still_none}
 after : List ℕ → ObjectState
 after ws = state_after reader reader.start ws
 
-position_from : (s : ObjectState) (ws : List ℕ) → leads_to scan.step (position_of s) ws ≡ position_of (state_after reader s ws)
-position_from s [] = refl
-position_from s (w ∷ ws) = ap (λ (p : ObjectPosition). leads_to scan.step p ws) (sym (step_position s w)) ∙ position_from (reader.step s w) ws
-
 place_is : (ws : List ℕ) → object_at ws ≡ position_of (after ws)
 unfolding after
 place_is ws = position_from reader.start ws
-
-object_read : (ws : List ℕ) → AreLongs ws → IsFront objects ws → SoFar (after ws) ws
-unfolding keeps after
-object_read ws l front = elim (judged objects reader keeps ws l) [
-  | inl h ↦ absurd (never h.state h.stops)
-  | inr (inl h) ↦ absurd (front_passes objects reader object_reads ws h.at h.reason h.refusal front)
-  | inr (inr h) ↦ h
-]
 
 between_place : (s : ObjectState) (place : WordPlace) → place_between (position_of s) ≡ Some place → (s ≡ AtWord place) × IsInUnit place
 between_place (AtWord BeforeUnits) place e = absurd cc
@@ -73,6 +58,7 @@ found_there ws i =
 module _ (ws : List ℕ) (end : ℕ) (r : ReadsUpTo objects ws end) where
   -- The longwords up to the end were read.
   read_to : (n : ℕ) → n ≤ end → SoFar (after (take n ws)) (take n ws)
+  unfolding after
   read_to n l =
       let f = r.front in
       let more : List ℕ = drop n (take end ws) ++ f.more in

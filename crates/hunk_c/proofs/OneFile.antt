@@ -1,17 +1,14 @@
 -- Bytes are one file, or begin with one.
 use Rattle.std.proofs.Common.{rules, ◌≡◌, ℕ, ◌+◌, ◌<◌, ◌≤◌, List, [], ◌∷◌, ◌++◌, length, sym, ap, ap₂, ◌∙◌, append-nil, arith, length-append, inl, inr}
-use Rattle.std.specs.List.{flat_map}
-use Rattle.hunk_words.specs.Longs.{AreLongs, IsLong, bytes_of, longs}
+use Rattle.hunk_words.specs.Longs.{bytes_of, longs}
 use Rattle.hunk_words.proofs.LongLaws.{longs-bytes_of}
-use Rattle.hunk_blocks.specs.{Parts.block_text, Values.IsBlock}
-use Rattle.hunk_blocks.proofs.{BlockLongs.block_longs, Lists.All-append}
 use Rattle.hunk_files.specs.Fault.{BeginsWithLoadFile}
 use Rattle.hunk_files.specs.HunkFile.{AreFile, AreObjectFile, IsFileOf, bytes_after, file_bytes, stripped}
-use Rattle.hunk_files.specs.ObjectFile.{ObjectFileValue, ObjectHunk, UnitValue, IsObjectHunk, IsUnit, object_text, unit_header, unit_text}
+use Rattle.hunk_files.specs.ObjectFile.{ObjectFileValue, object_text}
 use Rattle.hunk_files.specs.declared.hunk_file.HunkFile.{HunkFile}
 use Rattle.hunk_files.specs.{LoadFile.LoadFileValue, LoadText.text}
 use Rattle.hunk_files.specs.declared.hunk_file.HunkFile.TheVariants as files
-use Rattle.hunk_files.proofs.{walk.Accepted.All-flat_map, cuts.UnitCutLaws.object_value, walk.Scan.{begun_longs, one_front}}
+use Rattle.hunk_files.proofs.{cuts.{UnitCutLaws.object_value, UnitReading.object_longs}, walk.Scan.{begun_longs, one_front}}
 use Rattle.hunk_files.proofs.{strip.StripSteps.shorter, strip.StripText.bytes_shorter, cuts.TableReading.text_is}
 
 -- ---- load files
@@ -31,22 +28,14 @@ one_rest bytes a b = omega (
 
 -- ---- object files
 
-hunk_longs : (h : ObjectHunk) → IsObjectHunk h → AreLongs (flat_map block_text h)
-hunk_longs h is = All-flat_map IsBlock IsLong block_text block_longs h is.blocks
-
-unit_longs : (u : UnitValue) → IsUnit u → AreLongs (unit_text u)
-unit_longs u is =
-    All-append IsLong (unit_header u.name) (flat_map (flat_map block_text) u.hunks) (omega arith, (omega (arith, is.name.0), is.name.1))
-    (All-flat_map IsObjectHunk IsLong (flat_map block_text) hunk_longs u.hunks is.hunks)
-
-object_longs : (bytes : List ℕ) (o : AreObjectFile bytes) → longs bytes ≡ object_text o.value
-object_longs bytes o =
+longs_of_object : (bytes : List ℕ) (o : AreObjectFile bytes) → longs bytes ≡ object_text o.value
+longs_of_object bytes o =
     ap longs (o.text_is ∙ sym (append-nil (bytes_of (object_text o.value))))
-    ∙ longs-bytes_of (object_text o.value) [] (All-flat_map IsUnit IsLong unit_text unit_longs o.value o.is_object_file.units)
+    ∙ longs-bytes_of (object_text o.value) [] (object_longs o.value o.is_object_file.units)
     ∙ append-nil (object_text o.value)
 
 one_object : (bytes : List ℕ) (a b : AreObjectFile bytes) → a.value ≡ b.value
-one_object bytes a b = object_value a.value b.value a.is_object_file b.is_object_file (sym (object_longs bytes a) ∙ object_longs bytes b)
+one_object bytes a b = object_value a.value b.value a.is_object_file b.is_object_file (sym (longs_of_object bytes a) ∙ longs_of_object bytes b)
 
 -- ---- files of either kind
 
@@ -57,7 +46,7 @@ begins_unit (u ∷ o) ws some e = search rules
 not_both : (bytes : List ℕ) → BeginsWithLoadFile bytes → AreObjectFile bytes → ⊥
 not_both bytes l o =
     begins_unit o.value _ o.is_object_file.some
-    (sym (object_longs bytes o) ∙ begun_longs bytes l ∙ ap (λ (ws : List ℕ). ws ++ longs l.rest) (text_is l.value))
+    (sym (longs_of_object bytes o) ∙ begun_longs bytes l ∙ ap (λ (ws : List ℕ). ws ++ longs l.rest) (text_is l.value))
 
 pub one_file : (bytes : List ℕ) (a b : HunkFile) → IsFileOf bytes a → IsFileOf bytes b → a ≡ b
 one_file bytes (files.Load v n) (files.Load w m) is ok =

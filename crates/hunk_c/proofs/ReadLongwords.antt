@@ -1,10 +1,10 @@
 -- How far the longwords of a file are read: to its end, or to its fault.
 use Rattle.std.proofs.Common.{◌≡◌, ℕ, suc, ◌+◌, ◌-◌, ◌/◌, ◌<◌, ◌≤◌, List, [], ◌∷◌, ◌++◌, length, take, refl, sym, ap, subst, ◌∙◌, append_assoc, append-nil, length-append, arith, inl, inr}
 use Rattle.std.proofs.lemmas.List.{length-take-le, take_all, take_at}
-use Rattle.hunk_words.specs.{declared.reason.Reason.Reason, Longs.{longs}}
+use Rattle.hunk_words.specs.{declared.reason.Reason.Reason, Longs.longs}
 use Rattle.hunk_words.proofs.LongLaws.{length-bytes_of, length-longs}
 use Rattle.hunk_blocks.specs.Faults.{Expects, Grammar, HasRefusal, IsFront, words}
-use Rattle.hunk_blocks.proofs.{FaultLaws.words-append, FaultScan.{Machine, Reads, front_passes}}
+use Rattle.hunk_blocks.proofs.{FaultLaws.words-append, FaultScan.{Machine, Reads, front_passes}, Lists.not_nil}
 use Rattle.hunk_files.specs.Fault.{BeginsWithLoadFile, HasFault, HasLoadText, load_files}
 use Rattle.hunk_files.specs.LoadText.{text}
 use Rattle.hunk_files.specs.ObjectFault.{HasObjectFault, objects}
@@ -78,10 +78,6 @@ fault_reads bytes at reason (inl h) = refused_reads load_files load_reader load_
 fault_reads bytes at reason (inr h) =
     let here : at / 4 ≡ length (longs bytes) = omega (arith, h.1.place) in
     subst (ReadsUpTo load_files (longs bytes)) (sym here) (all_reads load_files (longs bytes) h.1.front)
-
-not_nil : (xs : List ℕ) (y : ℕ) (ys : List ℕ) → xs ++ y ∷ ys ≡ [] → ⊥
-not_nil [] y ys h = cc
-not_nil (x ∷ xs) y ys h = cc
 
 file_reads : (bytes : List ℕ) (b : BeginsWithLoadFile bytes) → ReadsUpTo load_files (longs bytes) (length (text b.value))
 file_reads bytes b =

@@ -11,6 +11,10 @@ use Rattle.hunk_c.specs.Loads.{HavePlaces, Loads, LoadsWhatFits, IsNotLoaded, Ha
 pub same_header : (bytes : List ℕ) (t u : List TableEntry) → BeginsWithHeader bytes t → BeginsWithHeader bytes u → t ≡ u
 same_header bytes t u h k = one_table t u h.rest k.rest h.is_table k.is_table (sym h.split ∙ k.split)
 
+-- whichever table the header has, it has so many rows
+pub same_length : (bytes : List ℕ) (t u : List TableEntry) (n : ℕ) → BeginsWithHeader bytes t → length t ≡ n → BeginsWithHeader bytes u → length u ≡ n
+same_length bytes t u n h e k = ap (λ (v : List TableEntry). length v) (same_header bytes u t k h) ∙ e
+
 -- The header that a load file begins with.
 pub file_header : (bytes : List ℕ) (file : BeginsWithLoadFile bytes) → BeginsWithHeader bytes (table file.value)
 file_header bytes file =

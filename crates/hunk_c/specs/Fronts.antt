@@ -1,17 +1,17 @@
 -- What of a file stands before its fault, and the whole file that it is made.
-use Rattle.std.specs.Prelude.{◌≡◌, ℕ, zero, suc, ◌*◌, ◌<◌, ◌≤◌, Bool, true, false, List, [], ◌∷◌, ◌++◌, length, take, drop, Option, Some, None, ◌⊎◌, ⊤}
+use Rattle.std.specs.Prelude.{◌≡◌, ℕ, zero, suc, ◌*◌, ◌<◌, ◌≤◌, Bool, true, false, List, [], ◌∷◌, ◌++◌, length, take, drop, Option, Some, None, ◌⊎◌}
 use Rattle.hunk_words.specs.Bits.{bss_word, end_word}
 use Rattle.hunk_words.specs.Longs.{longs}
 use Rattle.hunk_grammar.specs.BlockParts.{Part as parts}
 use Rattle.hunk_grammar.specs.Roles.{Place, InBlock}
 use Rattle.hunk_grammar.specs.ObjectRoles.{WordAt}
 use Rattle.hunk_grammar.specs.declared.object_position.WordPlace.{WordPlace}
-use Rattle.hunk_grammar.specs.declared.object_position.WordPlace.TheVariants.{BeforeUnits, InHunk}
+use Rattle.hunk_grammar.specs.declared.object_position.WordPlace.TheVariants.{InHunk}
 use Rattle.hunk_blocks.specs.Faults as faults
 use Rattle.hunk_files.specs.Fault.{Expects}
 use Rattle.hunk_files.specs.LoadFile.{LoadFileValue, IsLoadFile}
 use Rattle.hunk_files.specs.LoadText.{text}
-use Rattle.hunk_files.specs.ObjectFault.{objects}
+use Rattle.hunk_files.specs.ObjectFault.{IsInUnit, objects}
 use Rattle.hunk_files.specs.ObjectFile.{ObjectFileValue, IsObjectFile, object_text}
 use Rattle.hunk_files.specs.HunkFile.{file_bytes}
 use Rattle.hunk_files.specs.declared.hunk_file.HunkFile.{HunkFile}
@@ -21,11 +21,6 @@ use Rattle.hunk_c.specs.Answers.{no_room, done}
 use Rattle.hunk_c.specs.Files.{hunks_in}
 
 -- ---- where a front ends
-
--- the place is in a unit
-abbrev pub IsInUnit : WordPlace → Type 0
-IsInUnit BeforeUnits = ⊥
-IsInUnit place = ⊤
 
 -- A load text begins with these longwords, and then has a block word.
 pub record InLoadText (ws : List ℕ) : Type 0 where

@@ -2,25 +2,12 @@
 use Rattle.std.proofs.Common.{◌≡◌, ℕ, ◌^◌, ◌<◌, ◌≤◌, List, [], ◌∷◌, ◌++◌, length, refl, sym, ap, ◌∙◌, arith, length-append}
 use Rattle.std.specs.List.{flat_map}
 use Rattle.std.proofs.lemmas.List.{length-map}
-use Rattle.std.proofs.lemmas.List.Sums.{sum_by-cons}
 use Rattle.hunk_words.specs.Longs.{bytes_of}
 use Rattle.hunk_words.proofs.LongLaws.{length-bytes_of}
-use Rattle.hunk_grammar.specs.BlockParts.{Part, Offset}
+use Rattle.hunk_grammar.specs.BlockParts.{Part}
+use Rattle.hunk_blocks.proofs.PartTexts.{offsets_few}
 use Rattle.hunk_blocks.specs.Parts.{block_text, body_parts, body_text, ext_parts, group_parts, symbol_parts}
 use Rattle.hunk_blocks.specs.Values.{RelocGroup, ExtEntry, SymbolEntry, BlockBody, Reloc, Ext, Symbol, BlockValue, offset_count}
-
--- ---- the offsets of groups
-
--- each is a longword of the text
-offsets_within : (groups : List RelocGroup) → offset_count groups ≤ length (flat_map group_parts groups)
-offsets_within [] = omega arith
-offsets_within (g ∷ groups) = omega (
-  arith,
-  sum_by-cons (λ group. length group.offsets) g groups,
-  offsets_within groups,
-  length-append (group_parts g) (flat_map group_parts groups),
-  length-map {B = Part × ℕ} g.offsets (λ w. (Offset, w)),
-)
 
 -- ---- numbers that fit
 
@@ -38,7 +25,7 @@ list_fits block body items last size is parts_are size_is fits =
 
 pub offsets_fit : (block : BlockValue) (groups : List RelocGroup) (size : ℕ) → Reloc groups ≡ block.body → size ≡ length (bytes_of (block_text block)) → size < 2 ^ 64 →
     offset_count groups < 2 ^ 64
-offsets_fit block groups size is size_is fits = omega (arith, offsets_within groups, list_fits block (Reloc groups) (flat_map group_parts groups) _ size is refl size_is fits)
+offsets_fit block groups size is size_is fits = omega (arith, offsets_few groups, list_fits block (Reloc groups) (flat_map group_parts groups) _ size is refl size_is fits)
 
 pub entries_fit : (block : BlockValue) (entries : List ExtEntry) (size : ℕ) → Ext entries ≡ block.body → size ≡ length (bytes_of (block_text block)) → size < 2 ^ 64 →
     length entries < 2 ^ 64

@@ -1,10 +1,9 @@
 -- The longwords of headers: what they spell, and that a reader of load files takes them.
 use Rattle.std.proofs.Common.{rules, ◌≡◌, ℕ, ◌+◌, ◌*◌, ◌≤◌, Bool, true, false, List, [], ◌∷◌, ◌++◌, length, refl, sym, ap, subst, ◌∙◌, append_assoc, append-nil, arith}
 use Rattle.std.specs.List.{AllByRecursion, flat_map}
-use Rattle.std.proofs.lemmas.List.{map-append}
 use Rattle.hunk_words.specs.{Limits.most_hunks, Bits.has_both_bits}
-use Rattle.hunk_blocks.proofs.Lists.{passes_then}
-use Rattle.hunk_grammar.specs.{Positions.is_after_header, Roles.{Role, Role as roles}}
+use Rattle.hunk_blocks.proofs.{FaultLaws.words-append, Lists.passes_then}
+use Rattle.hunk_grammar.specs.{Positions.is_after_header, Roles.{Role as roles}}
 use Rattle.hunk_blocks.specs.Faults.{words}
 use Rattle.hunk_files.specs.{LoadFile.{TableEntry, IsTableEntry}, LoadText.{entry_labelled, header_labelled}}
 use Rattle.hunk_files.specs.FileSteps.{table_entry, AtSizeWord, AtAttributes, AtBlock, InBody, Next, More, Finished, open_hunk}
@@ -40,9 +39,6 @@ entries_most (w ∷ x ∷ ws) = grind (arith, entries_most ws, entries_most (x �
 
 entry_first : (e : TableEntry) → IsTableEntry e → (ws : List ℕ) → entries_in (words (entry_labelled e) ++ ws) ≡ e ∷ entries_in ws
 entry_first e h ws = search rules
-
-words-append : (xs ys : Labelled) → words (xs ++ ys) ≡ words xs ++ words ys
-words-append xs ys = map-append (λ (x : Role × ℕ). x.1) xs ys
 
 -- The longwords of a table spell its entries.
 pub entries-table : (t : List TableEntry) → AllByRecursion IsTableEntry t → (ls : Labelled) → entries_in (words (flat_map entry_labelled t ++ ls)) ≡ t ++ entries_in (words ls)

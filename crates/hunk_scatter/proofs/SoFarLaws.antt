@@ -1,8 +1,7 @@
 -- What a loader has made of a file that it has begun, by the file.
 use Rattle.std.proofs.Common.{rules, ◌≡◌, ℕ, ◌*◌, ◌/◌, false, List, ◌∷◌, ◌++◌, length, sym, ap, ◌∙◌, append_assoc, append-nil}
-use Rattle.std.specs.List.{flat_map}
 use Rattle.hunk_words.specs.{Longs.{bytes_of, longs}, PendingBytes.pending_of}
-use Rattle.hunk_blocks.specs.{BlockSteps.{Open, Whole}, Values.{BlockValue, End}}
+use Rattle.hunk_blocks.specs.{BlockSteps.{Open, Whole}, Values.End}
 use Rattle.hunk_blocks.proofs.Lists.{flat_map-append}
 use Rattle.hunk_grammar.specs.Positions.{is_done}
 use Rattle.hunk_grammar.specs.declared.file_kind.Sniff.TheVariants as sniffs
@@ -11,16 +10,10 @@ use Rattle.hunk_files.specs.{FileSteps.{block, hunk, AtBlock, InBody, More, Next
 use Rattle.hunk_files.specs.{LoadText.text, OpenSegment.{bytes_in, open_bytes, open_pairs, pairs_in, segment_so_far}}
 use Rattle.hunk_files.specs.{Machines.load_at, ReadFiles.IsOf, ReaderPosition.{IsAfterHeader, position_of}, WordsRead.HasRead, declared.row.Row.Row}
 use Rattle.hunk_files.specs.declared.part.Part.TheVariants as parts
-use Rattle.hunk_files.proofs.{walk.LoadPlaces.position_at, walk.ReadFiles.read_of}
+use Rattle.hunk_files.proofs.{image.FillingLaws.{contents, relocations_in}, walk.LoadPlaces.position_at, walk.ReadFiles.read_of}
 use Rattle.hunk_scatter.specs.{BodyLoaderFields.IsFed, BodyReader.state_of, Rows.bases_of, SoFar.HoldsSoFar, StoreContent.{StoreHolds, zeros}}
 use Rattle.hunk_scatter.specs.{declared.store.BodyState.BodyState, declared.stream.Standing.Standing}
 use Rattle.hunk_scatter.proofs.{BodyFields.{gone, text_here}, Outcomes.longs_are, PartLaws.hunk_here}
-
-abbrev contents : List BlockValue → List ℕ
-contents bs = flat_map (λ b. block_content b.body) bs
-
-abbrev relocated_by : List BlockValue → List (ℕ × ℕ)
-relocated_by bs = flat_map (λ b. block_relocations b.body) bs
 
 -- what was read of the blocks of a hunk, and what is to come
 split_at : {A : Type 0} (xs ys zs body more : List A) → ys ≡ body ++ more → xs ++ (ys ++ zs) ≡ (xs ++ body) ++ (more ++ zs)
@@ -34,11 +27,11 @@ so_far rows store state v (AtBlock o) b e h k = record {
   bytes = open_bytes o (Whole End);
   more_bytes = contents k.blocks;
   pairs = open_pairs o (Whole End);
-  more_pairs = relocated_by k.blocks;
+  more_pairs = relocations_in k.blocks;
   hunks_are = k.hunks_are;
   hunk_is = ap (λ (t : BodyState). t.hunk) (sym e);
   content_is = flat_map-append (λ b. block_content b.body) o.blocks k.blocks ∙ ap (λ bs. bs ++ contents k.blocks) (sym (append-nil (contents o.blocks)));
-  relocations_are = flat_map-append (λ b. block_relocations b.body) o.blocks k.blocks ∙ ap (λ ps. ps ++ relocated_by k.blocks) (sym (append-nil (relocated_by o.blocks)));
+  relocations_are = flat_map-append (λ b. block_relocations b.body) o.blocks k.blocks ∙ ap (λ ps. ps ++ relocations_in k.blocks) (sym (append-nil (relocations_in o.blocks)));
   store_is = h.store_is ∙ ap (λ (t : List TableEntry). images (bases_of rows) o.finished ++ (segment_so_far (bases_of rows) o (Whole End) ++ zeros t)) (sym k.table_is);
 }
 so_far rows store state v (InBody o word x) b e h k = record {
@@ -48,7 +41,7 @@ so_far rows store state v (InBody o word x) b e h k = record {
   bytes = open_bytes o (Open x);
   more_bytes = k.bytes ++ contents k.blocks;
   pairs = open_pairs o (Open x);
-  more_pairs = k.pairs ++ relocated_by k.blocks;
+  more_pairs = k.pairs ++ relocations_in k.blocks;
   hunks_are = k.hunks_are;
   hunk_is = ap (λ (t : BodyState). t.hunk) (sym e);
   content_is =
@@ -56,7 +49,7 @@ so_far rows store state v (InBody o word x) b e h k = record {
       ∙ split_at (contents o.blocks) (block_content k.body) (contents k.blocks) (bytes_in x) k.bytes k.content_is;
   relocations_are =
       flat_map-append (λ b. block_relocations b.body) o.blocks (block word k.body ∷ k.blocks)
-      ∙ split_at (relocated_by o.blocks) (block_relocations k.body) (relocated_by k.blocks) (pairs_in x) k.pairs k.relocations_are;
+      ∙ split_at (relocations_in o.blocks) (block_relocations k.body) (relocations_in k.blocks) (pairs_in x) k.pairs k.relocations_are;
   store_is = h.store_is ∙ ap (λ (t : List TableEntry). images (bases_of rows) o.finished ++ (segment_so_far (bases_of rows) o (Open x) ++ zeros t)) (sym k.table_is);
 }
 so_far rows store state v _ b e h k = absurd cc

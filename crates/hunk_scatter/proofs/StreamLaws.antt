@@ -73,7 +73,7 @@ ends s false e = λ rows store fed h. (fed_clean rows store s fed h, fed_truncat
 
 -- ---- what is owed
 
-pending_counted : (p : Pending) → length (pending_of p) < 4 → length (pending_of p) ≡ p.count
+pub pending_counted : (p : Pending) → length (pending_of p) < 4 → length (pending_of p) ≡ p.count
 pending_counted p h = grind arith
 
 -- A loader has no more bytes of a longword than that has; where the file is whole, it has none.

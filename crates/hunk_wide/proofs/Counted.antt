@@ -25,14 +25,9 @@ use Rattle.hunk_wide.specs.Halves.{HalvesLead, behind_filler, behind_half, half_
 use Rattle.hunk_wide.specs.Longwords.{behind_block, behind_long, behind_word, given, given_block, given_object, go_on, out_long, straight}
 use Rattle.hunk_wide.specs.Plain.{plain, plain_from}
 use Rattle.hunk_wide.specs.Spellings.{BeginsWith, EndsThere, counted, ends_from, ends_of, has_end, is_short, one_if, short_blocks_from, short_blocks_of}
-use Rattle.hunk_wide.proofs.{ShortWords.{halves_give, widened_length}, Placing.{front_half, front_word}}
+use Rattle.hunk_wide.proofs.{ShortWords.{halves_give, widened_length}, Placing.{front_half, front_word, out_length}}
 
 -- ---- the longest plain spelling
-
-out_length : (g : Given) (a b c d w : ℕ) → length (out_long g (a ∷ b ∷ c ∷ d ∷ []) w) ≡ count_long g
-out_length Same a b c d w = refl
-out_length BehindEnd a b c d w = refl
-out_length AsLong a b c d w = refl
 
 most_long : (g : Given) → count_long g ≤ 8
 most_long Same = omega arith

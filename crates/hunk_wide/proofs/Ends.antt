@@ -4,7 +4,7 @@ use Rattle.std.specs.{Int.{to_be_bytes, w32}, List.{flat_map, AllByRecursion}}
 use Rattle.hunk_words.specs.{Bits.{end_word, has_both_bits, kind}, Longs.bytes_of}
 use Rattle.hunk_blocks.specs.Faults.{words}
 use Rattle.hunk_blocks.specs.{Parts.{block_parts, block_text, group_text, list_text}, Modes.IsOfMode, Values.{BlockValue, IsBlock, RelocGroup, IsGroup}}
-use Rattle.hunk_blocks.proofs.PartTexts.{group_text_is}
+use Rattle.hunk_blocks.proofs.{Fronts.{All-left, All-right}, PartTexts.group_text_is}
 use Rattle.hunk_grammar.specs.declared.mode.Mode.TheVariants as modes
 use Rattle.hunk_grammar.specs.declared.phase.Phase.{Phase}
 use Rattle.hunk_grammar.specs.declared.phase.Phase.TheVariants as phases
@@ -29,7 +29,7 @@ use Rattle.hunk_wide.specs.declared.spot.Given.{Given}
 use Rattle.hunk_wide.specs.{Held.{Held, left_of}, InFile.{InFile, LeadsTo, spot_after, spot_of}, Plain.plain, Longwords.{after_short, behind_block, behind_load, given_block, go_on, long_word}}
 use Rattle.hunk_wide.specs.Wide.{IsHalf, IsShort, IsWide, MayLeaveOut, SpellsBlock, SpellsBlocks, SpellsHunks, end_block, filled, halves_of, parity}
 use Rattle.hunk_wide.proofs.{Along.step_same, Leads.{half_leads, long_leads, two_lead}, Steps.{Along, AtBlock, along_run, along_split, at_block, run, run_list, word_begins}}
-use Rattle.hunk_wide.proofs.Short.{All-front, All-back, filled_is, groups_fit, halves-append, is_given, kind_fits, parity-append, short_text, tail, word_bits}
+use Rattle.hunk_wide.proofs.Short.{filled_is, groups_fit, halves-append, is_given, kind_fits, parity-append, short_text, tail, word_bits}
 use Rattle.hunk_wide.proofs.Spelled.{IsContentKind, begins_blocks, begins_more, first, first_at, order_next, some_ahead, wide_plain, word_behind, word_first, words_in}
 
 -- ---- longwords
@@ -112,7 +112,7 @@ module _ (o : OpenHunk) where
       let ns : List ℕ = flat_map group_text gs in
       ap (λ (x : List ℕ). spot_after (Half (after_short o) Count odd) (x ++ more)) (halves-append (group_text g) ns)
       ∙ two_lead (Half (after_short o) Count odd) (Half (after_short o) Count (parity odd (group_text g))) _ (halves_of (group_text g)) (halves_of ns)
-      (group_leads odd g is.0 (All-front IsHalf (group_text g) ns h)) (groups_lead (parity odd (group_text g)) gs is.1 (All-back IsHalf (group_text g) ns h)) more
+      (group_leads odd g is.0 (All-left IsHalf (group_text g) ns h)) (groups_lead (parity odd (group_text g)) gs is.1 (All-right IsHalf (group_text g) ns h)) more
       ∙ ap (λ (b : Bool). spot_after (Half (after_short o) Count b) more) (sym (parity-append odd (group_text g) ns))
 
   tail_leads : (odd : Bool) → LeadsTo (Half (after_short o) Count odd) (halves_of (tail odd)) (load_at (positions.Body o phases.BlockWord))
@@ -126,7 +126,7 @@ module _ (o : OpenHunk) where
       let ns : List ℕ = flat_map group_text gs in
       ap (λ (x : List ℕ). spot_after (Half (after_short o) Count false) (x ++ more)) (ap halves_of (filled_is ns) ∙ halves-append ns (tail (parity false ns)))
       ∙ two_lead (Half (after_short o) Count false) (Half (after_short o) Count (parity false ns)) _ (halves_of ns) (halves_of (tail (parity false ns)))
-      (groups_lead false gs is (All-front IsHalf ns (0 ∷ []) h)) (tail_leads (parity false ns)) more
+      (groups_lead false gs is (All-left IsHalf ns (0 ∷ []) h)) (tail_leads (parity false ns)) more
 
   short_at : (p : Position) (b : BlockValue) (bytes : List ℕ) (s : IsShort b bytes) → AllByRecursion IsGroup s.groups → behind_load p s.word ≡ Half (after_short o) Count false → LeadsTo (load_at p) bytes (load_at (positions.Body o phases.BlockWord))
   unfolding bytes_of
@@ -183,8 +183,8 @@ module _ (hunks longs : ℕ) where
       let k = along_split p q (block_labelled (place_of has) b) (labels (behind has b) bs) along in
       ap (λ (x : List ℕ). spot_after (load_on p) (x ++ more)) s.2
       ∙ two_lead (load_on p) (load_on k.0) (load_on q) s.0 s.1
-      (block_leads (place_of has) b p k.0 s.0 is.0 (All-front _ (block_labelled (place_of has) b) (labels (behind has b) bs) ok) k.1 s.3)
-      (blocks_lead (behind has b) bs k.0 q s.1 is.1 (All-back _ (block_labelled (place_of has) b) (labels (behind has b) bs) ok) k.2 s.4) more
+      (block_leads (place_of has) b p k.0 s.0 is.0 (All-left _ (block_labelled (place_of has) b) (labels (behind has b) bs) ok) k.1 s.3)
+      (blocks_lead (behind has b) bs k.0 q s.1 is.1 (All-right _ (block_labelled (place_of has) b) (labels (behind has b) bs) ok) k.2 s.4) more
 
   -- with END left out: where what comes before it leads
   record LeavesEnd (p q : Position) (bytes : List ℕ) : Type 0 where
@@ -211,13 +211,13 @@ module _ (hunks longs : ℕ) where
   blocks_leave has (b ∷ c ∷ bs) p q bytes is ok along o s =
       let rest : Labelled = labels (behind has b) (c ∷ bs) in
       let k = along_split p q (block_labelled (place_of has) b) rest along in
-      let later = blocks_leave (behind has b) (c ∷ bs) k.0 q s.1 is.1 (All-back _ (block_labelled (place_of has) b) rest ok) k.2
+      let later = blocks_leave (behind has b) (c ∷ bs) k.0 q s.1 is.1 (All-right _ (block_labelled (place_of has) b) rest ok) k.2
       (order_next hunks longs (standing b.body) (standing c.body) has (map (λ (d : BlockValue). standing d.body) bs) o) s.4 in
       record {
         end_at = later.end_at;
         leads = λ more.
             ap (λ (x : List ℕ). spot_after (load_on p) (x ++ more)) s.2
-            ∙ two_lead (load_on p) (load_on k.0) (load_on later.end_at) s.0 s.1 (block_leads (place_of has) b p k.0 s.0 is.0 (All-front _ (block_labelled (place_of has) b) rest ok) k.1 s.3) later.leads more;
+            ∙ two_lead (load_on p) (load_on k.0) (load_on later.end_at) s.0 s.1 (block_leads (place_of has) b p k.0 s.0 is.0 (All-left _ (block_labelled (place_of has) b) rest ok) k.1 s.3) later.leads more;
         at_end = later.at_end;
         closes = later.closes;
       }
@@ -269,8 +269,8 @@ module _ (hunks : ℕ) where
   hunks_lead [] p bytes is ok along s more = λ i. spot_after (load_on (along i)) (s i ++ more)
   hunks_lead (h ∷ hs) p bytes is ok along s more =
       let k = along_split p positions.Done (hunk_labelled hunks h) (all hs) along in
-      let fine = All-front _ (hunk_labelled hunks h) (all hs) ok in
-      let later = hunks_lead hs k.0 s.2 is.1 (All-back _ (hunk_labelled hunks h) (all hs) ok) k.2 s.6 in
+      let fine = All-left _ (hunk_labelled hunks h) (all hs) ok in
+      let later = hunks_lead hs k.0 s.2 is.1 (All-right _ (hunk_labelled hunks h) (all hs) ok) k.2 s.6 in
       let split : bytes ++ more ≡ s.1 ++ (s.2 ++ more) = ap (λ (x : List ℕ). x ++ more) s.3 ∙ append_assoc s.1 s.2 more in
       ap (spot_after (load_on p)) split ∙ go s.0 h hs p k.0 s.1 s.2 is fine k.1 k.2 s.4 s.5 s.6 more ∙ later more
     where
@@ -293,8 +293,8 @@ wide_leads v bytes is s more =
     let k = along_split positions.FirstLong positions.Done header hunks (load_along v is) in
     let ok = labelled_accepted v is in
     ap (λ (x : List ℕ). spot_after (load_at positions.FirstLong) (x ++ more)) s.text
-    ∙ two_lead (load_at positions.FirstLong) (load_on k.0) Passing (bytes_of (words header)) s.hunks (along_leads positions.FirstLong k.0 header k.1 (All-front _ header hunks ok))
-    (hunks_lead (length v) v k.0 s.hunks is.each (All-back _ header hunks ok) k.2 s.spells) more
+    ∙ two_lead (load_at positions.FirstLong) (load_on k.0) Passing (bytes_of (words header)) s.hunks (along_leads positions.FirstLong k.0 header k.1 (All-left _ header hunks ok))
+    (hunks_lead (length v) v k.0 s.hunks is.each (All-right _ header hunks ok) k.2 s.spells) more
 
 pub wide_in_file : (h : Held) (left : Option (List ℕ)) (v : LoadFileValue) (bytes rest : List ℕ) → ((more : List ℕ) → left_of h more ≡ plain more) → ((more : List ℕ) → spot_of h more ≡ spot_after (load_at positions.FirstLong) more)
     → IsLoadFile v → IsWide false v bytes → left ≡ Some (bytes ++ rest) → InFile h left (bytes_of (text v)) rest

@@ -142,7 +142,7 @@ one b rest k = let e : 1 + k ≡ suc k = omega arith in ap (λ (m : ℕ). take m
 two : (a b : ℕ) (rest : List ℕ) (k : ℕ) → take (2 + k) (a ∷ b ∷ rest) ≡ (a ∷ b ∷ []) ++ take k rest
 two a b rest k = let e : 2 + k ≡ suc (suc k) = omega arith in ap (λ (m : ℕ). take m (a ∷ b ∷ rest)) e
 
-out_length : (g : Given) (a b c d w : ℕ) → length (out_long g (a ∷ b ∷ c ∷ d ∷ []) w) ≡ count_long g
+pub out_length : (g : Given) (a b c d w : ℕ) → length (out_long g (a ∷ b ∷ c ∷ d ∷ []) w) ≡ count_long g
 out_length Same a b c d w = refl
 out_length BehindEnd a b c d w = refl
 out_length AsLong a b c d w = refl

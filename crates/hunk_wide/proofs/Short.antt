@@ -10,7 +10,7 @@ use Rattle.hunk_blocks.specs.Parts.{block_text, body_text, group_text, list_text
 use Rattle.hunk_blocks.specs.Modes.{IsOfLoadMode, IsOfMode}
 use Rattle.hunk_grammar.specs.declared.mode.Mode.TheVariants as modes
 use Rattle.hunk_blocks.specs.Values.{BlockBody, BlockValue, FitsWord, IsBlock, Reloc, RelocGroup, IsGroup}
-use Rattle.hunk_blocks.proofs.{Lists.flat_map-append, PartTexts.{body_text_is, group_text_is}}
+use Rattle.hunk_blocks.proofs.{Fronts.{All-left, All-right}, Lists.flat_map-append, PartTexts.{body_text_is, group_text_is}}
 use Rattle.hunk_grammar.specs.declared.position.OpenHunk.{OpenHunk}
 use Rattle.hunk_grammar.specs.declared.position.Position.{Position}
 use Rattle.hunk_grammar.specs.declared.position.Position.TheVariants as positions
@@ -35,14 +35,6 @@ parity-append odd (x ∷ xs) ys = parity-append (not odd) xs ys
 
 pub halves-append : (xs ys : List ℕ) → halves_of (xs ++ ys) ≡ halves_of xs ++ halves_of ys
 halves-append xs ys = flat_map-append (to_be_bytes w16) xs ys
-
-pub All-front : {A : Type 0} (P : A → Type 0) (xs ys : List A) → AllByRecursion P (xs ++ ys) → AllByRecursion P xs
-All-front P [] ys h = tt
-All-front P (x ∷ xs) ys h = (h.0, All-front P xs ys h.1)
-
-pub All-back : {A : Type 0} (P : A → Type 0) (xs ys : List A) → AllByRecursion P (xs ++ ys) → AllByRecursion P ys
-All-back P [] ys h = h
-All-back P (x ∷ xs) ys h = All-back P xs ys h.1
 
 -- with what fills up after the 0 that ends the block
 abbrev pub tail : Bool → List ℕ
@@ -79,13 +71,10 @@ module _ (after : FilePosition) where
   abbrev Goes : Bool → List ℕ → List ℕ → Type 0
   Goes odd ns more = plain_from (Half after Count odd) (halves_of ns ++ more) ≡ bytes_of ns ++ plain_from (Half after Count (parity odd ns)) more
 
-  numbers_of : (g : RelocGroup) → group_text g ≡ length g.offsets ∷ g.target ∷ g.offsets
-  numbers_of g = group_text_is g
-
   group_goes : (odd : Bool) (g : RelocGroup) (more : List ℕ) → IsGroup g → AllByRecursion IsHalf (group_text g) → Goes odd (group_text g) more
   group_goes odd g more is h =
-      subst (λ (ns : List ℕ). Goes odd ns more) (sym (numbers_of g))
-      (numbers_go odd g.target g.offsets more is.some (subst (λ (ns : List ℕ). AllByRecursion IsHalf ns) (numbers_of g) h))
+      subst (λ (ns : List ℕ). Goes odd ns more) (sym (group_text_is g))
+      (numbers_go odd g.target g.offsets more is.some (subst (λ (ns : List ℕ). AllByRecursion IsHalf ns) (group_text_is g) h))
 
   two_go : (odd : Bool) (xs ys more : List ℕ) → Goes odd xs (halves_of ys ++ more) → Goes (parity odd xs) ys more → Goes odd (xs ++ ys) more
   two_go odd xs ys more first second =
@@ -101,8 +90,8 @@ module _ (after : FilePosition) where
   groups_go odd [] more is h = refl
   groups_go odd (g ∷ gs) more is h =
       two_go odd (group_text g) (flat_map group_text gs) more
-      (group_goes odd g (halves_of (flat_map group_text gs) ++ more) is.0 (All-front IsHalf (group_text g) (flat_map group_text gs) h))
-      (groups_go (parity odd (group_text g)) gs more is.1 (All-back IsHalf (group_text g) (flat_map group_text gs) h))
+      (group_goes odd g (halves_of (flat_map group_text gs) ++ more) is.0 (All-left IsHalf (group_text g) (flat_map group_text gs) h))
+      (groups_go (parity odd (group_text g)) gs more is.1 (All-right IsHalf (group_text g) (flat_map group_text gs) h))
 
   tail_goes : (odd : Bool) (more : List ℕ) → plain_from (Half after Count odd) (halves_of (tail odd) ++ more) ≡ bytes_of (0 ∷ []) ++ plain_from (Long after) more
   unfolding plain_from bytes_of
@@ -117,7 +106,7 @@ module _ (after : FilePosition) where
       ap (λ (b : List ℕ). plain_from (Half after Count false) (halves_of b ++ more)) (filled_is ns)
       ∙ ap (λ (b : List ℕ). plain_from (Half after Count false) (b ++ more)) (halves-append ns (tail (parity false ns)))
       ∙ ap (λ (b : List ℕ). plain_from (Half after Count false) b) (append_assoc (halves_of ns) (halves_of (tail (parity false ns))) more)
-      ∙ groups_go false gs (halves_of (tail (parity false ns)) ++ more) is (All-front IsHalf ns (0 ∷ []) h)
+      ∙ groups_go false gs (halves_of (tail (parity false ns)) ++ more) is (All-left IsHalf ns (0 ∷ []) h)
       ∙ ap (λ (b : List ℕ). bytes_of ns ++ b) (tail_goes (parity false ns) more)
       ∙ sym (append_assoc (bytes_of ns) (bytes_of (0 ∷ [])) _)
       ∙ ap (λ (b : List ℕ). b ++ plain_from (Long after) more) (sym (bytes_of-append ns (0 ∷ [])))
@@ -162,11 +151,11 @@ groups_fit word body groups e h = (subst (λ (x : BlockBody). FitsWord word x) e
 pub kind_fits : (word : ℕ) (body : BlockBody) (groups : List RelocGroup) → body ≡ Reloc groups → IsOfLoadMode word body → kind word ≡ kinds.Reloc32
 kind_fits word body groups e h = subst (λ (x : BlockBody). IsOfLoadMode word x) e h
 
+pub false_is : (x : Bool) → IsFalse x → x ≡ false
+false_is x h = search rules
+
 pub word_bits : (b : BlockValue) (bytes : List ℕ) (s : IsShort b bytes) → IsFalse (has_both_bits b.word) → has_both_bits s.word ≡ false
 word_bits b bytes s h = no_bits s.word (ap has_both_bits (sym s.long) ∙ false_is (has_both_bits b.word) h)
-  where
-    false_is : (x : Bool) → IsFalse x → x ≡ false
-    false_is x h = search rules
 
 -- A block in short is given out as its longwords are, and leads where they do.
 pub short_goes : (has : Bool) (p : Position) (b : BlockValue) (bytes more : List ℕ) → AtBlock has p → IsBlock b → IsOfMode modes.Load b → IsShort b bytes →

@@ -1,14 +1,14 @@
 -- A wide spelling of a load file is given out as its plain text.
-use Rattle.std.proofs.Common.{rules, ◌≡◌, ℕ, zero, suc, ◌^◌, ◌<◌, Bool, true, false, ◌||◌, ◌&&◌, cond, eqb, List, [], ◌∷◌, ◌++◌, length, map, refl, sym, ap, ap₂, subst, ◌∙◌, append_assoc, inl, inr, arith}
+use Rattle.std.proofs.Common.{◌≡◌, ℕ, zero, suc, ◌^◌, ◌<◌, Bool, true, false, ◌||◌, ◌&&◌, cond, eqb, List, [], ◌∷◌, ◌++◌, length, map, refl, sym, ap, ap₂, subst, ◌∙◌, append_assoc, inl, inr, arith}
 use Rattle.std.proofs.lemmas.Bool.{lt-ltb}
-use Rattle.std.specs.{Prelude.IsFalse, Int.{to_be_bytes, w32}, List.{flat_map, AllByRecursion}}
+use Rattle.std.specs.{Int.{to_be_bytes, w32}, List.{flat_map, AllByRecursion}}
 use Rattle.hunk_words.specs.declared.block_word.Kind.{Kind}
 use Rattle.hunk_words.specs.declared.block_word.Kind.TheVariants as kinds
-use Rattle.hunk_words.specs.{Bits.{end_word, has_both_bits, kind}, Longs.{AreLongs, bytes_of, longs}}
+use Rattle.hunk_words.specs.{Bits.{end_word, has_both_bits, kind}, Longs.{bytes_of, longs}}
 use Rattle.hunk_words.proofs.LongLaws.{bytes_of-append, longs-bytes_of}
 use Rattle.hunk_blocks.specs.Faults.{words}
 use Rattle.hunk_blocks.specs.{Parts.{block_parts, body_parts, longs_of}, Values.{BlockValue, BlockBody, Code, Data, Bss, IsBlock, FitsWord}}
-use Rattle.hunk_blocks.proofs.FaultLaws.{words-append}
+use Rattle.hunk_blocks.proofs.{FaultLaws.words-append, Fronts.{All-left, All-right}}
 use Rattle.hunk_grammar.specs.declared.phase.Phase.{Phase}
 use Rattle.hunk_grammar.specs.declared.phase.Phase.TheVariants as phases
 use Rattle.hunk_grammar.specs.declared.position.OpenHunk.{OpenHunk}
@@ -22,7 +22,7 @@ use Rattle.hunk_grammar.specs.Standings.{BlockStanding, Beside, Content, Relocat
 use Rattle.hunk_files.specs.LoadFile.{HunkValue, LoadFileValue, standing, AreInOrder, IsHunkBlock, IsHunk, IsLoadFile, declared_longs}
 use Rattle.hunk_files.specs.LoadText.{block_labelled, blocks_labelled, header_labelled, hunk_labelled, labelled, table, text}
 use Rattle.hunk_files.specs.WordsRead.{AreAccepted, Labelled}
-use Rattle.hunk_files.proofs.walk.{Accepted.labelled_accepted, Machines.load_along, Scan.one_front}
+use Rattle.hunk_files.proofs.walk.{Accepted.labelled_accepted, Machines.load_along, Scan.{one_front, text_fits}}
 use Rattle.hunk_wide.specs.declared.spot.Spot.{Spot}
 use Rattle.hunk_wide.specs.declared.spot.Spot.TheVariants.{Long}
 use Rattle.hunk_wide.specs.declared.spot.Given.{Given}
@@ -30,7 +30,7 @@ use Rattle.hunk_wide.specs.declared.spot.Given.TheVariants.{Same, BehindEnd}
 use Rattle.hunk_wide.specs.Longwords.{behind_block, behind_load, given, given_block, given_kind, go_on, out_long}
 use Rattle.hunk_wide.specs.Plain.{plain, plain_from}
 use Rattle.hunk_wide.specs.Wide.{BeginsWithContent, IsWide, MayLeaveOut, SpellsBlock, SpellsBlocks, SpellsHunks, end_block}
-use Rattle.hunk_wide.proofs.{Along.along_plain, Short.short_goes, Steps.{Along, AtBlock, along_run, along_split, at_block, run}, Cells.long_cells}
+use Rattle.hunk_wide.proofs.{Along.along_plain, Short.{false_is, short_goes}, Steps.{Along, AtBlock, along_run, along_split, at_block, run}, Cells.long_cells}
 
 -- ---- stretches of the text
 
@@ -44,14 +44,6 @@ two_go p q r ls ms front back more first second =
     ∙ first ∙ ap (λ (x : List ℕ). bytes_of (words ls) ++ x) second
     ∙ sym (append_assoc (bytes_of (words ls)) (bytes_of (words ms)) (plain_from (go_on (files.Load r)) more))
     ∙ ap (λ (x : List ℕ). x ++ plain_from (go_on (files.Load r)) more) (sym (ap bytes_of (words-append ls ms) ∙ bytes_of-append (words ls) (words ms)))
-
-All-front : {A : Type 0} (P : A → Type 0) (xs ys : List A) → AllByRecursion P (xs ++ ys) → AllByRecursion P xs
-All-front P [] ys h = tt
-All-front P (x ∷ xs) ys h = (h.0, All-front P xs ys h.1)
-
-All-back : {A : Type 0} (P : A → Type 0) (xs ys : List A) → AllByRecursion P (xs ++ ys) → AllByRecursion P ys
-All-back P [] ys h = h
-All-back P (x ∷ xs) ys h = All-back P xs ys h.1
 
 -- ---- blocks
 
@@ -89,8 +81,8 @@ module _ (hunks longs : ℕ) where
       let k = along_split p q (block_labelled (place_of has) b) (labels (behind has b) bs) along in
       ap (λ (x : List ℕ). plain_from (go_on (files.Load p)) (x ++ more)) s.2
       ∙ two_go p k.0 q (block_labelled (place_of has) b) (labels (behind has b) bs) s.0 s.1 more
-      (block_goes (place_of has) b p k.0 s.0 (s.1 ++ more) is.0 (All-front _ (block_labelled (place_of has) b) (labels (behind has b) bs) ok) k.1 s.3)
-      (blocks_go (behind has b) bs k.0 q s.1 more is.1 (All-back _ (block_labelled (place_of has) b) (labels (behind has b) bs) ok) k.2 s.4)
+      (block_goes (place_of has) b p k.0 s.0 (s.1 ++ more) is.0 (All-left _ (block_labelled (place_of has) b) (labels (behind has b) bs) ok) k.1 s.3)
+      (blocks_go (behind has b) bs k.0 q s.1 more is.1 (All-right _ (block_labelled (place_of has) b) (labels (behind has b) bs) ok) k.2 s.4)
 
   -- with END left out: what comes before it, and where that leads
   record LeavesEnd (has : Bool) (bs : List BlockValue) (p q : Position) (bytes more : List ℕ) : Type 0 where
@@ -134,7 +126,7 @@ module _ (hunks longs : ℕ) where
   blocks_leave has (b ∷ c ∷ bs) p q bytes more is ok along o s =
       let rest : Labelled = labels (behind has b) (c ∷ bs) in
       let k = along_split p q (block_labelled (place_of has) b) rest along in
-      let later = blocks_leave (behind has b) (c ∷ bs) k.0 q s.1 more is.1 (All-back _ (block_labelled (place_of has) b) rest ok) k.2
+      let later = blocks_leave (behind has b) (c ∷ bs) k.0 q s.1 more is.1 (All-right _ (block_labelled (place_of has) b) rest ok) k.2
       (order_next (standing b.body) (standing c.body) has (map (λ (d : BlockValue). standing d.body) bs) o) s.4 in
       record {
         front = block_labelled (place_of has) b ++ later.front;
@@ -144,7 +136,7 @@ module _ (hunks longs : ℕ) where
         goes =
             ap (λ (x : List ℕ). plain_from (go_on (files.Load p)) (x ++ more)) s.2
             ∙ two_go p k.0 later.end_at (block_labelled (place_of has) b) later.front s.0 s.1 more
-            (block_goes (place_of has) b p k.0 s.0 (s.1 ++ more) is.0 (All-front _ (block_labelled (place_of has) b) rest ok) k.1 s.3)
+            (block_goes (place_of has) b p k.0 s.0 (s.1 ++ more) is.0 (All-left _ (block_labelled (place_of has) b) rest ok) k.1 s.3)
             later.goes;
         at_end = later.at_end;
         closes = later.closes;
@@ -251,9 +243,6 @@ content_kind word (Data top ws) h e = subst IsContentKind (sym h.0) tt
 content_kind word (Bss size) h e = subst IsContentKind (sym h.0) tt
 content_kind word _ h e = absurd cc
 
-false_is : (x : Bool) → IsFalse x → x ≡ false
-false_is x h = search rules
-
 begins_block : (b : BlockValue) (bytes : List ℕ) → IsBlock b → standing b.body ≡ Content → SpellsBlock b bytes → BeginsSo bytes
 unfolding bytes_of
 begins_block b bytes is e (inl s) = record {
@@ -320,8 +309,8 @@ module _ (hunks : ℕ) (at_end : Bool) (rest : List ℕ) (ends : at_end ≡ true
   hunks_go [] p bytes is ok along s = ap₂ (λ (x : Position) (bs : List ℕ). plain_from (go_on (files.Load x)) (bs ++ rest)) along s
   hunks_go (h ∷ hs) p bytes is ok along s =
       let k = along_split p positions.Done (hunk_labelled hunks h) (all hs) along in
-      let fine = All-front _ (hunk_labelled hunks h) (all hs) ok in
-      let later = hunks_go hs k.0 s.2 is.1 (All-back _ (hunk_labelled hunks h) (all hs) ok) k.2 s.6 in
+      let fine = All-left _ (hunk_labelled hunks h) (all hs) ok in
+      let later = hunks_go hs k.0 s.2 is.1 (All-right _ (hunk_labelled hunks h) (all hs) ok) k.2 s.6 in
       let split : bytes ++ rest ≡ s.1 ++ (s.2 ++ rest) = ap (λ (x : List ℕ). x ++ rest) s.3 ∙ append_assoc s.1 s.2 rest in
       ap (plain_from (go_on (files.Load p))) split ∙ go s.0 h hs p k.0 s.1 s.2 is fine k.1 k.2 s.4 s.5 s.6 later
     where
@@ -358,19 +347,15 @@ wide_plain at_end v bytes rest is s ends =
     let ok = labelled_accepted v is in
     ap (λ (x : List ℕ). plain (x ++ rest)) s.text
     ∙ ap plain (append_assoc (bytes_of (words header)) s.hunks rest)
-    ∙ along_plain positions.FirstLong k.0 header (s.hunks ++ rest) k.1 (All-front _ header hunks ok)
-    ∙ ap (λ (x : List ℕ). bytes_of (words header) ++ x) (hunks_go (length v) at_end rest ends v k.0 s.hunks is.each (All-back _ header hunks ok) k.2 s.spells)
+    ∙ along_plain positions.FirstLong k.0 header (s.hunks ++ rest) k.1 (All-left _ header hunks ok)
+    ∙ ap (λ (x : List ℕ). bytes_of (words header) ++ x) (hunks_go (length v) at_end rest ends v k.0 s.hunks is.each (All-right _ header hunks ok) k.2 s.spells)
     ∙ sym (append_assoc (bytes_of (words header)) (bytes_of (words hunks)) rest)
     ∙ ap (λ (x : List ℕ). x ++ rest) (sym (ap bytes_of (words-append header hunks) ∙ bytes_of-append (words header) (words hunks)))
 
 -- ---- one spelling has one value
 
-longs_fit : (ls : Labelled) → AreAccepted ls → AreLongs (words ls)
-longs_fit [] h = tt
-longs_fit (l ∷ ls) h = (h.0.0, longs_fit ls h.1)
-
 text_longs : (v : LoadFileValue) (rest : List ℕ) → IsLoadFile v → longs (bytes_of (text v) ++ rest) ≡ text v ++ longs rest
-text_longs v rest is = longs-bytes_of (text v) rest (longs_fit (labelled v) (labelled_accepted v is))
+text_longs v rest is = longs-bytes_of (text v) rest (text_fits (labelled v) (labelled_accepted v is))
 
 -- One input has one value, however it is cut.
 pub one_spelling : (x y : Bool) (a b : LoadFileValue) (front front2 rest rest2 : List ℕ) → IsLoadFile a → IsLoadFile b → IsWide x a front → IsWide y b front2

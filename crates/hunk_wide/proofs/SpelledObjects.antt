@@ -1,11 +1,11 @@
 -- A wide spelling of an object file is given out as its plain text.
-use Rattle.std.proofs.Common.{◌≡◌, Bool, get_or, ℕ, ◌/◌, ◌%◌, ◌^◌, false, eqb, List, [], ◌∷◌, ◌++◌, length, map, refl, sym, ap, ap₂, subst, ◌∙◌, append_assoc, append-nil, inl, inr, Some, None, arith}
+use Rattle.std.proofs.Common.{◌≡◌, Bool, get_or, ℕ, ◌/◌, ◌%◌, ◌^◌, false, eqb, List, [], ◌∷◌, ◌++◌, refl, sym, ap, ap₂, subst, ◌∙◌, append_assoc, append-nil, inl, inr, Some, None, arith}
 use Rattle.std.specs.{Prelude.is_some, List.{flat_map, AllByRecursion}, Int.{to_be_bytes, w32}}
 use Rattle.std.proofs.lemmas.Bool.{ne_eqb}
 use Rattle.hunk_words.specs.declared.block_word.Kind.{Kind}
 use Rattle.hunk_words.specs.declared.block_word.Kind.TheVariants as kinds
 use Rattle.hunk_words.specs.declared.reason.Reason.TheVariants as reasons
-use Rattle.hunk_words.specs.{Bits.{has_both_bits, kind, unit_word}, Longs.{bytes_of}}
+use Rattle.hunk_words.specs.{Bits.{has_both_bits, kind, unit_word}, Longs.bytes_of}
 use Rattle.hunk_words.proofs.LongLaws.{bytes_of-append}
 use Rattle.hunk_blocks.specs.Faults.{words}
 use Rattle.hunk_blocks.specs.{Parts.{block_parts, block_text, group_text, list_text}, Values.{BlockValue, IsBlock, IsGroup}}
@@ -23,7 +23,7 @@ use Rattle.hunk_grammar.specs.Standings.{Relocating, standing_of_kind}
 use Rattle.hunk_files.specs.{Machines.{leads_to, refuse_in_object}, LoadFile.{LoadFileValue, standing}}
 use Rattle.hunk_files.specs.ObjectFile.{IsObjectFile, IsObjectHunk, IsUnit, ObjectFileValue, ObjectHunk, UnitValue, object_text, unit_header}
 use Rattle.hunk_files.specs.ObjectFault.{object_block_labelled, object_blocks_labelled, object_hunk_labelled, unit_header_labelled, unit_labelled, units_labelled}
-use Rattle.hunk_files.proofs.{cuts.UnitCutLaws.object_value, cuts.UnitReading.text_longs, object_walk.UnitFaults.units_words, walk.Machines.object_along}
+use Rattle.hunk_files.proofs.{cuts.UnitCutLaws.object_value, cuts.UnitReading.text_longs, object_walk.UnitFaults.{header_words, units_words}, walk.Machines.object_along}
 use Rattle.hunk_wide.specs.declared.position.FilePosition.TheVariants as files
 use Rattle.hunk_wide.specs.declared.spot.Given.{Given}
 use Rattle.hunk_wide.specs.declared.spot.Given.TheVariants.{AsLong}
@@ -129,13 +129,6 @@ hunks_spell [] bytes is s = none_spell bytes s
 hunks_spell (h ∷ hs) bytes is s =
     subst (Spells (flat_map object_hunk_labelled (h ∷ hs))) (sym s.2)
     (two_spell (object_hunk_labelled h) (flat_map object_hunk_labelled hs) s.0 s.1 (blocks_spell BetweenHunks h s.0 is.0.blocks s.3) (hunks_spell hs s.1 is.1 s.4))
-
-name_words : (name : List ℕ) → words (map (λ (w : ℕ). (UnitName, w)) name) ≡ name
-name_words [] = refl
-name_words (w ∷ name) = ap (λ (ws : List ℕ). w ∷ ws) (name_words name)
-
-header_words : (place : WordPlace) (name : List ℕ) → words (unit_header_labelled place name) ≡ unit_header name
-header_words place name = ap (λ (ws : List ℕ). unit_word ∷ length name ∷ ws) (name_words name)
 
 unit_spells : (place : WordPlace) (u : UnitValue) (bytes : List ℕ) → IsUnit u → SpellsUnit u bytes → Spells (unit_labelled place u) bytes
 unit_spells place u bytes is s =

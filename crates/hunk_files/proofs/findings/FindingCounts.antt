@@ -59,7 +59,7 @@ entry_few : (s : HunkContext) (e : ExtEntry) → IsExtEntry e → length (entry_
 entry_few s e is =
     omega (arith, few_of_each (outside s (reference_width e)) 1 (outside_few s (reference_width e)) e.offsets, length-ext_parts e, references_within (ext_shape (ext_type e)) e is.shape)
 
-any : (gs : List RelocGroup) → AllByRecursion (λ g. ⊤) gs
+pub any : (gs : List RelocGroup) → AllByRecursion (λ g. ⊤) gs
 any [] = tt
 any (g ∷ gs) = (tt, any gs)
 

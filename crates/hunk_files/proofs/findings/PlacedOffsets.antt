@@ -10,6 +10,7 @@ use Rattle.hunk_blocks.specs.Entries.{shaped_text}
 use Rattle.hunk_grammar.specs.ExtKinds.{ext_shape}
 use Rattle.hunk_blocks.proofs.{Lists.All-append, PartTexts.{body_text_is, ext_text_is, group_text_is}}
 use Rattle.hunk_files.specs.declared.object.check.FindingKind.TheVariants.{OutsideHunk}
+use Rattle.hunk_files.proofs.findings.FindingCounts.{any}
 use Rattle.hunk_files.specs.Findings.{FindingValue, HunkContext, finding, hunk_bytes, outside, reference_width, relocation_findings, relocation_width}
 use Rattle.hunk_files.specs.Hunks.{block_texts}
 use Rattle.hunk_files.specs.ObjectFile.{IsObjectFile, IsObjectHunk, IsUnit, ObjectFileValue, ObjectHunk, UnitValue, object_text, unit_header, unit_text}
@@ -116,10 +117,6 @@ module _ (words : List ℕ) where
       let from = from_next place ends.0 e.offsets (subst (From place) ends.1 f) in
       let same : place + 4 * length ends.0 ≡ place + 4 * length (ext_text e) - 4 * length e.offsets = omega (arith, ap (λ (ws : List ℕ). length ws) ends.1, length-append ends.0 e.offsets) in
       subst (λ (n : ℕ). All (offsets_findings_at found n e.offsets)) same (offsets_stand found (outside_has s (reference_width e)) (place + 4 * length ends.0) e.offsets from)
-
-  any : (gs : List RelocGroup) → AllByRecursion (λ g. ⊤) gs
-  any [] = tt
-  any (g ∷ gs) = (tt, any gs)
 
   -- after its word
   body_stands : (s : HunkContext) (place word : ℕ) (body : BlockBody) → FitsWord word body → From (place + 4) (body_text body) → All (body_findings_at s place word body)

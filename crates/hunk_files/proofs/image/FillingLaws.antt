@@ -28,10 +28,10 @@ group_relocated bases memory g left base e =
 
 -- ---- the blocks that are left
 
-abbrev contents : List BlockValue → List ℕ
+abbrev pub contents : List BlockValue → List ℕ
 contents bs = flat_map (λ (b : BlockValue). block_content b.body) bs
 
-abbrev relocations_in : List BlockValue → List (ℕ × ℕ)
+abbrev pub relocations_in : List BlockValue → List (ℕ × ℕ)
 relocations_in bs = flat_map (λ (b : BlockValue). block_relocations b.body) bs
 
 abbrev pub IsNoContent : BlockValue → Type 0

@@ -3,12 +3,13 @@ use Rattle.std.proofs.Common.{◌≡◌, ℕ, ◌+◌, ◌*◌, ◌≤◌, List,
 use Rattle.hunk_blocks.specs.Placed.{Placed}
 use Rattle.hunk_blocks.specs.Values.{BlockValue}
 use Rattle.hunk_files.specs.LoadFile.{TableEntry, HunkValue, LoadFileValue}
+use Rattle.hunk_files.specs.FileSteps.{hunk as hunk_with}
 use Rattle.hunk_files.specs.Hunks.{HunkAt, block_texts}
 use Rattle.hunk_files.specs.InPlace.{BeginsWithHunks, GivesPart, hunks_in}
 use Rattle.hunk_files.specs.Lacks.{EndsAt, EndsHunkPart, EndsLoadPart, Within}
 use Rattle.hunk_files.specs.Tables.{header_text}
 use Rattle.hunk_files.proofs.views.HunkBlocks.{some_text}
-use Rattle.hunk_files.proofs.views.HunksInPlace.{NextHunk, hunk_gives, hunk_text, hunks_in-nil, hunk_with, next_hunk_of, seen_hunks}
+use Rattle.hunk_files.proofs.views.HunksInPlace.{NextHunk, hunk_gives, hunk_text, hunks_in-nil, next_hunk_of, seen_hunks}
 use Rattle.hunk_files.proofs.views.PlaceLaws.{ends_after, ends_map, last_at}
 use Rattle.hunk_files.proofs.views.PartsInTurn.{Taken, all_taken, part_taken, part_within}
 

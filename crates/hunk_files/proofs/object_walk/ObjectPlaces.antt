@@ -26,7 +26,8 @@ use Rattle.hunk_files.proofs.{object_walk.UnitFaults.units_words, cuts.UnitReadi
 
 -- ---- the end
 
-position_from : (s : ObjectState) (ws : List ℕ) → leads_to scan.step (position_of s) ws ≡ position_of (state_after reader s ws)
+-- the position that longwords lead to, by the state that they lead to
+pub position_from : (s : ObjectState) (ws : List ℕ) → leads_to scan.step (position_of s) ws ≡ position_of (state_after reader s ws)
 position_from s [] = refl
 position_from s (w ∷ ws) = ap (λ (p : ObjectPosition). leads_to scan.step p ws) (sym (step_position s w)) ∙ position_from (reader.step s w) ws
 
@@ -42,7 +43,8 @@ object_ends AtCount ws b h = absurd cc
 object_ends (InName owed) ws b h = absurd cc
 object_ends (InBlock next x) ws b h = absurd cc
 
-object_read : (ws : List ℕ) → AreLongs ws → IsFront objects ws → SoFar (state_after reader reader.start ws) ws
+-- what some object text begins with is read to its end
+pub object_read : (ws : List ℕ) → AreLongs ws → IsFront objects ws → SoFar (state_after reader reader.start ws) ws
 unfolding keeps
 object_read ws l front = elim (judged objects reader keeps ws l) [
   | inl h ↦ absurd (never h.state h.stops)

@@ -18,7 +18,7 @@ use Rattle.hunk_files.specs.ObjectFile.{ObjectHunk, UnitValue, ObjectFileValue, 
 use Rattle.hunk_grammar.specs.declared.object_position.WordPlace.{WordPlace}
 use Rattle.hunk_grammar.specs.declared.object_position.WordPlace.TheVariants.{BeforeUnits, BetweenHunks, InHunk}
 use Rattle.hunk_grammar.specs.ObjectRoles.{ObjectRole, WordAt, UnitCount, UnitName, Within, has_content, after_block, object_role_at, refuse_unit, refuse_object_word, refuse_object}
-use Rattle.hunk_files.specs.ObjectFault.{object_block_labelled, object_blocks_labelled, object_hunk_labelled, unit_header_labelled, unit_labelled, units_labelled, objects, IsTruncatedObject, HasObjectFault}
+use Rattle.hunk_files.specs.ObjectFault.{IsInUnit, object_block_labelled, object_blocks_labelled, object_hunk_labelled, unit_header_labelled, unit_labelled, units_labelled, objects, IsTruncatedObject, HasObjectFault}
 use Rattle.hunk_grammar.specs.Standings.{BlockStanding, Beside, Content, Relocating, Ending, is_content, refuse_standing, standing_of_kind, first_of}
 pub use Rattle.hunk_grammar.specs.ObjectPositions.{place_next}
 use Rattle.hunk_files.proofs.{walk.HunkOrder.standing_is, walk.FileText.standings}
@@ -97,12 +97,6 @@ block_passes : (place : WordPlace) (b : BlockValue) → IsBlock b → refuse_pla
 block_passes place b is ok = (word_goes place b is ok, parts_pass place (body_parts b.body) (body_passes b.word b.body is.body))
 
 -- ---- hunks
-
--- a place in a unit
-abbrev pub IsInUnit : WordPlace → Type 0
-IsInUnit BeforeUnits = ⊥
-IsInUnit BetweenHunks = Unit {0}
-IsInUnit (InHunk has) = Unit {0}
 
 placed : (place : WordPlace) (s : BlockStanding) → IsInUnit place → refuse_standing (has_content place) s ≡ None → refuse_place place s ≡ None
 placed BeforeUnits s h ok = absurd h

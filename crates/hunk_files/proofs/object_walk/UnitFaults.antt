@@ -17,7 +17,7 @@ names_words : (name : List ℕ) → words (map (λ (w : ℕ). (UnitName, w)) nam
 names_words [] = refl
 names_words (w ∷ name) = ap (λ ws. w ∷ ws) (names_words name)
 
-header_words : (place : WordPlace) (name : List ℕ) → words (unit_header_labelled place name) ≡ unit_header name
+pub header_words : (place : WordPlace) (name : List ℕ) → words (unit_header_labelled place name) ≡ unit_header name
 header_words place name = ap (λ ws. unit_word ∷ length name ∷ ws) (names_words name)
 
 hunks_words : (hs : List ObjectHunk) → words (flat_map object_hunk_labelled hs) ≡ flat_map (flat_map block_text) hs

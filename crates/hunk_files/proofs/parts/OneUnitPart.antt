@@ -13,13 +13,13 @@ use Rattle.hunk_files.specs.FileParts.{IsInHeader, IsUnitPart}
 use Rattle.hunk_grammar.specs.declared.object_position.WordPlace.{WordPlace}
 use Rattle.hunk_grammar.specs.declared.object_position.WordPlace.TheVariants.{BeforeUnits, BetweenHunks}
 use Rattle.hunk_grammar.specs.ObjectRoles.{ObjectRole, has_content}
-use Rattle.hunk_files.specs.ObjectFault.{blocks_from}
+use Rattle.hunk_files.specs.ObjectFault.{IsInUnit, blocks_from}
 use Rattle.hunk_files.specs.FileParts.{counted, part_by}
 use Rattle.hunk_files.specs.ObjectFile.{ObjectFileValue, ObjectHunk, UnitValue, IsObjectHunk, IsUnit, object_text, unit_header, unit_text}
 use Rattle.hunk_files.specs.declared.part.Part.{Part}
 use Rattle.hunk_files.specs.declared.part.Part.TheVariants as parts
 use Rattle.hunk_files.proofs.{walk.FileText.standings, walk.HunkFaults.blocks_words}
-use Rattle.hunk_files.proofs.object_walk.OneObjectFault.{IsInUnit, ObjectState, AtWord, AtCount, InName, InBlock, after_name, in_block, order_next, place_next, reader, word_steps}
+use Rattle.hunk_files.proofs.object_walk.OneObjectFault.{ObjectState, AtWord, AtCount, InName, InBlock, after_name, in_block, order_next, place_next, reader, word_steps}
 use Rattle.hunk_files.proofs.object_walk.ObjectWalks.{position_of}
 
 abbrev Numbers : Type 0

@@ -146,10 +146,10 @@ file_kept v is =
       each = subst (λ (k : ℕ). AllByRecursion (IsHunk k) (strip_file v)) (sym n) (All-map (IsHunk (length v)) (IsHunk (length v)) strip_hunk (hunk_kept (length v)) v is.each);
     }
 
-object_hunk_kept : (h : ObjectHunk) → IsObjectHunk h → IsObjectHunk (strip_blocks h)
+pub object_hunk_kept : (h : ObjectHunk) → IsObjectHunk h → IsObjectHunk (strip_blocks h)
 object_hunk_kept h is = record { blocks = all_kept IsBlock h is.blocks; order = order_kept false h is.order }
 
-unit_kept : (u : UnitValue) → IsUnit u → IsUnit (strip_unit u)
+pub unit_kept : (u : UnitValue) → IsUnit u → IsUnit (strip_unit u)
 unit_kept u is = record { name = is.name; hunks = All-map IsObjectHunk IsObjectHunk strip_blocks object_hunk_kept u.hunks is.hunks }
 
 pub object_kept : (o : ObjectFileValue) → IsObjectFile o → IsObjectFile (strip_object o)

@@ -4,15 +4,8 @@ use Rattle.std.specs.List.{flat_map}
 use Rattle.hunk_words.specs.Longs.{bytes_of}
 use Rattle.hunk_words.proofs.LongLaws.{length-bytes_of}
 use Rattle.hunk_blocks.specs.Parts.{block_text}
-use Rattle.hunk_files.specs.ObjectFile.{ObjectHunk, UnitValue, ObjectFileValue, IsObjectHunk, IsUnit, unit_header, unit_text, object_text}
+use Rattle.hunk_files.specs.ObjectFile.{ObjectHunk, ObjectFileValue, unit_header, unit_text, object_text}
 use Rattle.hunk_files.specs.Strip.{is_kept, strip_blocks, strip_unit, strip_object}
-use Rattle.hunk_files.proofs.strip.StripLaws.{object_kept}
-
-pub unit_kept : (u : UnitValue) → IsUnit u → IsUnit (strip_unit u)
-unit_kept u is = (object_kept (u ∷ []) (record { some = omega arith; units = (is, tt) })).units.0
-
-pub hunk_kept : (h : ObjectHunk) → IsObjectHunk h → IsObjectHunk (strip_blocks h)
-hunk_kept h is = (unit_kept (record { name = []; hunks = h ∷ [] }) (record { name = (omega arith, tt); hunks = (is, tt) })).hunks.0
 
 -- ---- a list of which the first elements are changed
 

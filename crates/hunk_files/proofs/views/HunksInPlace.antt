@@ -7,6 +7,7 @@ use Rattle.hunk_words.proofs.LongLaws.{bytes_of-append, length-bytes_of, longs-b
 use Rattle.hunk_blocks.specs.{Cuts.Cut, Placed.Placed, Values.BlockValue}
 use Rattle.hunk_files.specs.{LoadFile.{TableEntry, HunkValue, LoadFileValue, IsHunk, declared_longs}, LoadText.table}
 use Rattle.hunk_files.specs.{Fault.BeginsWithLoadFile, Hunks.{HunkAt, block_texts}, Tables.{header_text, hunk_texts}}
+use Rattle.hunk_files.specs.FileSteps.{hunk as hunk_with}
 use Rattle.hunk_files.specs.{Cuts.load_hunks_cut, InPlace.{BeginsWithHunks, GivesPart, blocks_in, hunks_in}}
 use Rattle.hunk_files.proofs.{views.BlocksInPlace.{hunk_value, texts_longs}, cuts.LoadCuts.load_hunks_cut_is, cuts.OneReading.are_blocks}
 use Rattle.hunk_files.proofs.cuts.TableReading.{hunks_follow}
@@ -30,9 +31,6 @@ unfolding load_hunks_cut
 hunks_in-nil bytes = refl
 
 -- ---- the first hunk, and those after it
-
-abbrev pub hunk_with : TableEntry → List BlockValue → HunkValue
-hunk_with entry blocks = record { entry = entry; blocks = blocks }
 
 pub record NextHunk (all : List TableEntry) (entry : TableEntry) (entries : List TableEntry) (bytes : List ℕ) (at : ℕ) : Type 0 where
   pub here : HunkAt bytes at

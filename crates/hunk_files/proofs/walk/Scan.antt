@@ -1,5 +1,5 @@
 -- Longwords are read up to the end of a load file, to the first that is refused, or to their end.
-use Rattle.std.proofs.Common.{◌≡◌, ◌≢◌, ℕ, ◌*◌, List, [], ◌∷◌, ◌++◌, length, refl, sym, ap, ap₂, subst, ◌∙◌, append_assoc, append-nil, Option, Some, None, ◌⊎◌, inl, inr}
+use Rattle.std.proofs.Common.{◌≡◌, ℕ, ◌*◌, List, [], ◌∷◌, ◌++◌, length, refl, sym, ap, ap₂, subst, ◌∙◌, append_assoc, append-nil, Option, Some, None, ◌⊎◌, inl, inr}
 use Rattle.std.specs.List.{AllByRecursion}
 use Rattle.std.proofs.lemmas.List.{map-append}
 use Rattle.hunk_words.specs.declared.reason.Reason.TheVariants as reasons
@@ -10,7 +10,7 @@ use Rattle.hunk_files.specs.FileSteps.{Progress, AtFirst, Next, More, Finished, 
 use Rattle.hunk_files.specs.WordsRead.{HasRead, Labelled, IsAccepted, AreAccepted}
 use Rattle.hunk_grammar.specs.Roles.{Role, refuse}
 use Rattle.hunk_blocks.proofs.FaultScan.{Machine, Leads as LeadsOf, Reads as ReadsOf, one_fault as one_of, front_passes, whole_passes, ends_together}
-use Rattle.hunk_blocks.proofs.{Outcomes.{Keeps, state_after, front, judged, expected_role}, Fronts.All-left}
+use Rattle.hunk_blocks.proofs.{Outcomes.{Keeps, state_after, front, judged, expected_role}, Fronts.All-left, Lists.not_nil}
 use Rattle.hunk_blocks.specs.Faults.{IsFront, words}
 use Rattle.hunk_files.proofs.{walk.FileText.file_leads, walk.FileProgress.{Reads, step_keeps}, walk.Runs.{Leads-split, Leads-keeps, reads, start_read, step_read}}
 use Rattle.hunk_files.proofs.{walk.Accepted.labelled_accepted, walk.Completion.{IsOwed, completes}}
@@ -81,7 +81,7 @@ expects_of p done h =
 
 -- ---- the texts
 
-text_fits : (ls : Labelled) → AreAccepted ls → AreLongs (words ls)
+pub text_fits : (ls : Labelled) → AreAccepted ls → AreLongs (words ls)
 text_fits [] h = tt
 text_fits (l ∷ ls) h = (h.0.0, text_fits ls h.1)
 
@@ -210,10 +210,6 @@ unfolding keeps
 read_front ws n h = front load_files load_reader keeps n ws h
 
 -- ---- one of the three holds
-
-not_nil : (xs : List ℕ) (y : ℕ) (ys : List ℕ) → xs ++ y ∷ ys ≢ []
-not_nil [] y ys h = cc
-not_nil (x ∷ xs) y ys h = cc
 
 -- Where all longwords were read and none ends a file, the input is too short.
 pub truncated_of : (bytes : List ℕ) (p : Progress) → HasRead (longs bytes) (More p) → IsTruncated bytes (4 * length (longs bytes))

@@ -7,8 +7,8 @@ use Rattle.hunk_blocks.specs.{Faults.words, Parts.{each, group_parts, group_text
 use Rattle.hunk_grammar.specs.BlockParts.{Part, Part as parts}
 use Rattle.hunk_blocks.specs.BlockSteps.{Filling, Counted, SizedCode, SizedData, Inside, AtCount, AtSize, InPayload, AtGroup, AtTarget, InOffsets, AtEntry, InName, AtValue}
 use Rattle.hunk_blocks.specs.Values.{RelocGroup, SymbolEntry}
-use Rattle.hunk_blocks.proofs.{BlockProgress.{head_of, read_inside}, PartTexts.{longs_of-each, longs_of-flat_map}}
-use Rattle.hunk_grammar.specs.Roles.{Place, Role, Role as roles}
+use Rattle.hunk_blocks.proofs.{BlockProgress.{head_of, read_inside}, FaultLaws.words-append, PartTexts.{longs_of-each, longs_of-flat_map}}
+use Rattle.hunk_grammar.specs.Roles.{Place, Role as roles}
 use Rattle.hunk_files.specs.FileSteps.{HunkSoFar, Progress, AtFirst, AtSizeWord, AtAttributes, AtBlock, InBody, More, place_of}
 use Rattle.hunk_files.specs.LoadFile.{TableEntry}
 use Rattle.hunk_files.specs.ReadFiles.{block_words, first_word, hunk_words, table_words, words_of}
@@ -48,9 +48,6 @@ inside_words p word (AtValue entries w name) h = symbols_words entries w name
 inside_words p word _ h = absurd h
 
 -- ---- of a file
-
-words-append : (xs ys : Labelled) → words (xs ++ ys) ≡ words xs ++ words ys
-words-append xs ys = map-append (λ (l : Role × ℕ). l.1) xs ys
 
 header_words : (hunks : ℕ) (done : List TableEntry) → words (header_so_far hunks done) ≡ table_words hunks done
 header_words hunks done = ap (λ (ws : List ℕ). header_word ∷ 0 ∷ hunks ∷ 0 ∷ (hunks - 1) ∷ ws) (entries_are done)

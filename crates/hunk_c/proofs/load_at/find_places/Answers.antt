@@ -1,13 +1,7 @@
-use Rattle.std.proofs.Common.{◌≡◌, ◌<◌, ℕ, List, length, sym, ap, ◌∙◌, arith}
-use Rattle.hunk_files.specs.LoadFile.{TableEntry}
-use Rattle.hunk_scatter.specs.HeaderBytes.{BeginsWithHeader}
+use Rattle.std.proofs.Common.{◌<◌, length, sym, arith}
 use Rattle.hunk_c.proofs.FoundPlaces.{all_found, none_found, none_here, one_more, row_here, row_rises, row_small}
-use Rattle.hunk_c.proofs.Succeeding.{same_header}
+use Rattle.hunk_c.proofs.Succeeding.{same_length}
 use Rattle.hunk_c.proofs.load_at.find_places.Goals as goal
-
--- whichever table the header has, it has so many rows
-many : (bytes : List ℕ) (t u : List TableEntry) (n : ℕ) → BeginsWithHeader bytes t → length t ≡ n → BeginsWithHeader bytes u → length u ≡ n
-many bytes t u n h e k = ap (λ (v : List TableEntry). length v) (same_header bytes u t k h) ∙ e
 
 pub placing-init : goal.placing-init
 placing-init c t h e = none_found _ t h c.args.start c.args.room c.args.bases.now
@@ -34,7 +28,7 @@ base_in-requires c =
 pub returns-then-is_none-clause-unplaced : goal.returns-then-is_none-clause-unplaced
 returns-then-is_none-clause-unplaced c = λ t h.
     let r = c.requires.table in
-    let e = many _ r.0 t c.args.hunks r.1 r.2 h in
+    let e = same_length _ r.0 t c.args.hunks r.1 r.2 h in
     let s = c.placing.invariant t h e in
     let inside : c.placing.hunk < length t = omega (arith, e, c.placing-test.true) in
     none_here s inside _ _ (c.next_row-after.ensures.row t h 0 c.placing.hunk inside s.is_row) c.base_in.result c.base_in.ensures c.if-is_none.ensures
@@ -48,7 +42,7 @@ placing-preserved c t h e =
 pub returns-clause-placed : goal.returns-clause-placed
 returns-clause-placed c = λ t h.
     let r = c.requires.table in
-    let e = many _ r.0 t c.args.hunks r.1 r.2 h in
+    let e = same_length _ r.0 t c.args.hunks r.1 r.2 h in
     let s = c.placing.invariant t h e in
     all_found s c.args.hunks (sym e) (omega (arith, c.placing-test.false)) (omega (arith, s.enough, c.placing-test.false))
 

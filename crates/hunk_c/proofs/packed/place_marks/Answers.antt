@@ -1,15 +1,9 @@
-use Rattle.std.proofs.Common.{◌≡◌, ◌<◌, ℕ, List, length, sym, ap, ◌∙◌, arith, inl, inr}
+use Rattle.std.proofs.Common.{◌<◌, length, sym, arith, inl, inr}
 use Rattle.std.proofs.lemmas.Bool.{eqb-true}
-use Rattle.hunk_files.specs.LoadFile.{TableEntry}
-use Rattle.hunk_scatter.specs.HeaderBytes.{BeginsWithHeader}
 use Rattle.hunk_c.proofs.Packing.{all_packed, are_packed, are_short, none_packed, packed_more, packed_not}
-use Rattle.hunk_c.proofs.Succeeding.{same_header}
+use Rattle.hunk_c.proofs.Succeeding.{same_length}
 use Rattle.hunk_c.proofs.packed.place_marks.Goals as goal
 use Rattle.hunk_c.proofs.packed.place_marks.Goals.{then-place-ge-END-via-then-place-ge-END, then-place-ge-END-via-else-place-ge-END+then-after-gt-END}
-
--- whichever table the header has, it has so many rows
-many : (bytes : List ℕ) (t u : List TableEntry) (n : ℕ) → BeginsWithHeader bytes t → length t ≡ n → BeginsWithHeader bytes u → length u ≡ n
-many bytes t u n h e k = ap (λ (v : List TableEntry). length v) (same_header bytes u t k h) ∙ e
 
 pub placing-init : goal.placing-init
 placing-init c t h e = none_packed _ t h c.args.start c.from.result _ c.from.ensures (omega (arith, e, c.requires.room))
@@ -31,7 +25,7 @@ next_row-after-requires c =
 pub returns-then-place-ge-END-clause-unplaced : goal.returns-then-place-ge-END-clause-unplaced
 returns-then-place-ge-END-clause-unplaced c = λ t h.
     let r = c.requires.table in
-    let e = many _ r.0 t c.args.hunks r.1 r.2 h in
+    let e = same_length _ r.0 t c.args.hunks r.1 r.2 h in
     let s = c.placing.invariant t h e in
     let inside : c.placing.hunk < length t = omega (arith, e, c.placing-test.true) in
     packed_not _ t h c.args.start c.placing.marks c.placing.hunk _ _ s inside _ _ (c.next_row-after.ensures.row t h c.args.start c.placing.hunk inside s.is_row)
@@ -66,12 +60,12 @@ returns-clause-packed c =
 pub returns-clause-bases : goal.returns-clause-bases
 returns-clause-bases c = λ t h.
     let r = c.requires.table in
-    let e = many _ r.0 t c.args.hunks r.1 r.2 h in
+    let e = same_length _ r.0 t c.args.hunks r.1 r.2 h in
     all_packed _ t h c.args.start c.args.hunks c.placing.marks c.placing.hunk _ _ (sym e) (omega (arith, e, c.placing-test.false)) (c.placing.invariant t h e)
 
 pub returns-clause-short : goal.returns-clause-short
 returns-clause-short c = λ short t h.
     let r = c.requires.table in
-    let e = many _ r.0 t c.args.hunks r.1 r.2 h in
+    let e = same_length _ r.0 t c.args.hunks r.1 r.2 h in
     let s = c.placing.invariant t h e in
     are_short _ t h c.args.start c.args.hunks c.placing.marks c.placing.hunk _ _ (sym e) (omega (arith, e, c.placing-test.false)) s (eqb-true _ _ short) (omega (arith, c.placing-test.false))

@@ -1,7 +1,7 @@
 use Rattle.std.proofs.Common.{◌≡◌, ◌++◌, ◌∷◌, [], map, ◌∙◌, sym, ap, subst, rules}
 use Rattle.std.proofs.lemmas.{List.map_push, Result.err_from_is_err_and}
-use Rattle.hunk_files.specs.{declared.load.hunk.LoadHunk.LoadHunk, Tables.{hunk_of, size_entry}}
-use Rattle.hunk_files.proofs.views.HunksInPlace.{hunk_text, hunk_with, next_hunk_of, seen_hunks}
+use Rattle.hunk_files.specs.{FileSteps.{hunk as hunk_with}, declared.load.hunk.LoadHunk.LoadHunk, Tables.{hunk_of, size_entry}}
+use Rattle.hunk_files.proofs.views.HunksInPlace.{hunk_text, next_hunk_of, seen_hunks}
 use Rattle.hunk_files.proofs.keeping.LoadKeeping.{all_kept, hunk_kept, hunk_lacks, hunks_after, part_lacks, some_after}
 use Rattle.hunk_files.proofs.views.PartsInTurn.{Taken}
 use Rattle.hunk_files.proofs.load.hunk_views.LoadHunkViews.keep.Goals as goal

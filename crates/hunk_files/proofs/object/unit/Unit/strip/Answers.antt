@@ -1,7 +1,7 @@
 use Rattle.std.proofs.Common.{List, sym, subst}
 use Rattle.hunk_words.specs.Longs.{longs}
 use Rattle.hunk_files.specs.ObjectFile.{ObjectHunk, IsUnit}
-use Rattle.hunk_files.proofs.strip.StripSteps.{unit_kept}
+use Rattle.hunk_files.proofs.strip.StripLaws.{unit_kept}
 use Rattle.hunk_files.proofs.object.unit.Unit.strip.Goals as goal
 
 pub invariant_of-self : goal.invariant_of-self
