@@ -1,9 +1,9 @@
-/* Hunk files of AmigaDOS: tables of load files, loading them, whole or piece by piece, checking and
- * stripping load files and object files, what stands in them item by item, also before a fault, the
- * names of refusals.
+/* Hunk files of AmigaDOS. The calls read the tables of load files, and load these, whole or piece
+ * by piece. They check and strip load files and object files, and list what stands in them, also
+ * before a fault. They name the reasons of refusals.
  *
- * Whatever the bytes are, each call gives one of the answers listed with it; what of this is proved
- * is in docs/PROVED.md of the source tree. A call reads and writes only what its arguments point
+ * Whatever the bytes are, each call gives one of the answers listed with it. docs/PROVED.md of the
+ * source tree says what of this is proved. A call reads and writes only what its arguments point
  * to, asks for no memory, and keeps nothing between two calls. So threads may call at the same
  * time, as long as no call writes memory that another one uses. hunk_load_packed needs 6 KiB of
  * stack. Each other call needs less than 1 KiB, on Arm of 32 bits 1.25, and on Windows 1.5.
@@ -14,11 +14,10 @@
  *   machine: one above what the machine can address is forbidden, since nothing is so long.
  * - The memory that is written overlaps no other argument: overlaps are forbidden.
  *
- * What a program that is not compiled anew may count on, as long as HUNK_ABI stays the same
- * (libhunk.so.1): structs keep their size and the places of their fields, calls their arguments,
- * and answers their numbers, names and meaning. Calls may be added, and numbers above 33. A field
- * that is reserved is written as 0 and is not read. It may come to mean something, where 0 means
- * that all is as it was.
+ * As long as HUNK_ABI stays the same (libhunk.so.1), a program need not be compiled anew: structs
+ * keep their size and the places of their fields, calls their arguments, and answers their numbers,
+ * names and meaning. Calls may be added, and numbers above 33. A reserved field is written as 0 and
+ * is not read. A later version may give it a meaning, where 0 means that all is as it was.
  */
 #ifndef HUNK_H
 #define HUNK_H
@@ -32,8 +31,8 @@ extern "C" {
 /* The number of this interface, which a program is compiled for. */
 #define HUNK_ABI UINT32_C(1)
 
-/* The number of the interface that the library has. Where it is not HUNK_ABI, the program is to be
- * compiled anew, and calls nothing else. */
+/* The number of the interface that the library has. Where it is not HUNK_ABI, compile the program
+ * anew; until then it must not call anything else. */
 uint32_t hunk_abi(void);
 
 /* The numbers of answers: 0, the number of a reason, HUNK_NO_ROOM or HUNK_STRANGE. No call answers
@@ -106,14 +105,14 @@ uint32_t hunk_abi(void);
 /* the numbers are none of a loader, or do not fit */
 #define HUNK_STRANGE UINT32_C(33)
 
-/* What a call answers: 24 bytes. On a machine of 32 bits a count may be above what the machine can
- * address: bytes that hunks declare, that a plain spelling or a front with what closes it has, or
- * that are still to come. So may the bytes of rows, a count times the size of one. A program
- * compares before it narrows them. */
+/* What a call answers: 24 bytes. On a machine of 32 bits a count of bytes may be above what the
+ * machine can address: those that hunks declare, those of a plain spelling, those of a front with
+ * what closes it, or those still to come. So may the bytes of rows, a count times the size of one.
+ * A program compares such a number before it narrows it. */
 struct hunk_answer {
     uint32_t number; /* HUNK_OK, the number of a reason, HUNK_NO_ROOM or HUNK_STRANGE */
     uint32_t hunk;   /* the hunks of a load file, or as the call says; else 0 */
-    uint64_t place;  /* bytes that were read; at a reason, the byte where it stands, from 0 on */
+    uint64_t place;  /* bytes that were read; of a refusal, the byte where it is, from 0 on */
     uint64_t count;  /* what the call counts (below): written, needed, or still to come; else 0 */
 };
 
@@ -150,9 +149,9 @@ struct hunk_finding {
  *               count: the bytes that the hunks have in memory together.
  * HUNK_NO_ROOM  there are more hunks than rows. hunk: the rows that are needed; place and count as
  *               at HUNK_OK. With rows_len 0 this asks for the size of a table.
- * HUNK_TRUNCATED      the header goes on after the bytes. count: how many more it has at least, 1 or
- *                     more: a program reads as many, and asks again; place: 4 times the number of
- *                     whole longwords.
+ * HUNK_TRUNCATED      the header goes on after the bytes. count: how many more it has at least, 1
+ *                     or more: a program reads as many, and asks again; place: 4 times the number
+ *                     of whole longwords.
  * HUNK_BUDGET         place: the size word with which the sum first passes the budget.
  * Else the first fault of the header, HUNK_NOT_LOAD_FILE to HUNK_LAST_HUNK.
  *
@@ -223,10 +222,10 @@ struct hunk_answer hunk_load_at(const uint8_t *bytes, uint64_t bytes_len, const 
 /* ---- A load file that comes piece by piece, of which no copy is kept.
  *
  * hunk_table reads the header, which has to be in one piece, into the caller's rows. The four
- * calls below know the file by its places, and by what the loader has: numbers alone, which may be
- * copied and stored, and belong to one file, its places and its memory. hunk_begin sets them,
- * hunk_feed takes the bytes after the header in pieces of any size, hunk_end says whether the file
- * is whole, and hunk_want how many bytes are still to come.
+ * calls below know the file by its places and by a loader. A loader is only numbers, which may be
+ * copied and stored; they belong to one file, its places and its memory. hunk_begin sets them.
+ * hunk_feed takes the bytes after the header in pieces of any size. hunk_want says how many bytes
+ * are still to come, and hunk_end whether the file is whole.
  */
 
 /* Where a hunk lies: 12 bytes. */
@@ -236,16 +235,16 @@ struct hunk_place {
     uint32_t base;  /* the address of its first byte */
 };
 
-/* Where a loader stands: 96 bytes, which a program just stores. Any numbers are safe here. Where
- * one of them is not as it says beside it, each call answers HUNK_STRANGE, as it does to zero
- * bytes. So does hunk_feed where they do not fit its places and its memory. Other numbers that no
- * loader can have may go undetected. */
+/* Where a loader stands: 96 bytes, which a program only stores. Any numbers are safe here. Where
+ * one of them is not as the comment beside it says, each call answers HUNK_STRANGE, as it does to
+ * zero bytes. So does hunk_feed where they do not fit its places and its memory. Other numbers that
+ * no loader can have may go undetected. "After the last" is after the last hunk of the file. */
 struct hunk_loader {
     uint64_t start;        /* the byte of the memory where the open hunk begins, a multiple of 4;
-                            * after the last, the bytes of all */
-    uint64_t fed;          /* the bytes of header and body that were taken, 2^64 - 1 at most; where
-                            * they are fewer, their remainder by 4 is pending. 20 at least, and 4
-                            * for each hunk of the file; after the last, 16 for each */
+                            * after the last, the bytes of all hunks */
+    uint64_t fed;          /* the bytes of header and body that were taken, 2^64 - 1 at most; below
+                            * that, pending is their remainder by 4. At least 20, and 4 more for
+                            * each hunk of the file; after the last, 16 more for each */
     uint64_t place;        /* after a refusal, its byte, a multiple of 4; else 0 */
     uint32_t refused;      /* the number of its reason, HUNK_LIBRARY, or HUNK_BOTH_BITS to
                             * HUNK_BAD_OFFSET; 0 where there was none */
@@ -290,8 +289,8 @@ struct hunk_answer hunk_begin(struct hunk_loader *loader, const struct hunk_plac
                               uint64_t places_len, uint64_t header, uint8_t *memory,
                               uint64_t memory_len);
 
-/* Takes the next bytes of a file, those right after what was taken before, up to the end of the
- * file where that comes first.
+/* Takes the next bytes of a file, right after those that were taken before: the piece, or its front
+ * up to the end of the file.
  *
  *   places, memory  those of hunk_begin, as they were left: a program may read the memory, and
  *                   change no byte of it
@@ -300,10 +299,10 @@ struct hunk_answer hunk_begin(struct hunk_loader *loader, const struct hunk_plac
  * HUNK_OK       count: the bytes that were taken, all of them unless the file is whole; place: the
  *               bytes of header and body so far, 2^64 - 1 at most; hunk: the hunks that are whole.
  *               The memory is as the longwords so far leave it.
- * HUNK_STRANGE  the loader's numbers are none that a loader with these places and this memory may
- *               have: they are not as it says beside them, the places are not as many as hunks, or
- *               the open hunk, or one that the piece opens, does not lie in the memory. hunk, place
- *               and count are 0. The loader is as it was; the memory may not be.
+ * HUNK_STRANGE  no loader with these places and this memory may have such numbers. One of them is
+ *               not as the comment beside it says, there are not as many places as hunks, or the
+ *               open hunk, or one that the piece opens, does not lie in the memory. hunk, place and
+ *               count are 0. The loader is as it was; the memory may not be.
  * Else the first fault of the file, HUNK_LIBRARY, or HUNK_BOTH_BITS to HUNK_BAD_OFFSET; place: the
  * byte of the longword that is refused, from the start of the file, or 2^64 - 4 where that is more.
  * The contents of the memory are then unspecified. Each later call with this loader answers the
@@ -335,10 +334,10 @@ struct hunk_answer hunk_end(const struct hunk_loader *loader);
  * HUNK_STRANGE  the loader's numbers are none that a loader may have.
  * Else the same as hunk_feed has answered, where it answered a fault.
  *
- * All that is known to come is asked for at once, as the rest of a content, and after it the
- * longwords that the end of the file has at least. A file of any size may declare a block of more
- * than 2^32 bytes. So on a machine of 32 bits count may be above what it can address, or ask of a
- * pipe at once: a program compares it with its own limit before it narrows it to a size_t.
+ * count has all that is known to come: the rest of a content, for instance, and the longwords that
+ * the file has after it at least. A file of any size may declare a block of more than 2^32 bytes.
+ * So on a machine of 32 bits count may be above what it can address, or ask of a pipe at once: a
+ * program compares it with its own limit before it narrows it to a size_t.
  */
 struct hunk_answer hunk_want(const struct hunk_loader *loader);
 
@@ -357,8 +356,8 @@ struct hunk_answer hunk_want(const struct hunk_loader *loader);
  * Else the first fault of the bytes, HUNK_NOT_LOAD_FILE to HUNK_TRUNCATED; place: the byte of the
  * longword that is refused, or where the first longword is missing.
  *
- * A file is checked where there are rows enough. Rows after the findings, and at any answer but
- * HUNK_OK all rows, are as they were.
+ * With enough rows, each file without a fault is checked. Rows after the findings, and at any
+ * answer but HUNK_OK all rows, are as they were.
  */
 struct hunk_answer hunk_check(const uint8_t *bytes, uint64_t bytes_len, struct hunk_finding *rows,
                               uint64_t rows_len);
@@ -378,9 +377,9 @@ struct hunk_answer hunk_check(const uint8_t *bytes, uint64_t bytes_len, struct h
  *               at HUNK_OK. With rows_len 0 this asks for their number.
  * Else the first fault of the bytes, as at hunk_check.
  *
- * Items are listed where there are rows enough. Rows after them, and at any answer but HUNK_OK all
- * rows, are as they were. It is quickest with a row for each four bytes of the file, since no file
- * has more items: then they are not counted before.
+ * With enough rows, the items of each file without a fault are listed. Rows after them, and at any
+ * answer but HUNK_OK all rows, are as they were. It is quickest with a row for each four bytes of
+ * the file: no file has more items, so they are not counted first.
  */
 
 /* A unit of an object file: 40 bytes. */
@@ -478,7 +477,7 @@ struct hunk_answer hunk_references(const uint8_t *bytes, uint64_t bytes_len,
                                    struct hunk_reference *rows, uint64_t rows_len);
 
 /* Writes the object file that the bytes are, or the load file that they begin with, to the text,
- * without its NAME, SYMBOL, DEBUG and ADVISORY blocks. Which of the two they are is as at
+ * without its NAME, SYMBOL, DEBUG and ADVISORY blocks. The first longword says which, as at
  * hunk_check.
  *
  *   bytes   the file, whole; other bytes may follow a load file, and are left out
@@ -490,10 +489,10 @@ struct hunk_answer hunk_references(const uint8_t *bytes, uint64_t bytes_len,
  *               HUNK_OK.
  * Else the first fault of the bytes, as at hunk_check.
  *
- * A file is stripped where there is room. Text after what is written, and at any answer but HUNK_OK
- * all text, is as it was. What is loaded of a stripped load file is the same, and so are the
- * findings of a stripped object file. What stays is counted before it is copied where the text is
- * shorter than the file.
+ * With enough room, each file without a fault is stripped. Text after what is written, and at any
+ * answer but HUNK_OK all text, is as it was. A stripped load file loads the same, and a stripped
+ * object file has the same findings. Where the text is shorter than the file, what stays is counted
+ * before it is copied.
  */
 struct hunk_answer hunk_strip(const uint8_t *bytes, uint64_t bytes_len, uint8_t *text,
                               uint64_t text_len);
@@ -505,8 +504,8 @@ struct hunk_answer hunk_strip(const uint8_t *bytes, uint64_t bytes_len, uint8_t 
  * or at the end of the file. No call above takes such a file. hunk_plain writes the plain spelling
  * of it, which all of them take, and which stands for the same hunks.
  *
- * None of these three calls refuses any bytes. What they do not know is as it is in the plain
- * spelling, and refused there; so no reason is lost.
+ * These three calls refuse no bytes. What they do not know stays as it is in the plain spelling,
+ * where the calls above refuse it; so no reason is lost.
  */
 
 /* How an input spells its file: 32 bytes. Where short_blocks and ends are 0, the input is its own
@@ -524,7 +523,7 @@ struct hunk_spelling hunk_spelling_of(const uint8_t *bytes, uint64_t bytes_len);
 /* Writes the plain spelling of the bytes to the text.
  *
  *   bytes   the input, whole; what follows the file stays after it
- *   text    where the plain spelling goes: twice as many bytes as there are in are always enough
+ *   text    where the plain spelling goes: twice the bytes of the input are always enough
  *
  * HUNK_OK       place: the bytes that were read, all of them; count: the bytes that were written.
  * HUNK_NO_ROOM  the text is too short. count: the bytes that are needed; place as at HUNK_OK. With
@@ -535,32 +534,35 @@ struct hunk_spelling hunk_spelling_of(const uint8_t *bytes, uint64_t bytes_len);
 struct hunk_answer hunk_plain(const uint8_t *bytes, uint64_t bytes_len, uint8_t *text,
                               uint64_t text_len);
 
-/* The byte of the input at which a byte of its plain spelling stands, both counted from 0: where a
- * refusal of the plain spelling is in the input, by its place. Of a short block it is the 16-bit
- * word, of an END that is left out what comes in its place, and after the last byte the end of the
- * input, or where its last longword begins that is not whole. At most bytes_len. */
+/* The byte of the input at which a byte of its plain spelling stands, both counted from 0. So it
+ * says where in the input a refusal of the plain spelling is. In a short block that is the 16-bit
+ * word, and for an END that was left out, what comes in its place. After the last byte it is the
+ * end of the input, or the start of its last longword where that is cut short. It is at most
+ * bytes_len. */
 uint64_t hunk_input_place(const uint8_t *bytes, uint64_t bytes_len, uint64_t place);
 
 /* ---- What stands before a fault.
  *
- * The calls above list a file that is accepted, and no other. Of one that is refused, or not whole,
- * hunk_front writes another file that begins as it does and is accepted. So they list what stands
+ * The calls above list only a file that is accepted. For one that is refused, or not whole,
+ * hunk_front writes another file, which begins as it does and is accepted. So they list what stands
  * before the fault.
  *
- * The front of an input is the longest run of its first longwords that ends where a block word may
- * come, and of which none is refused: after the table of a load file, after the name of a unit,
- * after a block, or after an END, but for the last of a load file. So the front of a load file that
- * is whole ends before its last END. What closes a front is END, where a hunk is open, before it a
- * BSS block of no longwords where that has no CODE, DATA or BSS block yet; and then such a block
- * and END for each hunk of the table that is left.
+ * The front of an input is the longest run of its first longwords of which none is refused, and
+ * which ends where a block word may come: after the table of a load file, the name of a unit, a
+ * block, or an END, but for the last END of a load file. So the front of a whole load file ends
+ * before its last END.
+ *
+ * What closes a front is END where a hunk is open, and before it a BSS block of no longwords where
+ * that hunk has no CODE, DATA or BSS block yet. Such a block and END follow for each hunk of the
+ * table that is left.
  */
 
-/* Writes the front of the bytes to the text, and what closes it. Which kind of file they begin as
- * is as at hunk_check.
+/* Writes the front of the bytes to the text, and what closes it. The first longword says which kind of
+ * file they begin as, as at hunk_check.
  *
  *   bytes   the input, of any bytes
- *   text    where the file goes: 12 bytes more than there are in, and 12 for each hunk of the
- *           table, are always enough, and so are four times as many bytes as there are in
+ *   text    where the file goes: the bytes of the input, 12 more, and 12 for each hunk of the table
+ *           are always enough. So are four times the bytes of the input.
  *
  * HUNK_OK       hunk: the hunks of a load file, 1 or more; 0 of an object file; place: the bytes of
  *               the front; count: the bytes that were written. All are 0 where there is no front:
@@ -569,9 +571,9 @@ uint64_t hunk_input_place(const uint8_t *bytes, uint64_t bytes_len, uint64_t pla
  * HUNK_NO_ROOM  the text is too short. count: the bytes that are needed; hunk and place as at
  *               HUNK_OK. With text_len 0 this asks for them.
  *
- * No bytes are refused. A row that another call writes of the text is of the input where its place
- * is below that of this answer, and else of what closes it. Text after what is written, and at
- * HUNK_NO_ROOM all text, is as it was.
+ * No bytes are refused. A row that another call writes for the text is the input's where its place
+ * is below that of this answer, and else that of what closes the front. Text after what is written,
+ * and at HUNK_NO_ROOM all text, is as it was.
  */
 struct hunk_answer hunk_front(const uint8_t *bytes, uint64_t bytes_len, uint8_t *text,
                               uint64_t text_len);
