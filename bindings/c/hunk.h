@@ -557,8 +557,8 @@ uint64_t hunk_input_place(const uint8_t *bytes, uint64_t bytes_len, uint64_t pla
  * table that is left.
  */
 
-/* Writes the front of the bytes to the text, and what closes it. The first longword says which kind of
- * file they begin as, as at hunk_check.
+/* Writes the front of the bytes to the text, and what closes it. The first longword says which kind
+ * of file they begin as, as at hunk_check.
  *
  *   bytes   the input, of any bytes
  *   text    where the file goes: the bytes of the input, 12 more, and 12 for each hunk of the table
