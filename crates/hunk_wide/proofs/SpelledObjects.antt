@@ -18,7 +18,7 @@ use Rattle.hunk_grammar.specs.declared.object_position.ObjectPosition.TheVariant
 use Rattle.hunk_grammar.specs.declared.object_position.WordPlace.{WordPlace}
 use Rattle.hunk_grammar.specs.declared.object_position.WordPlace.TheVariants.{BeforeUnits, BetweenHunks}
 use Rattle.hunk_grammar.specs.ObjectPositions.{place_next, step, within}
-use Rattle.hunk_grammar.specs.ObjectRoles.{UnitName, WordAt, after_block, object_role_at, refuse_object, refuse_object_word}
+use Rattle.hunk_grammar.specs.ObjectRoles.{WordAt, after_block, object_role_at, refuse_object, refuse_object_word}
 use Rattle.hunk_grammar.specs.Standings.{Relocating, standing_of_kind}
 use Rattle.hunk_files.specs.{Machines.{leads_to, refuse_in_object}, LoadFile.{LoadFileValue, standing}}
 use Rattle.hunk_files.specs.ObjectFile.{IsObjectFile, IsObjectHunk, IsUnit, ObjectFileValue, ObjectHunk, UnitValue, object_text, unit_header}
