@@ -29,18 +29,21 @@ wrote 44 bytes
 END
 same 'OUT of standard input' out second
 cp followed twice
-runs second rewrite twice twice; wants 'rewrite of a file over itself, read before it is opened' 0 'twice: left out: 13 bytes after the load file' << END
+runs second rewrite twice twice
+wants 'rewrite of a file over itself, read before it is opened' 0 'twice: left out: 13 bytes after the load file' << END
 wrote 40 bytes
 rest 13 bytes left out
 END
 same 'a file over itself' twice before
-runs second rewrite followed out; wants 'rewrite of a file with more after it' 0 'followed: left out: 13 bytes after the load file' << END
+runs second rewrite followed out
+wants 'rewrite of a file with more after it' 0 'followed: left out: 13 bytes after the load file' << END
 wrote 40 bytes
 rest 13 bytes left out
 END
 same 'OUT without what follows' out before
 cat symbol tail > both
-runs second rewrite --strip both out; wants 'rewrite --strip of a file with more after it' 0 "both: $symbols, 13 bytes after the load file" << END
+runs second rewrite --strip both out
+wants 'rewrite --strip of a file with more after it' 0 "both: $symbols, 13 bytes after the load file" << END
 wrote 40 bytes
 rest 13 bytes left out
 END
@@ -63,10 +66,12 @@ rm out
 runs second rewrite short out
 [ ! -e out ]; status=$?
 wants 'no OUT where IN is refused' 0 "short: $cut; out was not touched" < printed
-runs second rewrite first /dev/full; wants 'a full disk' 3 '/dev/full: No space left on device (os error 28): the first 0 bytes of it are written' << END
+runs second rewrite first /dev/full
+wants 'a full disk' 3 '/dev/full: No space left on device (os error 28): the first 0 bytes of it are written' << END
 writing failed after 0 bytes
 END
-runs second rewrite first missing/out; wants 'an OUT that cannot be made' 3 "missing/out: $not_there: the first 0 bytes of it are written" << END
+runs second rewrite first missing/out
+wants 'an OUT that cannot be made' 3 "missing/out: $not_there: the first 0 bytes of it are written" << END
 writing failed after 0 bytes
 END
 # A pipe has nothing to keep, which is no failure; nor has a terminal or /dev/null.
@@ -88,7 +93,8 @@ if strace -o /dev/null true 2> complained; then
   wants 'a disk that does not keep OUT' 3 'out: Input/output error (os error 5): the first 40 bytes of it are written' << END
 writing failed after 40 bytes
 END
-  strace -o /dev/null -e inject=fsync:error=EDQUOT "$program" rewrite first out > printed 2> complained; status=$?
+  strace -o /dev/null -e inject=fsync:error=EDQUOT "$program" rewrite first out > printed 2> complained
+  status=$?
   wants 'a quota that is told of at the end' 3 'out: Disk quota exceeded (os error 122): the first 40 bytes of it are written' << END
 writing failed after 40 bytes
 END

@@ -28,7 +28,8 @@ runs second relocate --base 00021000 first; wants 'relocate FILE' 0 << END
 hunk 0 base 0x00021000 4 bytes
   4e754e71
 END
-runs first relocate --base 00021000 --budget 7 second; wants 'a budget of 7' 1 'second: the hunks declare more bytes than the budget allows' << END
+runs first relocate --base 00021000 --budget 7 second
+wants 'a budget of 7' 1 'second: the hunks declare more bytes than the budget allows' << END
 refused at byte 20: Budget (27)
 END
 runs first validate clean.o; wants 'an object file without a finding' 0 << END

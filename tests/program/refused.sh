@@ -7,7 +7,8 @@ bytes '000003F3 00000000 00000002 00000000 00000001 00000001 00000001 000003E9 0
 runs first show amiss; wants 'a hunk after another' 1 "amiss: damaged in hunk 1: $beyond" << END
 refused at byte 64: BadTarget (23)
 END
-runs amiss relocate --base 00021000; wants 'a hunk that is loaded as it comes' 1 "standard input: damaged in hunk 1: $beyond" << END
+runs amiss relocate --base 00021000
+wants 'a hunk that is loaded as it comes' 1 "standard input: damaged in hunk 1: $beyond" << END
 refused at byte 64: BadTarget (23)
 END
 { cat clean.o; bytes '000003E7 00000000 000003E9 00000000 000003F2 000003F3'; } > joined.o

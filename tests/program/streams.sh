@@ -35,7 +35,8 @@ END
 # ---- a person who starts the program alone is told that it reads, and nobody else is
 
 if script -qec true /dev/null < /dev/null > typed 2>&1; then
-  { cat text; printf '\004'; } | script -qec "$program > printed 2> complained" /dev/null > typed; status=$?
+  { cat text; printf '\004'; } | script -qec "$program > printed 2> complained" /dev/null > typed
+  status=$?
   wants 'no command, at a terminal' 0 'reading hexadecimal text from the terminal, up to its end; hunkinfo --help tells more' << END
 hunk 0 base 0x00000000 4 bytes
   4e754e71

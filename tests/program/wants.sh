@@ -9,8 +9,8 @@ runs() {
   status=$?
 }
 
-# wants NAME STATUS [SAID]: that the run before answered this status, that what it printed is standard input, and that it said this
-# on standard error, or nothing
+# wants NAME STATUS [SAID]: that the run before answered this status, that what it printed is standard input, and that it said
+# this on standard error, or nothing
 wants() {
   cat > wanted
   printf '%s' "${3:+hunkinfo: $3

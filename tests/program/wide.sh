@@ -27,7 +27,8 @@ runs first show --wide short-even; wants 'short relocations, --wide' 0 'short-ev
 runs short-even show --wide; wants 'short relocations of standard input' 0 'standard input: 1 block of short relocations' < listed
 od -An -v -tx1 short-even > short-text
 runs first show --hex --wide short-text; wants 'text of short relocations' 0 'short-text: 1 block of short relocations' < listed
-runs first show --wide short-filled; wants 'short relocations that are filled up' 0 'short-filled: 1 block of short relocations' << END
+runs first show --wide short-filled
+wants 'short relocations that are filled up' 0 'short-filled: 1 block of short relocations' << END
 load file 1 hunks 8 bytes
 hunk 0 8 bytes any
   CODE 8 bytes
@@ -74,17 +75,20 @@ hunkinfo: target-too-high: damaged in hunk 0: $beyond" << END
 refused at byte 38: BadTarget (23)
 END
 done
-runs first show --wide filled-not-with-0; wants 'a short block that is not filled up with 0' 1 "filled-not-with-0: 1 block of short relocations
+runs first show --wide filled-not-with-0
+wants 'a short block that is not filled up with 0' 1 "filled-not-with-0: 1 block of short relocations
 hunkinfo: filled-not-with-0: not supported in hunk 0: $shorts" << END
 refused at byte 38: ShortReloc (13)
 END
 cp out old
-runs first rewrite --wide cut-in-a-short-block out; wants 'a cut in a short block' 1 "cut-in-a-short-block: 1 block of short relocations
+runs first rewrite --wide cut-in-a-short-block out
+wants 'a cut in a short block' 1 "cut-in-a-short-block: 1 block of short relocations
 hunkinfo: cut-in-a-short-block: damaged in hunk 0: the input ends too soon; out was not touched" << END
 refused at byte 40: Truncated (26)
 END
 same 'OUT where the plain spelling is refused' out old
-runs first show --wide content-too-many; wants 'a content with no hunk ahead' 1 "content-too-many: damaged in hunk 0: $contents" << END
+runs first show --wide content-too-many
+wants 'a content with no hunk ahead' 1 "content-too-many: damaged in hunk 0: $contents" << END
 refused at byte 32: SecondContent (17)
 END
 runs first validate --wide amiss.o; wants 'an object file with findings, --wide' 1 << END
@@ -92,7 +96,8 @@ unit 0 hunk 0 offset 0x00000002 BadTarget
 unit 0 hunk 0 offset 0x00000002 OutsideHunk
 object file 1 units 2 findings
 END
-runs first show short-even; wants 'short relocations' 1 "short-even: not supported in hunk 0: $shorts; --wide reads such blocks" << END
+runs first show short-even
+wants 'short relocations' 1 "short-even: not supported in hunk 0: $shorts; --wide reads such blocks" << END
 refused at byte 40: ShortReloc (13)
 END
 runs first show no-ends; wants 'no END' 1 \

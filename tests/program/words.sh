@@ -11,10 +11,14 @@ runs text; wants 'no word' 0 << END
 hunk 0 base 0x00000000 4 bytes
   4e754e71
 END
-runs first relocate --base 1000; wants 'a base of four digits' 2 "error: invalid value '1000' for '--base <HEX>': eight hexadecimal digits are wanted$try_help" << END
+runs first relocate --base 1000
+wants 'a base of four digits' 2 \
+  "error: invalid value '1000' for '--base <HEX>': eight hexadecimal digits are wanted$try_help" << END
 command line refused
 END
-runs first show "$(printf '\377')"; wants 'a word that is no text' 2 'a word of the command line is no UTF-8 text: give a file of such a name as standard input, as in hunkinfo show < FILE' << END
+runs first show "$(printf '\377')"
+wants 'a word that is no text' 2 \
+  'a word of the command line is no UTF-8 text: give a file of such a name as standard input, as in hunkinfo show < FILE' << END
 command line refused
 END
 runs first show --help
