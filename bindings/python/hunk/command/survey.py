@@ -29,7 +29,7 @@ a file, sorted by name, of these fields with a tab between them:
           findings       an object file in which an offset is wrong
           wide           a file that is refused, and that is read with --wide: it is spelled otherwise
           no hunk file, not supported, damaged, not judged: why a file is refused, as docs/reasons.tsv has it;
-                         what can't be opened or read, or has 64 MiB, is not judged
+                         what can't be opened or read is not judged, nor a hunk file of 64 MiB or more
   reason  of the refusal, the first finding, or the system's error; - where there is none
   byte    where the reason was met; - where there is none. Of class wide both are those without --wide
   rest    the bytes after a file that is accepted; - of any other

@@ -89,7 +89,7 @@ fn what_was_read(rt: HostRuntime) -> Result<(), Fail> {
     Ok(())
 }
 
-/// Example 10 with a symbol: what follows the file is no part of it.
+/// Example 10 with a symbol, and bytes after the file.
 #[test]
 fn a_file_that_bytes_follow(rt: HostRuntime) -> Result<(), Fail> {
     let alloc = rt.alloc();
