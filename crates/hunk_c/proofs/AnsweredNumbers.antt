@@ -113,7 +113,7 @@ pub feed_told : (rows : List Row) (old new : Loader) (memory after piece : List 
 feed_told rows old new memory after piece a (HasTaken n h e) = told_by a _ e refl
 feed_told rows old new memory after piece a (HasRefused f h n e) = told_by a _ e (of_body f.reason h.own_reason)
 feed_told rows old new memory after piece a (HadRefused h n m) = again_told old a h
-feed_told rows old new memory after piece a (IsStrange h n e) = told_by a _ e refl
+feed_told rows old new memory after piece a (IsStrange at s h n e) = told_by a _ e refl
 
 pub end_told : (l : Loader) (a : Answer) → Ends l a → Told a
 end_told l a (IsWhole at h e w) = told_by a _ e refl
@@ -195,7 +195,7 @@ pub feed_strange : (rows : List Row) (new : Loader) (memory after piece : List �
 feed_strange rows new memory after piece a (HasTaken n h e) = absurd (none_standing h.from h.stood.numbers h.stood.may_stand)
 feed_strange rows new memory after piece a (HasRefused f h n e) = absurd (none_standing h.from h.stood.numbers h.stood.may_stand)
 feed_strange rows new memory after piece a (HadRefused h n m) = again_strange a h
-feed_strange rows new memory after piece a (IsStrange h n e) = e
+feed_strange rows new memory after piece a (IsStrange at s h n e) = e
 
 pub end_strange : (a : Answer) → Ends no_loader a → a ≡ strange
 end_strange a (IsWhole at h e w) = absurd (none_standing at h.numbers h.may_stand)

@@ -22,6 +22,7 @@ mod ShortRows
 pub mod Passing
 pub mod PlacedHunks
 pub mod Readying
+pub mod Refused
 pub mod Streamed
 pub mod Succeeding
 pub mod TableRows

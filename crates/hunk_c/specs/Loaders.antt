@@ -313,11 +313,22 @@ pub record Stands (rows : List Row) (l : Loader) (memory fed : List ℕ) : Type 
   pub clean : TellsNone l
   pub is_fed : IsFed rows memory at fed
 
--- No loader has these numbers, with any places, memory and bytes: none stands so, and none that stood so has refused a piece.
+-- The loader stood after bytes, and has refused so the piece that came then.
+pub record HasRefusedPiece (l : Loader) (f : Fault) : Type 0 where
+  pub rows : List Row
+  pub old : Loader
+  pub memory : List ℕ
+  pub fed : List ℕ
+  pub piece : List ℕ
+  pub stood : Stands rows old memory fed
+  pub refuses : IsBodyRefusal (fed ++ piece) f
+  pub as_it_stood : unrefused l ≡ unrefused old
+  pub tells : TellsFault l f
+
+-- No loader has these numbers, with any places, memory and bytes: none stands so, and none has refused a piece so.
 pub record IsNoLoader (l : Loader) : Type 0 where
   pub stands : (rows : List Row) (memory fed : List ℕ) → Stands rows l memory fed → ⊥
-  pub has_refused : (rows : List Row) (old : Loader) (memory fed piece : List ℕ) (f : Fault) → Stands rows old memory fed
-      → IsBodyRefusal (fed ++ piece) f → unrefused l ≡ unrefused old → TellsFault l f → ⊥
+  pub has_refused : (f : Fault) → HasRefusedPiece l f → ⊥
 
 -- What each call answers where a loader does not stand: its refusal again, or that no loader has these numbers.
 pub data TellsAgain (l : Loader) (answer : Answer) : Type 0 where

@@ -79,14 +79,21 @@ StandsNowhere rows old memory = (fed : List ℕ) → Stands rows old memory fed 
 
 -- What the feeding of a piece comes to: it is taken, all of it or up to the end of the file; it is refused;
 -- no byte of it is looked at, for an earlier refusal or for numbers that no loader has;
--- or these places and this memory show that no loader stands so.
+-- or it has refused nothing, and these places and this memory show that no loader stands so.
 pub data Feeds (rows : List Row) (old new : Loader) (memory after piece : List ℕ) (answer : Answer) : Type 0 where
   HasTaken : (count : ℕ) → TakesPiece rows old new memory after piece count → answer ≡ done new.hunk new.fed count
       → Feeds rows old new memory after piece answer
   HasRefused : (f : Fault) → RefusesPiece rows old memory piece f → new ≡ refusing old f → answer ≡ refused f
       → Feeds rows old new memory after piece answer
   HadRefused : TellsAgain old answer → new ≡ old → after ≡ memory → Feeds rows old new memory after piece answer
-  IsStrange : StandsNowhere rows old memory → new ≡ old → answer ≡ strange → Feeds rows old new memory after piece answer
+  IsStrange : (at : Standing) → StandsAt old at → StandsNowhere rows old memory → new ≡ old → answer ≡ strange
+      → Feeds rows old new memory after piece answer
+
+-- It is refused again, and loader and memory stay as they are.
+pub record StaysRefused (l new : Loader) (memory after : List ℕ) (f : Fault) (answer : Answer) : Type 0 where
+  pub again : answer ≡ refused f
+  pub same_loader : new ≡ l
+  pub same_memory : after ≡ memory
 
 -- ---- the end
 

@@ -1,20 +1,21 @@
 //! Laws over what calls answer: each function does nothing, and its contract is the law.
 ghost use Rattle.std.specs.Prelude.{◌≡◌, ◌+◌, ◌*◌, ◌≤◌, ℕ, List, ◌++◌, length};
 ghost use Rattle.hunk_words.specs.Longs.{bytes_of};
+ghost use Rattle.hunk_words.specs.declared.fault.Fault.{Fault};
 ghost use Rattle.hunk_files.specs.HunkFile.{IsFileOf, file_bytes};
 ghost use Rattle.hunk_files.specs.declared.hunk_file.HunkFile.{HunkFile};
 ghost use Rattle.hunk_files.specs.declared.row.Row.{Row};
 ghost use Rattle.hunk_scatter.specs.Placing.{Placing};
-ghost use Rattle.hunk_c.specs.Answers.{AreAnswered, strange};
+ghost use Rattle.hunk_c.specs.Answers.{AreAnswered, refused, strange};
 ghost use Rattle.hunk_c.specs.Checks.{Checks};
 ghost use Rattle.hunk_c.specs.Fronts.{Fronts, IsClosed};
-ghost use Rattle.hunk_c.specs.Loaders.{no_loader};
+ghost use Rattle.hunk_c.specs.Loaders.{HasRefusedPiece, Stands, no_loader, refusing};
 ghost use Rattle.hunk_c.specs.Loads.{Loads};
 ghost use Rattle.hunk_c.specs.LoadsAt.{LoadsAt};
 ghost use Rattle.hunk_c.specs.Names.{Means, Names};
 ghost use Rattle.hunk_c.specs.Plains.{Plains};
 ghost use Rattle.hunk_c.specs.Rows.{Tabulates};
-ghost use Rattle.hunk_c.specs.Streams.{Begins, Ends, Feeds, Wants};
+ghost use Rattle.hunk_c.specs.Streams.{Begins, Ends, Feeds, RefusesPiece, StaysRefused, Wants};
 ghost use Rattle.hunk_c.specs.Strips.{Strips};
 ghost use Rattle.hunk_c.specs.Tables.{Tables};
 ghost use Rattle.hunk_c.specs.declared.answer.Answer.{Answer};
@@ -95,4 +96,19 @@ pub fn strange_after_no_begin()
         → Feeds rows no_loader new memory after piece answer → answer ≡ strange }
     ensures end { (answer : Answer) → Ends no_loader answer → answer ≡ strange }
     ensures want { (answer : Answer) → Wants no_loader answer → answer ≡ strange }
+{}
+
+/// A loader that has refused a piece answers each later call by the same refusal, and stays as it
+/// is.
+pub fn refusal_stays()
+    ensures refuses { (rows : List Row) (old : Loader) (memory fed piece : List ℕ) (fault : Fault)
+        → Stands rows old memory fed → RefusesPiece rows old memory piece fault
+        → HasRefusedPiece (refusing old fault) fault }
+    ensures feed { (l : Loader) (fault : Fault) → HasRefusedPiece l fault
+        → (rows : List Row) (new : Loader) (memory after piece : List ℕ) (answer : Answer)
+        → Feeds rows l new memory after piece answer → StaysRefused l new memory after fault answer }
+    ensures end { (l : Loader) (fault : Fault) → HasRefusedPiece l fault
+        → (answer : Answer) → Ends l answer → answer ≡ refused fault }
+    ensures want { (l : Loader) (fault : Fault) → HasRefusedPiece l fault
+        → (answer : Answer) → Wants l answer → answer ≡ refused fault }
 {}

@@ -16,7 +16,7 @@ returns-then-not-fits c =
     record {
       takes = tt;
       answers =
-          IsStrange
+          IsStrange c.in-Ok.at stands
           (λ fed h. absurd (cc (c.fits.ensures.complete c.args.memory.now fed (stands_at c.args.rows.now l c.args.memory.now fed c.in-Ok.at stands h) refl, c.if-not-fits.true)))
           refl c.strange.ensures;
     }

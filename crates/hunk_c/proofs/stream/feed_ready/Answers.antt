@@ -16,7 +16,7 @@ pub returns-then-ends_early-clause-answers : goal.returns-then-ends_early-clause
 returns-then-ends_early-clause-answers c =
     let l = c.args.loader.now in
     let at = stands_ready c.args.rows.now _ l c.requires c.in-Some.position _ (sym c.in-Some.ensures) c.standing_at.ensures in
-    IsStrange
+    IsStrange c.standing_at.result at.0
     (λ fed h.
     c.ends_early.ensures.nowhere c.if-ends_early.true c.args.rows.now _ _
     (c.in-Ok.ensures.takes fed (stands_at c.args.rows.now l c.args.memory.now fed c.standing_at.result at.0 h)))
@@ -46,7 +46,7 @@ pub returns-in-Err-Strange-clause-answers : goal.returns-in-Err-Strange-clause-a
 returns-in-Err-Strange-clause-answers c =
     let l = c.args.loader.now in
     let at = stands_ready c.args.rows.now _ l c.requires c.in-Some.position _ (sym c.in-Some.ensures) c.standing_at.ensures in
-    IsStrange
+    IsStrange c.standing_at.result at.0
     (λ fed h.
     subst (λ (s : Stop). StopsAt (fed ++ c.args.piece.now) s) c.in-Err-Strange.field-0-is
     (c.in-Err-Strange.ensures.takes fed (stands_at c.args.rows.now l c.args.memory.now fed c.standing_at.result at.0 h)))

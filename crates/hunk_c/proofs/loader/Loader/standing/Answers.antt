@@ -9,8 +9,9 @@ no_loader : (l : Loader) → (MayHaveStood l → ⊥) → IsNoLoader l
 no_loader l none = record {
   stands = λ rows memory fed h.
       none (stands_again l h.at h.numbers (may_stand rows memory h.at fed h.is_fed));
-  has_refused = λ rows old memory fed piece f h is same tells.
-      none (stands_again l h.at (same ∙ h.numbers) (may_stand rows memory h.at fed h.is_fed));
+  has_refused = λ f h.
+      let s = h.stood in
+      none (stands_again l s.at (h.as_it_stood ∙ s.numbers) (may_stand h.rows h.memory s.at h.fed s.is_fed));
 }
 
 pub returns-in_default-clause-tells : goal.returns-in_default-clause-tells
