@@ -3,7 +3,9 @@ import os
 import pathlib
 import re
 import shlex
+import shutil
 import subprocess
+import sys
 import tempfile
 from concurrent.futures import ThreadPoolExecutor
 
@@ -34,6 +36,8 @@ def ask(program, inputs):
     """What the program prints for each input, which is its bytes and a list of orders; and what an order has written to OUT, or
     None. An order is the words of a command line, with IN and OUT for files."""
     program = str(pathlib.Path(program).resolve())
+    if not shutil.which(program):
+        sys.exit(f"{program} is no program that can be run")
     place = "/dev/shm" if os.access("/dev/shm", os.W_OK) else None
     with tempfile.TemporaryDirectory(dir=place) as folder:
         for number, (data, _) in enumerate(inputs):

@@ -8,8 +8,8 @@
         print(symbol.hunk, symbol.value, symbol.name)
 
 `data` is a bytes-like object; anything else raises a TypeError. Bytes that are refused raise a HunkError, which says why
-and at which byte; `hunk.read` with `partial=True` gives what stands before it. `hunk.stream` loads a file that comes piece
-by piece. `hunk.library` says which library is taken.
+and at which byte; `hunk.read` with `partial=True` gives what stands before it. The module `hunk.stream`, to import by
+itself, loads a file that comes piece by piece. `hunk.library` says which library is taken.
 """
 
 from hunk.library import HunkError
