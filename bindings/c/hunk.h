@@ -535,10 +535,16 @@ struct hunk_answer hunk_plain(const uint8_t *bytes, uint64_t bytes_len, uint8_t 
                               uint64_t text_len);
 
 /* The byte of the input at which a byte of its plain spelling stands, both counted from 0. So it
- * says where in the input a refusal of the plain spelling is. In a short block that is the 16-bit
- * word, and for an END that was left out, what comes in its place. After the last byte it is the
- * end of the input, or the start of its last longword where that is cut short. It is at most
- * bytes_len. */
+ * says where in the input a refusal of the plain spelling is.
+ *
+ * A byte that is put in has the place of the next one that is not. Such bytes are those of an END
+ * that was left out, and the first two of each number of a short block, which has 16 bits in the
+ * input. (So are four where a short block is filled up with another number than 0: the word 3FC is
+ * put in before that number, and is refused.) All others stand as they are, each at its own byte,
+ * also in a longword that is cut short; of the word of a short block some have other values.
+ *
+ * From the end of the plain spelling on, it is bytes_len. A later place is not before an earlier
+ * one. Where short_blocks and ends are 0, each place up to bytes_len is its own. */
 uint64_t hunk_input_place(const uint8_t *bytes, uint64_t bytes_len, uint64_t place);
 
 /* ---- What stands before a fault.

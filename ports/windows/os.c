@@ -224,6 +224,9 @@ struct statx {
 
 _Static_assert(sizeof(struct statx) == 256, "as on Linux");
 
+/* Linux's names of the standard streams, by their numbers. */
+static const char *const streams[] = {"/dev/stdin", "/dev/stdout", "/dev/stderr"};
+
 /* A file's number and that of its volume tell whether two names are of one file. On ReFS, whose
  * numbers have 128 bits, two files may have the same 64. */
 static int describe(HANDLE file, struct statx *found)
@@ -239,13 +242,14 @@ static int describe(HANDLE file, struct statx *found)
     return 0;
 }
 
-/* The program asks by names alone. /dev/stdout is its own output. */
+/* The program asks by names alone. /dev/stdin and its kin are its own streams. */
 int statx(int fd, const char *path, int flags, int mask, struct statx *found)
 {
     (void)fd, (void)flags, (void)mask;
     memset(found, 0, sizeof *found);
-    if (strcmp(path, "/dev/stdout") == 0)
-        return describe(file_of(1), found);
+    for (int stream = 0; stream < (int)COUNT(streams); stream++)
+        if (strcmp(path, streams[stream]) == 0)
+            return describe(file_of(stream), found);
     wchar_t name[PATH_LEN];
     if (!widen(path, name))
         return failed();

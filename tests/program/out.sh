@@ -134,3 +134,44 @@ END
 done
 "$program" rewrite first /dev/null > /dev/null 2> complained; status=$?
 : > printed; wants 'standard output as OUT, /dev/null' 0 < /dev/null
+
+# ---- standard error as OUT: what is said there never takes the place of what is written
+
+heard='standard error goes there: the first 0 bytes of it are written'
+rm -f linked
+: > mixed
+ln -s mixed linked
+ln mixed other
+for name in /dev/stderr /dev/fd/2 /proc/self/fd/2 mixed linked other; do
+  "$program" rewrite --strip symbol "$name" 2> mixed > printed; status=$?
+  cp mixed complained
+  wants "standard error as OUT, a file, by $name" 3 "$name: $heard" << END
+writing failed after 0 bytes
+END
+  "$program" rewrite first "$name" > mixed 2>&1; status=$?
+  printf '%s\n' 'writing failed after 0 bytes' "hunkinfo: $name: $taken" > both
+  cp mixed printed
+  : > complained
+  wants "both streams as OUT, a file, by $name" 3 < both
+done
+printf '%s\n' 'a line before' > mixed
+"$program" rewrite first mixed 2>> mixed > printed; status=$?
+printf '%s\n' 'a line before' "hunkinfo: mixed: $heard" > both
+same 'standard error as OUT, a file that is appended to' mixed both
+cp first itself
+"$program" rewrite itself itself 2>> itself > printed; status=$?
+{ cat first; echo "hunkinfo: itself: $heard"; } > both
+same 'standard error as OUT, and as IN' itself both
+: > complained
+wants 'standard error as OUT, and as IN' 3 << END
+writing failed after 0 bytes
+END
+"$program" rewrite --strip symbol out 2> mixed > printed; status=$?
+cp mixed complained
+wants 'OUT beside a standard error that is a file' 0 "symbol: $symbols" << END
+wrote 40 bytes
+END
+same 'OUT beside such a standard error' out first
+{ "$program" rewrite first /dev/stderr 2>&1 > printed; } | cat > mixed; status=0
+: > complained
+same 'standard error as OUT, a pipe' mixed first

@@ -51,6 +51,7 @@ pub extern "C" fn hunk_plain(bytes: &[u8], text: &mut [u8]) -> Answer
 pub extern "C" fn hunk_input_place(bytes: &[u8], place: u64) -> u64
     ensures value { result ≡ place_of bytes.now place }
     ensures inside { result ≤ length bytes.now }
+    ensures behind { length (plain bytes.now) ≤ place → result ≡ length bytes.now }
 {
     place_in(bytes, place)
 }

@@ -1,14 +1,16 @@
 -- An input that is judged as it comes.
-use Rattle.std.proofs.Common.{◌≡◌, ◌∙◌, ◌≤◌, ℕ, List, [], ◌∷◌, ◌++◌, length, true≢false, Result, Ok, Err, inl, refl, ap, ap₂, sym, arith, length-append}
-use Rattle.std.specs.Prelude.{IsOk, IsTrue, OnOk}
-use Rattle.hunk_words.specs.Longs.{longs}
+use Rattle.std.proofs.Common.{◌≡◌, ◌∙◌, ◌<◌, ◌≤◌, ℕ, List, [], ◌∷◌, ◌++◌, length, true≢false, Result, Ok, Err, inl, refl, ap, ap₂, sym, subst, arith, length-append}
+use Rattle.std.specs.Prelude.{IfErr, IsOk, IsTrue, OnOk}
+use Rattle.hunk_words.specs.Longs.{bytes_of, longs}
+use Rattle.hunk_words.proofs.LongLaws.{length-bytes_of}
 use Rattle.hunk_grammar.specs.{FileKind.sniffed, declared.file_kind.Sniff.Sniff}
 use Rattle.hunk_grammar.specs.declared.file_kind.Sniff.TheVariants as sniffs
 use Rattle.hunk_files.specs.{Fault.{BeginsWithLoadFile, HasFault, is_load_refusal}, FileParts.IsPartAt, HunkFile.{AreFile, IsRefusal}, declared.refusal.Refusal.Refusal}
 use Rattle.hunk_files.proofs.FileKinds.{no_load, not_object}
-use Rattle.hunk_scatter.specs.{LoadChecks.IsSummary, declared.load_check.LoadSummary.LoadSummary}
+use Rattle.hunk_scatter.specs.{HeaderFaults.CompletesRow, LoadChecks.IsSummary, declared.load_check.LoadSummary.LoadSummary}
 use Rattle.hunk_listing.specs.FileLines.{load_line, where_rest}
-use Rattle.hunk_commands.specs.{Incoming.AnnouncesLoad, Refusals.RefusesBytes, Validated.IsValidated, declared.fault.RunFault.TheVariants.RefusedIn}
+use Rattle.hunk_commands.specs.{Faults.IsWrite, Incoming.{AnnouncesLoad, AnnouncesObject}, Refusals.RefusesBytes, Validated.IsValidated}
+use Rattle.hunk_commands.specs.declared.fault.RunFault.{RunFault, TheVariants.{Memory, RefusedIn}}
 
 -- The first longword stays.
 sniffed_more : (bytes more : List ℕ) → 4 ≤ length bytes → sniffed (longs (bytes ++ more)) ≡ sniffed (longs bytes)
@@ -20,6 +22,26 @@ sniffed_more (a ∷ b ∷ c ∷ d ∷ bytes) more four = refl
 
 pub announces_more : (bytes more : List ℕ) → AnnouncesLoad bytes → AnnouncesLoad (bytes ++ more)
 announces_more bytes more h = (omega (arith, h.0, length-append bytes more), λ object. h.1 (sym (sniffed_more bytes more h.0) ∙ object))
+
+pub object_more : (bytes more : List ℕ) → AnnouncesObject bytes → AnnouncesObject (bytes ++ more)
+object_more bytes more h = (omega (arith, h.0, length-append bytes more), sniffed_more bytes more h.0 ∙ h.1)
+
+-- ---- memory that is wanted
+
+-- what holds of each error holds of an `Err`
+pub of_err : {T E : Type 0} (P : E → Type 0) (result : Result T E) → ((error : E) → P error) → IfErr result P
+of_err P (Ok value) holds = tt
+of_err P (Err error) holds = holds error
+
+-- Fewer than four bytes complete no row.
+pub no_row : (front : List ℕ) (at : ℕ) → length front < 4 → CompletesRow front at → ⊥
+no_row front at few h =
+    omega (arith, few, ap length h.split, length-append (bytes_of (h.before ++ h.word ∷ [])) h.rest, length-bytes_of (h.before ++ h.word ∷ []), length-append h.before (h.word ∷ []))
+
+-- A report wants none.
+pub no_memory : {T : Type 0} (P : Type 0) (bytes : List ℕ) (result : Result T RunFault) → IfErr result (λ fault. ¬ IsWrite fault → RefusesBytes fault bytes) → IfErr result (λ fault. fault ≡ Memory → P)
+no_memory P bytes (Ok value) refused = tt
+no_memory P bytes (Err fault) refused = λ e. absurd (subst (λ (f : RunFault). RefusesBytes f bytes) e (refused (λ write. subst IsWrite e write)))
 
 -- ---- what is reported
 

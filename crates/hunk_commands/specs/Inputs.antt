@@ -1,5 +1,5 @@
 -- What was read of a source, and why it was not read to its end.
-use Rattle.std.specs.Prelude.{◌≡◌, ◌<◌, ℕ, List, Some, true, false, length, Result, IfErr, IsErrAnd, OnOk}
+use Rattle.std.specs.Prelude.{◌≡◌, ◌<◌, ℕ, List, ◌++◌, Some, true, false, length, Result, IfErr, IsErrAnd, OnOk}
 use Rattle.std.specs.Io.KnownBytes.{Consumes, IsAtEnd}
 use Rattle.hunk_words.specs.Carriers.{Supply}
 use Rattle.hunk_words.specs.declared.reason.Reason.TheVariants as reasons
@@ -30,6 +30,13 @@ pub record HasFile (old : Supply) (most : ℕ) : Type 0 where
 -- it gave this many bytes
 abbrev pub Gave : Supply → Supply → ℕ → Type 0
 Gave old new count = (bytes : List ℕ) × Consumes old.left new.left bytes × (length bytes ≡ count)
+
+-- it gave bytes and a last piece, for which memory was wanted: this holds of them
+pub record WantedFor (Wants : List ℕ → List ℕ → Type 0) (old new : Supply) : Type 0 where
+  pub before : List ℕ
+  pub piece : List ℕ
+  pub given : Consumes old.left new.left (before ++ piece)
+  pub wants : Wants before piece
 
 -- why it was not read to its end in fewer than `most` bytes
 abbrev pub ReadsInVain : RunFault → Supply → Supply → ℕ → Type 0

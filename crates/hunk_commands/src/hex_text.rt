@@ -1,6 +1,6 @@
 //! Bytes from hexadecimal text.
 ghost use Rattle.std.specs.Prelude.{◌≡◌, ◌<◌, ◌≤◌, ◌*◌, ◌%◌, ◌++◌, [], ℕ, List, Ok, None, true, length};
-ghost use Rattle.std.specs.Prelude.{take};
+ghost use Rattle.std.specs.Prelude.{take, ⊤};
 ghost use Rattle.std.specs.Prelude.{◌∷◌, IfOk, IfErr, IfSome, OnErr};
 ghost use Rattle.hex.specs.Hex.{decode_of};
 ghost use Rattle.hunk_commands.specs.HexText.{AppendsSpelled, ReadsHex, ReadsNoHex, RefusesHex, SpellsHex};
@@ -117,6 +117,8 @@ impl HexDecoder {
 
 impl Taker for HexDecoder {
     ghost took = { λ s. s };
+
+    ghost wants = { λ _ _. ⊤ };
 
     fn take(&mut self, piece: &[u8]) -> Result<(), AllocError> {
         let mut at = 0;

@@ -1,10 +1,12 @@
 //! An input that is judged as it comes: a load file is checked and not kept, an object file is kept
 //! whole.
-ghost use Rattle.std.specs.Prelude.{◌≡◌, ◌<◌, ◌++◌, [], IfOk, length};
+ghost use Rattle.std.specs.Prelude.{◌≡◌, ◌<◌, ◌++◌, [], IfErr, IfOk, length};
+ghost use Rattle.hunk_scatter.specs.HeaderFaults.{CompletesRowIn};
 ghost use Rattle.hunk_scatter.specs.LoadChecks.{counted_bytes};
 ghost use Rattle.hunk_commands.specs.Engine.{PutsOrRefuses};
-ghost use Rattle.hunk_commands.specs.Incoming.{AnnouncesLoad, Holds};
-ghost use Rattle.hunk_commands.specs.Inputs.{ReadsAtMost, ReadsWhole};
+ghost use Rattle.hunk_commands.specs.Incoming.{AnnouncesLoad, AnnouncesObject, Holds, WantsMemory};
+ghost use Rattle.hunk_commands.specs.Inputs.{ReadsAtMost, ReadsWhole, WantedFor};
+ghost use Rattle.hunk_commands.specs.declared.fault.RunFault.TheVariants.{Memory};
 ghost use Rattle.hunk_commands.specs.Validated.{IsValidated};
 
 use crate::fault::RunFault;
@@ -52,10 +54,40 @@ impl Model for Incoming {
     ghost invariant = { λ s. IsKept s.kept };
 }
 
+/// All of the front and the piece of an object file.
+fn keep_object(alloc: Global, front: &[u8], piece: &[u8]) -> Result<Kept, AllocError>
+    requires announced { AnnouncesObject (front.now ++ piece.now) }
+    ensures holds { IfOk result (λ kept. Holds kept (front.now ++ piece.now)) }
+    ensures wants { IfErr result (λ _. WantsMemory front.now piece.now) }
+{
+    let mut bytes = Vec::new(alloc);
+    bytes.extend_from_slice(front)?;
+    bytes.take(piece)?;
+    Ok(Kept::Object(bytes))
+}
+
+/// The check of the front and the piece of a load file.
+fn keep_load(alloc: Global, front: &[u8], piece: &[u8]) -> Result<Kept, AllocError>
+    requires few { length front.now < 4 }
+    requires announced { AnnouncesLoad (front.now ++ piece.now) }
+    ensures holds { IfOk result (λ kept. Holds kept (front.now ++ piece.now)) }
+    ensures wants { IfErr result (λ _. CompletesRowIn front.now piece.now) }
+{
+    let check = match LoadCheck::new(alloc).feed(front) {
+        Ok(check) => check,
+        Err(error) => return Err(error),
+    };
+    match check.feed(piece) {
+        Ok(check) => Ok(Kept::Load(check)),
+        Err(error) => Err(error),
+    }
+}
+
 /// What is kept of the front and the piece, where the front has announced nothing.
 fn keep_first(alloc: Global, front: &[u8], piece: &[u8]) -> Result<Kept, AllocError>
     requires few { length front.now < 4 }
-    ensures { IfOk result (λ kept. Holds kept (front.now ++ piece.now)) }
+    ensures holds { IfOk result (λ kept. Holds kept (front.now ++ piece.now)) }
+    ensures wants { IfErr result (λ _. WantsMemory front.now piece.now) }
 {
     let mut first: ArrayVec<u8, 4> = ArrayVec::new();
     let _ = first.try_extend_from_slice(front);
@@ -65,13 +97,9 @@ fn keep_first(alloc: Global, front: &[u8], piece: &[u8]) -> Result<Kept, AllocEr
         return Ok(Kept::Front(first));
     }
     if let Sniff::Object = sniff(first.as_slice()) {
-        let mut bytes = Vec::new(alloc);
-        bytes.extend_from_slice(front)?;
-        bytes.take(piece)?;
-        return Ok(Kept::Object(bytes));
+        return keep_object(alloc, front, piece);
     }
-    let check = LoadCheck::new(alloc).feed(front)?;
-    Ok(Kept::Load(check.feed(piece)?))
+    keep_load(alloc, front, piece)
 }
 
 impl Incoming {
@@ -89,8 +117,8 @@ impl Incoming {
     ///
     /// # Errors
     ///
-    /// As `read_all`. `Memory` where memory is refused for a hunk's row, or for the bytes of an
-    /// object file.
+    /// As `read_all`. `Memory` where memory is refused for a hunk's row, which the last piece
+    /// completes, or for the bytes of an object file.
     pub(crate) fn read<S: Source>(
         alloc: Global,
         source: &mut S,
@@ -99,6 +127,8 @@ impl Incoming {
         ensures reads { IfOk result
             (ReadsWhole (S.supply source.old) (S.supply source.new) most) }
         ensures reads_at_most { ReadsAtMost (S.supply source.old) (S.supply source.new) most result }
+        ensures wants { IfErr result (λ fault. fault ≡ Memory
+            → WantedFor WantsMemory (S.supply source.old) (S.supply source.new)) }
     {
         let mut input = Incoming::new(alloc);
         match read_all(source, most, &mut input) {
@@ -109,7 +139,8 @@ impl Incoming {
 
     /// The input with the piece after it.
     fn and(self, piece: &[u8]) -> Result<Incoming, AllocError>
-        ensures { IfOk result (λ input. input ≡ self ++ piece.now) }
+        ensures joined { IfOk result (λ input. input ≡ self ++ piece.now) }
+        ensures wants { IfErr result (λ _. WantsMemory self piece.now) }
     {
         let Incoming { alloc, kept } = self;
         let kept = match kept {
@@ -141,6 +172,8 @@ impl Incoming {
 
 impl Taker for Incoming {
     ghost took = { λ s. s };
+
+    ghost wants = { WantsMemory };
 
     fn take(&mut self, piece: &[u8]) -> Result<(), AllocError> {
         let none = Incoming::new(self.alloc);

@@ -1,6 +1,7 @@
 //! A source read to its end.
-ghost use Rattle.std.specs.Prelude.{◌≡◌, ◌++◌, [], ℕ, List, IfOk, OnOk};
-ghost use Rattle.hunk_commands.specs.Inputs.{ReadsAtMost, ReadsWhole};
+ghost use Rattle.std.specs.Prelude.{◌≡◌, ◌++◌, [], ℕ, List, IfErr, IfOk, OnErr, OnOk, ⊤};
+ghost use Rattle.hunk_commands.specs.Inputs.{ReadsAtMost, ReadsWhole, WantedFor};
+ghost use Rattle.hunk_commands.specs.declared.fault.RunFault.TheVariants.{Memory};
 
 use crate::fault::RunFault;
 use hunk_words::{Fault, Reason, Source};
@@ -16,14 +17,20 @@ const ROOM: usize = 262_144;
 pub(crate) trait Taker {
     ghost took: { Self → List ℕ };
 
+    /// What holds of the bytes that were taken and of those that follow, where memory is wanted.
+    ghost wants: { List ℕ → List ℕ → Type 0 };
+
     /// Takes the bytes that follow.
     fn take(&mut self, piece: &[u8]) -> Result<(), AllocError>
-        ensures { OnOk result (took self.new ≡ took self.old ++ piece.now) };
+        ensures taken { OnOk result (took self.new ≡ took self.old ++ piece.now) }
+        ensures wanted { OnErr result (wants (took self.old) piece.now) };
 }
 
 /// A list keeps them all.
 impl Taker for Vec<u8> {
     ghost took = { λ s. s.items };
+
+    ghost wants = { λ _ _. ⊤ };
 
     fn take(&mut self, piece: &[u8]) -> Result<(), AllocError> {
         if self.is_empty() && piece.len() == PIECE {
@@ -56,6 +63,8 @@ pub(crate) fn read_all<S: Source, T: Taker>(
     ensures reads { OnOk result
         (ReadsWhole (S.supply source.old) (S.supply source.new) most (T.took taker.new)) }
     ensures reads_at_most { ReadsAtMost (S.supply source.old) (S.supply source.new) most result }
+    ensures wanted { IfErr result (λ fault. fault ≡ Memory
+        → WantedFor T.wants (S.supply source.old) (S.supply source.new)) }
 {
     let mut buf = [0u8; PIECE];
     let mut count = 0u64;

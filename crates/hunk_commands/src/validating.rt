@@ -1,6 +1,10 @@
 //! `validate`: a file is checked.
+ghost use Rattle.std.specs.Prelude.{◌≡◌, IfErr};
 ghost use Rattle.hunk_commands.specs.Engine.{PutsOrRefuses, ReadsThenPuts};
+ghost use Rattle.hunk_commands.specs.Incoming.{WantsMemory};
+ghost use Rattle.hunk_commands.specs.Inputs.{WantedFor};
 ghost use Rattle.hunk_commands.specs.Validated.{IsValidated};
+ghost use Rattle.hunk_commands.specs.declared.fault.RunFault.TheVariants.{Memory};
 
 use crate::fault::RunFault;
 use crate::incoming::Incoming;
@@ -23,8 +27,8 @@ use std::alloc::Global;
 ///   looked for.
 /// - `RefusedIn` with the refusal that `FileView::read` answers for the input.
 /// - `Read` where the source failed, at the number of bytes read.
-/// - `Memory` where memory is refused for a hunk's row or for the bytes of an object file, and never
-///   once the input is read.
+/// - `Memory` where memory is refused for a hunk's row, which the bytes read last complete, or for
+///   the bytes of an object file, and never once the input is read.
 /// - `Write` where the writer failed: just the first `written` bytes of all that was ever put, the
 ///   report last, have gone out.
 ///
@@ -36,8 +40,10 @@ pub fn validate<R: Source, W: Sink>(
     w: &mut LongWriter<W>,
     file_bytes: u64,
 ) -> Result<u64, RunFault>
-    ensures { ReadsThenPuts W.outlet IsValidated
+    ensures puts { ReadsThenPuts W.outlet IsValidated
         (R.supply r.old) (R.supply r.new) file_bytes w.old w.new result }
+    ensures wants { IfErr result (λ fault. fault ≡ Memory
+        → WantedFor WantsMemory (R.supply r.old) (R.supply r.new)) }
 {
     let input = Incoming::read(alloc, r, file_bytes)?;
     input.report(w)

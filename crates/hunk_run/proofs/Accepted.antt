@@ -1,6 +1,6 @@
 -- A file is its own plain spelling, and what was listed or written is one.
-use Rattle.std.proofs.Common.{◌≡◌, ◌∙◌, ℕ, Bool, false, List, [], Option, Some, None, Result, Ok, Err, inl, inr, refl, subst, sym, append-nil, true, true≢false}
-use Rattle.std.specs.Prelude.{IfErr, IfSome, is_some}
+use Rattle.std.proofs.Common.{◌≡◌, ◌∙◌, ℕ, Bool, false, List, [], Option, Some, None, Result, Ok, Err, inl, inr, ap, refl, subst, sym, append-nil, true, true≢false}
+use Rattle.std.specs.Prelude.{IfErr, IfSome, if◌then◌else◌, is_some}
 use Rattle.std.specs.declared.io.Error.{Error}
 use Rattle.std.proofs.KnownBytes.{Consumes-whole}
 use Rattle.hunk_words.specs.Carriers.{Outlet, Supply, Writing}
@@ -8,21 +8,22 @@ use Rattle.hunk_files.specs.HunkFile.{AreFile}
 use Rattle.hunk_wide.specs.Plain.{plain}
 use Rattle.hunk_wide.proofs.Along.{plain_stays}
 use Rattle.hunk_wide.proofs.SpelledObjects.{object_stays}
-use Rattle.hunk_commands.specs.Faults.{IsWrite}
-use Rattle.hunk_commands.specs.Inputs.{ReadsWhole}
+use Rattle.hunk_commands.specs.Engine.{ReadsNoFile}
+use Rattle.hunk_commands.specs.Inputs.{ReadsInVain, ReadsWhole}
+use Rattle.hunk_commands.specs.Refusals.{RefusesBytes}
 use Rattle.hunk_commands.specs.Rewritten.{IsRewritten}
 use Rattle.hunk_commands.specs.Shown.{IsShown}
 use Rattle.hunk_commands.specs.Validated.{IsValidated}
 use Rattle.hunk_commands.specs.declared.fault.RunFault.{RunFault}
 use Rattle.hunk_commands.specs.declared.fault.RunFault.TheVariants.{HexText, Memory, Read, Refused, RefusedIn, Write}
 use Rattle.hunk_commands.specs.declared.rewriting.Rewritten.{Rewritten}
-use Rattle.hunk_run.specs.Asked.{AnswersListing, EndsAtOnce, ListsFirst, ListsFirstOf, ListsRead, TellsInput}
+use Rattle.hunk_run.specs.Asked.{AnswersListing, EndsAtOnce, ListsFirst, ListsFirstOf, ListsRead, StopsRewriting, TellsInput}
 use Rattle.hunk_run.specs.Inputs.{unread}
 use Rattle.hunk_run.specs.Orders.{AnswersRewriting, RewritesFirst, RewritesInput, RewritesTo}
-use Rattle.hunk_run.specs.Refusals.{IsOfFile}
+use Rattle.hunk_run.specs.Refusals.{IsOfFile, IsRead, StopsInput}
 use Rattle.hunk_run.specs.Runs.{IsListed, ListsSource}
 use Rattle.hunk_run.specs.Status.{TellsOutcome}
-use Rattle.hunk_run.specs.Stores.{Leaves, MadeFile}
+use Rattle.hunk_run.specs.Stores.{Holdings, Leaves, MadeFile, bytes_of_input}
 use Rattle.hunk_run.specs.Wide.{IsPlain, IsUnread}
 use Rattle.hunk_run.specs.declared.listing.Listing.{Listing}
 use Rattle.hunk_run.specs.declared.listing.Listing.TheVariants as listings
@@ -35,6 +36,15 @@ plain_file bytes (inr file) = subst (λ (xs : List ℕ). plain xs ≡ xs) (sym f
 pub plain_known : (known : Option (List ℕ)) → IfSome known AreFile → IsPlain known
 plain_known None is = tt
 plain_known (Some bytes) is = plain_file bytes is
+
+-- what is known of a file that can be read again stays known once it was opened
+pub known_again : (holdings : Holdings) (opened later : Bool) (made : Option MadeFile) (name : List ℕ) → holdings.again name ≡ true →
+    bytes_of_input holdings later made (Some name) ≡ bytes_of_input holdings opened made (Some name)
+known_again holdings opened later (Some file) name again = refl
+known_again holdings false false None name again = refl
+known_again holdings true true None name again = refl
+known_again holdings false true None name again = ap (λ (b : Bool). if b then holdings.content name else None) again
+known_again holdings true false None name again = sym (ap (λ (b : Bool). if b then holdings.content name else None) again)
 
 -- what is known of it is what was left of its reader
 pub plain_left : (known left : Option (List ℕ)) → Leaves known left → IsPlain left → IsPlain known
@@ -55,10 +65,10 @@ pub rewritten_file : (strip : Bool) (done : Rewritten) (bytes written : List ℕ
 rewritten_file strip done bytes written (inl (file, sizes, is)) = inl file
 rewritten_file strip done bytes written (inr (file, sizes, is)) = inr file
 
-listed_file : (listing : Listing) (bytes written : List ℕ) → IsListed listing bytes written → AreFile bytes
-listed_file listings.Show bytes written is = shown_file bytes written is
-listed_file listings.Validate bytes written is = validated_file 0 bytes written is
-listed_file (listings.Relocate base budget) bytes written is = inl (record { value = is.file; is_load_file = is.is_listing.is_file; rest = is.rest; split = is.split })
+listed_file : (status : ℕ) (listing : Listing) (bytes written : List ℕ) → IsListed status listing bytes written → AreFile bytes
+listed_file status listings.Show bytes written (done, is) = shown_file bytes written is
+listed_file status listings.Validate bytes written (count, told, is) = validated_file count bytes written is
+listed_file status (listings.Relocate base budget) bytes written (done, is) = inl (record { value = is.file; is_load_file = is.is_listing.is_file; rest = is.rest; split = is.split })
 
 -- ---- of a source
 
@@ -68,12 +78,12 @@ read_file before after most input read is = Consumes-whole before.left after.lef
 
 -- ---- what is listed of a file is listed of its plain spelling
 
-listed_plain : (listing : Listing) (bytes written : List ℕ) → IsListed listing bytes written → IsListed listing (plain bytes) written
-listed_plain listing bytes written is = subst (λ (xs : List ℕ). IsListed listing xs written) (sym (plain_file bytes (listed_file listing bytes written is))) is
+listed_plain : (status : ℕ) (listing : Listing) (bytes written : List ℕ) → IsListed status listing bytes written → IsListed status listing (plain bytes) written
+listed_plain status listing bytes written is = subst (λ (xs : List ℕ). IsListed status listing xs written) (sym (plain_file bytes (listed_file status listing bytes written is))) is
 
-pub lists_plainly : {W : Type 0} (outlet : W → Outlet) (listing : Listing) (left : Option (List ℕ)) (failed : Bool) (after : Supply) (old new : Writing W) →
-    ListsSource outlet false listing (record { left = left; failed = failed }) after old new → ListsRead outlet false true listing left old new
-lists_plainly outlet listing None failed after old new lists = (
+pub lists_plainly : {W : Type 0} (outlet : W → Outlet) (status : ℕ) (listing : Listing) (left : Option (List ℕ)) (failed : Bool) (after : Supply) (old new : Writing W) →
+    ListsSource outlet false status listing (record { left = left; failed = failed }) after old new → ListsRead outlet false true status listing left old new
+lists_plainly outlet status listing None failed after old new lists = (
   unread None,
   record {
     given = lists.given;
@@ -81,12 +91,12 @@ lists_plainly outlet listing None failed after old new lists = (
     at_end = tt;
     input = lists.input;
     is_input = lists.is_input;
-    lists = (lists.text, listed_plain listing lists.input lists.text lists.is_listed, lists.takes);
+    lists = (lists.text, listed_plain status listing lists.input lists.text lists.is_listed, lists.takes);
   },
 )
-lists_plainly outlet listing (Some bytes) failed after old new lists =
-    let own = subst (λ (xs : List ℕ). IsListed listing xs lists.text) lists.is_input lists.is_listed in
-    let all = listed_slice listing bytes lists.given lists.text after.left after.failed lists.consumed lists.stops own in (
+lists_plainly outlet status listing (Some bytes) failed after old new lists =
+    let own = subst (λ (xs : List ℕ). IsListed status listing xs lists.text) lists.is_input lists.is_listed in
+    let all = listed_slice status listing bytes lists.given lists.text after.left after.failed lists.consumed lists.stops own in (
       unread (Some []),
       record {
         given = bytes;
@@ -94,7 +104,7 @@ lists_plainly outlet listing (Some bytes) failed after old new lists =
         at_end = refl;
         input = bytes;
         is_input = refl;
-        lists = (lists.text, listed_plain listing bytes lists.text all, lists.takes);
+        lists = (lists.text, listed_plain status listing bytes lists.text all, lists.takes);
       },
     )
 
@@ -102,63 +112,68 @@ lists_plainly outlet listing (Some bytes) failed after old new lists =
 
 module _ {W : Type 0} (outlet : W → Outlet) (listing : Listing) (known : Option (List ℕ)) (most : ℕ) (old new : Writing W) where
   -- it is an answer for the plain spelling
-  answers_wide : (answer : Result ℕ RunFault) → ListsFirstOf outlet listing known old new answer → AnswersListing outlet false true listing known most old new answer None
-  answers_wide (Ok status) (left, leaves, first) = record {
-    outcome = first.outcome;
-    done = λ zero. (left, leaves, first.done zero);
+  answers_wide : (answer : Result ℕ RunFault) (cause : Option Error) → ListsFirstOf outlet listing known most old new answer cause →
+      AnswersListing outlet false true listing known most old new answer cause
+  answers_wide (Ok status) cause first = record {
+    outcome = first.lists.outcome;
+    done = (first.left, first.leaves, first.lists.done);
     stops = tt;
-    reads = (λ some. absurd (true≢false (sym some)), λ read. absurd read);
+    reads = first.reads;
     succeeds = λ has none works. tt;
   }
-  answers_wide (Err fault) (left, leaves, first) = ended first.ends
+  answers_wide (Err fault) cause first = ended first.lists.ends
     where
-      ended : EndsAtOnce fault → AnswersListing outlet false true listing known most old new (Err fault) None
+      ended : EndsAtOnce fault → AnswersListing outlet false true listing known most old new (Err fault) cause
       ended (inl write) = record {
-        outcome = first.outcome;
+        outcome = first.lists.outcome;
         done = tt;
         stops = λ other. absurd (other write);
-        reads = (λ some. absurd (true≢false (sym some)), λ read. absurd (subst IsWrite read.1 write));
-        succeeds = λ has none works. absurd (true≢false (sym (first.outcome.fails.broken write) ∙ works));
+        reads = first.reads;
+        succeeds = λ has none works. absurd (true≢false (sym (first.lists.outcome.fails.broken write) ∙ works));
       }
-      ended (inr memory) = record {
-        outcome = first.outcome;
+      ended (inr (inl memory)) = record {
+        outcome = first.lists.outcome;
         done = tt;
         stops = λ other. inl memory;
-        reads = (λ some. absurd (true≢false (sym some)), λ read. absurd (cc (sym memory ∙ read.1)));
+        reads = first.reads;
         succeeds = λ has none works. memory;
       }
+      ended (inr (inr read)) = record {
+        outcome = first.lists.outcome;
+        done = tt;
+        stops = λ other. elim (first.lists.stops read) [
+          | inl first_byte ↦ inr (inl first_byte)
+          | inr in_vain ↦ inr (inr (first.left, first.leaves, (in_vain.0, inl in_vain.1)))
+        ];
+        reads = first.reads;
+        succeeds = λ has none works. absurd (true≢false (sym (first.reads.1 read) ∙ ap is_some none));
+      }
 
-  pub answers_first : (hex wide : Bool) (answer : Result ℕ RunFault) → hex ≡ false → wide ≡ true → ListsFirstOf outlet listing known old new answer →
-      AnswersListing outlet hex wide listing known most old new answer None
-  answers_first true wide answer plain flag first = absurd (true≢false plain)
-  answers_first false false answer plain flag first = absurd (true≢false (sym flag))
-  answers_first false true answer plain flag first = answers_wide answer first
+  pub answers_first : (hex wide : Bool) (answer : Result ℕ RunFault) (cause : Option Error) → hex ≡ false → wide ≡ true →
+      ListsFirstOf outlet listing known most old new answer cause → AnswersListing outlet hex wide listing known most old new answer cause
+  answers_first true wide answer cause plain flag first = absurd (true≢false plain)
+  answers_first false false answer cause plain flag first = absurd (true≢false (sym flag))
+  answers_first false true answer cause plain flag first = answers_wide answer cause first
 
   -- nothing is said of the spelling
-  pub says_first : (hex wide : Bool) (answer : Result ℕ RunFault) → ListsFirstOf outlet listing known old new answer → TellsInput known hex wide most answer None
-  says_first hex wide (Ok status) (left, leaves, first) = inr (refl, plain_left known left leaves first.is_plain)
-  says_first hex wide (Err fault) (left, leaves, first) = told first.ends
+  pub says_first : (hex wide : Bool) (answer : Result ℕ RunFault) (cause : Option Error) → ListsFirstOf outlet listing known most old new answer cause →
+      TellsInput known hex wide most answer None
+  says_first hex wide (Ok status) cause first = inr (refl, plain_left known first.left first.leaves first.lists.is_plain)
+  says_first hex wide (Err fault) cause first = told first.lists.ends
     where
       told : EndsAtOnce fault → TellsInput {T = ℕ} known hex wide most (Err fault) None
-      told (inl write) = inr (refl, plain_left known left leaves (first.is_plain write))
-      told (inr memory) = inl (λ flag. subst IsUnread (sym memory) tt)
-
-  -- where there was no memory
-  pub lists_nothing : (left : Option (List ℕ)) (fault : RunFault) → fault ≡ Memory → TellsOutcome outlet old new (Err fault) → ListsFirst outlet listing left old new (Err Memory)
-  lists_nothing left fault is outcome = record {
-    outcome = subst (λ (f : RunFault). TellsOutcome outlet old new (Err f)) is outcome;
-    done = tt;
-    ends = inr refl;
-    is_plain = λ write. absurd write;
-  }
+      told (inl write) = inr (refl, plain_left known first.left first.leaves (first.lists.is_plain write))
+      told (inr (inl memory)) = inl (λ flag. subst IsUnread (sym memory) tt)
+      told (inr (inr read)) = inl (λ flag. subst IsUnread (sym read.1) tt)
 
   -- after a fault of writing
   pub lists_written : (left : Option (List ℕ)) (fault : RunFault) (written : ℕ) → fault ≡ Write written → TellsOutcome outlet old new (Err fault) → IsOfFile {T = ℕ} left (Err fault) →
-      ListsFirst outlet listing left old new (Err (Write written))
+      ListsFirst outlet listing left most old new (Err (Write written))
   lists_written left fault written is outcome of_file = record {
     outcome = subst (λ (f : RunFault). TellsOutcome outlet old new (Err f)) is outcome;
     done = tt;
     ends = inl tt;
+    stops = λ read. let (place, is_read) = read in absurd (cc is_read);
     is_plain = λ write. plain_known left (subst (λ (f : RunFault). IsOfFile {T = ℕ} left (Err f)) is of_file);
   }
 
@@ -209,6 +224,17 @@ module _ (first made : Option MadeFile) (known : Option (List ℕ)) (output : Li
   plain_read Holds file (left, leaves, (after, reads)) =
       plain_left known left leaves (plain_known left (read_file (unread left) after most reads.input reads.read (file reads.input reads.holds)))
 
+  -- a file of which reading fails was not read, whatever is asked of it
+  unread_file : (fault : RunFault) (before after : Supply) → IsRead fault → ReadsNoFile before after most fault → ReadsInVain fault before after most
+  unread_file fault before after read (inl in_vain) = in_vain
+  unread_file fault before after (place, is) (inr input) = absurd (subst (λ (f : RunFault). RefusesBytes f input.input) is input.holds)
+
+  stops_unread : (fault : RunFault) → IsRead fault → StopsInput known (λ before after. StopsRewriting false before after most) fault →
+      StopsInput known (λ before after. StopsRewriting true before after most) fault
+  stops_unread fault read (inl memory) = inl memory
+  stops_unread fault read (inr (inl first_byte)) = inr (inl first_byte)
+  stops_unread fault read (inr (inr (left, leaves, (after, stops)))) = inr (inr (left, leaves, (after, inl (unread_file fault (unread left) after read stops))))
+
   -- an answer for the file as it is that ends the run is one for the plain spelling
   pub answers_plain : (result : Result Rewritten RunFault) (cause : Option Error) → IfErr result EndsAtOnce → AnswersRewriting first made known output strip false most result cause →
       AnswersRewriting first made known output strip true most result cause
@@ -228,13 +254,21 @@ module _ (first made : Option MadeFile) (known : Option (List ℕ)) (output : Li
     of_system = answers.of_system;
     succeeds = λ has none. absurd (true≢false (sym (subst (λ (c : Option Error). is_some c ≡ true) none (answers.of_system.1 (inr write)))));
   }
-  answers_plain (Err fault) cause (inr memory) answers = record {
+  answers_plain (Err fault) cause (inr (inl memory)) answers = record {
     rewrites = tt;
     write = λ written is. absurd (cc (sym memory ∙ is));
     untouched = answers.untouched;
     stops = λ other. inl memory;
     of_system = answers.of_system;
     succeeds = λ has none. memory;
+  }
+  answers_plain (Err fault) cause (inr (inr read)) answers = record {
+    rewrites = tt;
+    write = λ written is. absurd (cc (sym read.1 ∙ is));
+    untouched = answers.untouched;
+    stops = λ other. stops_unread fault read (answers.stops other);
+    of_system = answers.of_system;
+    succeeds = λ has none. absurd (true≢false (sym (subst (λ (c : Option Error). is_some c ≡ true) none (answers.of_system.1 (inl read)))));
   }
 
   pub says_plain : (result : Result Rewritten RunFault) (cause : Option Error) → IfErr result EndsAtOnce → AnswersRewriting first made known output strip false most result cause →
@@ -248,13 +282,15 @@ module _ (first made : Option MadeFile) (known : Option (List ℕ)) (output : Li
       )
   says_plain (Err Memory) cause ends answers = inl (λ flag. tt)
   says_plain (Err HexText) cause (inl write) answers = absurd write
-  says_plain (Err HexText) cause (inr memory) answers = absurd (cc memory)
-  says_plain (Err (Read place)) cause (inl write) answers = absurd write
-  says_plain (Err (Read place)) cause (inr memory) answers = absurd (cc memory)
+  says_plain (Err HexText) cause (inr (inl memory)) answers = absurd (cc memory)
+  says_plain (Err HexText) cause (inr (inr read)) answers = absurd (cc read.1)
+  says_plain (Err (Read place)) cause ends answers = inl (λ flag. tt)
   says_plain (Err (Refused refusal)) cause (inl write) answers = absurd write
-  says_plain (Err (Refused refusal)) cause (inr memory) answers = absurd (cc memory)
+  says_plain (Err (Refused refusal)) cause (inr (inl memory)) answers = absurd (cc memory)
+  says_plain (Err (Refused refusal)) cause (inr (inr read)) answers = absurd (cc read.1)
   says_plain (Err (RefusedIn refusal)) cause (inl write) answers = absurd write
-  says_plain (Err (RefusedIn refusal)) cause (inr memory) answers = absurd (cc memory)
+  says_plain (Err (RefusedIn refusal)) cause (inr (inl memory)) answers = absurd (cc memory)
+  says_plain (Err (RefusedIn refusal)) cause (inr (inr read)) answers = absurd (cc read.1)
 
   -- with `--wide`, where the answer is told as it is
   pub answers_asked : (wide : Bool) (own result : Result Rewritten RunFault) (cause : Option Error) → wide ≡ true → own ≡ result → IfErr result EndsAtOnce →

@@ -1,4 +1,5 @@
 mod Accepted
+mod Failing
 mod Noting
 mod Plainly
 mod Stopping

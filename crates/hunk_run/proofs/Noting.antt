@@ -18,7 +18,7 @@ use Rattle.hunk_run.specs.declared.note.Ended.{Ended}
 use Rattle.hunk_run.specs.declared.note.Note.{Note}
 use Rattle.hunk_run.specs.declared.note.Note.TheVariants.{Fault, LeftOut, Line, NotText, Output}
 use Rattle.hunk_run.specs.Notes.{EndsByFault, EndsListing, EndsOrFails, EndsRewriting, NamesFiles, Notes, fault_ended, input_of, is_wide, output_of, left_out_note, refusal_ended, refusal_text, rewritten_ended}
-use Rattle.hunk_run.specs.Orders.{RewritesInput, RewritesTo, SaysLeftOut}
+use Rattle.hunk_run.specs.Orders.{IsOrderDone, RewritesInput, RewritesTo, SaysLeftOut}
 use Rattle.hunk_run.specs.Stores.{MadeFile}
 use Rattle.hunk_run.specs.Runs.{PrintsNoHelp}
 use Rattle.hunk_run.specs.Status.{PrintsOrFails, TellsFindings, TellsOutcome, TellsStatus, with_newline}
@@ -134,6 +134,12 @@ module _ {W : Type 0} (outlet : W → Outlet) (old new : Writing W) where
       noted_ended Holds _ (refusal_ended words.Memory) result
       (subst (λ (f : OrderFault). EndsOrFails outlet old new (refusal_text f) (refusal_ended f) result) (memory_where wanted order fault refuses some) ends) memory failed
 
+  -- of a fault something is said
+  pub said_of_fault : (fault : RunFault) (name : Option (List ℕ)) (cause : Option Error) (untouched : Option (List ℕ)) (wide : Bool) (result : Ended) →
+      EndsByFault outlet old new fault name cause untouched wide result → result.note ≡ None → ⊥
+  said_of_fault fault name cause untouched wide result ends quiet =
+      noted_ended (λ (note : Option Note). note ≡ None → ⊥) _ (fault_ended fault name cause untouched wide) result ends (λ none. cc none) (λ none. cc none) quiet
+
   -- no help is printed
   prints_line : (fault : OrderFault) (result : Ended) → IsLine fault → EndsOrFails outlet old new (refusal_text fault) (refusal_ended fault) result →
       PrintsOrFails outlet old new (with_newline refused_line) 2 result.status
@@ -195,6 +201,18 @@ module _ {W : Type 0} (outlet : W → Outlet) (old new : Writing W) where
   says_left_out first made most known strip wide (Err fault) input output cause result rewrites ends none =
       let (name, untouched, by, names) = rewriting_fault strip wide fault input output cause result ends in absurd (not_done fault name cause untouched wide result by none)
 
+  -- where nothing is said it is, too
+  pub found_rewriting : (first made : Option MadeFile) (most : ℕ) (known : Option (List ℕ)) (strip wide : Bool) (answer : Result Rewritten RunFault) (input output : List ℕ)
+      (cause : Option Error) (result : Ended) → IfOk answer (λ done. RewritesInput known (RewritesTo first made output strip wide done) most) →
+      EndsRewriting outlet old new answer input output cause wide result → result.note ≡ None →
+      IsOrderDone outlet old new first made most known result.status (orders.Rewrite strip wide input output)
+  found_rewriting first made most known strip wide (Ok done) input output cause result rewrites (inl (is, takes)) quiet =
+      (ap (λ (e : Ended). e.status) is, record { done = done; rewrites = rewrites; takes = takes })
+  found_rewriting first made most known strip wide (Ok done) input output cause result rewrites (inr (is, broken)) quiet =
+      absurd (cc (sym (ap (λ (e : Ended). e.note) is) ∙ quiet))
+  found_rewriting first made most known strip wide (Err fault) input output cause result rewrites ends quiet =
+      let (name, untouched, by, names) = rewriting_fault strip wide fault input output cause result ends in absurd (said_of_fault fault name cause untouched wide result by quiet)
+
 -- a run that was to list an input; the output is mid after what was listed
 module _ {W : Type 0} (outlet : W → Outlet) (old mid new : Writing W) (name : Option (List ℕ)) (cause : Option Error) (wide : Bool) (result : Ended) where
   notes_since : (fault : RunFault) → mid ≡ old → EndsByFault outlet mid new fault name cause None wide result → Notes outlet old new result.status result.note
@@ -226,11 +244,23 @@ module _ {W : Type 0} (outlet : W → Outlet) (old mid new : Writing W) (name : 
   listing_done (Err (Refused refusal)) ends none = absurd (not_done outlet mid new (Refused refusal) name cause None wide result ends none)
   listing_done (Err (RefusedIn refusal)) ends none = absurd (not_done outlet mid new (RefusedIn refusal) name cause None wide result ends none)
 
-  pub done_where : (Done : Writing W → Type 0) (answer : Result ℕ RunFault) → IfOk answer (λ status. status ≡ 0 → Done mid) →
-      EndsListing outlet mid new answer name cause wide result → result.status ≡ 0 → Done new
+  pub done_where : (Done : ℕ → Writing W → Type 0) (answer : Result ℕ RunFault) → IfOk answer (λ status. Done status mid) →
+      EndsListing outlet mid new answer name cause wide result → result.status ≡ 0 → Done 0 new
   done_where Done answer is ends none =
       let (done, same, quiet) = listing_done answer ends none in
-      subst Done (sym same) (subst (λ (a : Result ℕ RunFault). IfOk a (λ status. status ≡ 0 → Done mid)) done is refl)
+      subst (Done 0) (sym same) (subst (λ (a : Result ℕ RunFault). IfOk a (λ status. Done status mid)) done is)
+
+  -- where nothing is said no more was printed
+  pub found_where : (Done : ℕ → Writing W → Type 0) (answer : Result ℕ RunFault) → IfOk answer (λ status. Done status mid) →
+      EndsListing outlet mid new answer name cause wide result → result.note ≡ None → Done result.status new
+  found_where Done (Ok status) done (is, same) quiet =
+      subst (λ (e : Ended). Done e.status new) (sym is) (subst (Done status) (sym same) done)
+  found_where Done (Err (Write written)) done (is, same) quiet = absurd (cc (sym (ap (λ (e : Ended). e.note) is) ∙ quiet))
+  found_where Done (Err Memory) done ends quiet = absurd (said_of_fault outlet mid new Memory name cause None wide result ends quiet)
+  found_where Done (Err HexText) done ends quiet = absurd (said_of_fault outlet mid new HexText name cause None wide result ends quiet)
+  found_where Done (Err (Read place)) done ends quiet = absurd (said_of_fault outlet mid new (Read place) name cause None wide result ends quiet)
+  found_where Done (Err (Refused refusal)) done ends quiet = absurd (said_of_fault outlet mid new (Refused refusal) name cause None wide result ends quiet)
+  found_where Done (Err (RefusedIn refusal)) done ends quiet = absurd (said_of_fault outlet mid new (RefusedIn refusal) name cause None wide result ends quiet)
 
   -- a fault is one of the input
   pub names_listing : (order : Order) (answer : Result ℕ RunFault) → EndsListing outlet mid new answer name cause wide result → name ≡ input_of order →

@@ -33,11 +33,11 @@ same_input true before after most known input (text, left, few, spells) read = s
 same_input false before after most known input (left, few) read =
     subst (λ (o : Option (List ℕ)). IfSome o (λ xs. xs ≡ input)) left (Consumes-whole before.left after.left input (λ xs. xs ≡ input) read.given read.at_end refl)
 
-lists_read : {W : Type 0} (outlet : W → Outlet) (hex : Bool) (listing : Listing) (before after : Supply) (most : ℕ) (old new : Writing W) (input : List ℕ) →
-    ReadsBytes hex before after most input → ListsBytes outlet listing (plain input) old new → ListsWide outlet hex listing before after old new
-lists_read outlet true listing before after most old new input read lists =
+lists_read : {W : Type 0} (outlet : W → Outlet) (hex : Bool) (status : ℕ) (listing : Listing) (before after : Supply) (most : ℕ) (old new : Writing W) (input : List ℕ) →
+    ReadsBytes hex before after most input → ListsBytes outlet status listing (plain input) old new → ListsWide outlet hex status listing before after old new
+lists_read outlet true status listing before after most old new input read lists =
     record { given = read.input; consumed = read.read.given; at_end = read.read.at_end; input = input; is_input = read.holds; lists = lists }
-lists_read outlet false listing before after most old new input read lists =
+lists_read outlet false status listing before after most old new input read lists =
     record { given = input; consumed = read.given; at_end = read.at_end; input = input; is_input = refl; lists = lists }
 
 module _ {T W : Type 0} (outlet : W → Outlet) (before after : Supply) (most : ℕ) (old new : Writing W) (input : List ℕ) (list : T) (spelling : Spelling)
@@ -46,7 +46,7 @@ module _ {T W : Type 0} (outlet : W → Outlet) (before after : Supply) (most : 
       ListsPlain outlet listing input most old new result → AsksListing outlet hex true listing before after most old new result (Some spelling)
   lists_wide hex listing result read lists = record {
     outcome = lists.outcome;
-    done = IfOk-weaker result _ _ (λ status done zero. lists_read outlet hex listing before after most old new input read (done zero)) lists.done;
+    done = IfOk-weaker result _ _ (λ status done. lists_read outlet hex status listing before after most old new input read done) lists.done;
     succeeds = λ has works writes.
         (let same = same_input hex before after most has.input input has.has read in
         lists.succeeds (subst (λ (xs : List ℕ). length (plain xs) < most) same has.few) (subst (λ (xs : List ℕ). AreListed listing (plain xs) most) same has.listed) writes);

@@ -1,5 +1,5 @@
 -- What a run lists or rewrites, by what an engine function has written.
-use Rattle.std.proofs.Common.{◌≡◌, ◌++◌, ◌∙◌, ℕ, Bool, true, false, List, [], Option, Some, None, length, take, refl, ap, sym, subst, arith, append-nil, append_assoc}
+use Rattle.std.proofs.Common.{◌≡◌, ◌≢◌, ◌++◌, ◌∙◌, ℕ, zero, suc, Bool, true, false, List, [], Option, Some, None, length, take, refl, ap, sym, subst, arith, append-nil, append_assoc}
 use Rattle.std.specs.Prelude.{Ok}
 use Rattle.std.specs.Io.KnownBytes.{Consumes, IsAtEnd}
 use Rattle.std.proofs.lemmas.List.{take_all}
@@ -20,18 +20,23 @@ use Rattle.hunk_run.specs.declared.listing.Listing.TheVariants as listings
 use Rattle.hunk_commands.specs.HexText.{SpellsHex}
 use Rattle.hunk_commands.specs.Inputs.{ReadsInput}
 use Rattle.hunk_commands.specs.Relocating.{IsListingOf, Relocates}
-use Rattle.hunk_run.specs.Runs.{IsListed, ListsSource, StopsReading}
+use Rattle.hunk_run.specs.Runs.{IsListed, ListsSource, StopsReading, found_status}
+
+-- a report that finds something has its own status
+pub some_found : (count : ℕ) → count ≢ 0 → 1 ≡ found_status count
+some_found zero some = absurd (some refl)
+some_found (suc more) some = refl
 
 -- a text that was put whole
 pub takes_whole : {W : Type 0} (outlet : W → Outlet) (old new : Writing W) (Is : List ℕ → Type 0) (all : PutsAll outlet Is old new) → Takes outlet old new all.0.text
 takes_whole outlet old new Is all = subst (λ (xs : List ℕ). Takes outlet old new xs) (take_all all.0.puts.count all.0.text (omega (arith, all.0.puts.rose, all.1))) all.0.puts.gone
 
 -- an input that was read to its end
-pub lists_source : {W : Type 0} (outlet : W → Outlet) (old new : Writing W) (listing : Listing) (Is : List ℕ → List ℕ → Type 0)
-    (before after : Supply) (most : ℕ) → ((input text : List ℕ) → Is input text → IsListed listing input text) →
+pub lists_source : {W : Type 0} (outlet : W → Outlet) (old new : Writing W) (status : ℕ) (listing : Listing) (Is : List ℕ → List ℕ → Type 0)
+    (before after : Supply) (most : ℕ) → ((input text : List ℕ) → Is input text → IsListed status listing input text) →
     ((given : List ℕ) → IsAtEnd after.left → StopsReading false listing given after) →
-    ReadsInput (λ input. PutsAll outlet (Is input) old new) before after most → ListsSource outlet false listing before after old new
-lists_source outlet old new listing Is before after most listed at_end all = record {
+    ReadsInput (λ input. PutsAll outlet (Is input) old new) before after most → ListsSource outlet false status listing before after old new
+lists_source outlet old new status listing Is before after most listed at_end all = record {
   given = all.input;
   consumed = all.read.given;
   stops = at_end all.input all.read.at_end;
@@ -44,7 +49,7 @@ lists_source outlet old new listing Is before after most listed at_end all = rec
 
 -- a load file that was loaded as it came
 pub lists_loaded : {W T : Type 0} (outlet : W → Outlet) (old new : Writing W) (base : ℕ) (limits : Limits) (before after : Supply) (value : T) →
-    Relocates {T = T} outlet base limits before after old new (Ok value) → ListsSource outlet false (listings.Relocate base limits.budget) before after old new
+    Relocates {T = T} outlet base limits before after old new (Ok value) → ListsSource outlet false 0 (listings.Relocate base limits.budget) before after old new
 lists_loaded outlet old new base limits before after value all =
     let is = all.done.0.is_text in
     record {
@@ -54,44 +59,46 @@ lists_loaded outlet old new base limits before after value all =
       input = all.given;
       is_input = refl;
       text = all.done.0.text;
-      is_listed = record { file = is.file; is_listing = is.is_listing; rest = []; split = is.given_is ∙ sym (append-nil (bytes_of (text is.file))) };
+      is_listed = (refl, record { file = is.file; is_listing = is.is_listing; rest = []; split = is.given_is ∙ sym (append-nil (bytes_of (text is.file))) });
       takes = takes_whole outlet old new (IsListingOf base limits.budget all.given) all.done;
     }
 
 -- what is printed of a front is printed of the bytes, where the reading stops after it
-listed_front : (listing : Listing) (bytes given written rest : List ℕ) (failed : Bool) → bytes ≡ given ++ rest → StopsReading false listing given (record { left = Some rest; failed = failed }) →
-    IsListed listing given written → IsListed listing bytes written
-listed_front listings.Show bytes given written rest failed split stops is =
-    subst (λ (xs : List ℕ). IsListed listings.Show xs written) (sym (split ∙ ap (λ (xs : List ℕ). given ++ xs) stops ∙ append-nil given)) is
-listed_front listings.Validate bytes given written rest failed split stops is =
-    subst (λ (xs : List ℕ). IsListed listings.Validate xs written) (sym (split ∙ ap (λ (xs : List ℕ). given ++ xs) stops ∙ append-nil given)) is
-listed_front (listings.Relocate base budget) bytes given written rest failed split stops is =
-    let file = bytes_of (text is.file) in
-    record {
-      file = is.file;
-      is_listing = is.is_listing;
-      rest = is.rest ++ rest;
-      split = split ∙ ap (λ (xs : List ℕ). xs ++ rest) is.split ∙ append_assoc file is.rest rest;
-    }
+listed_front : (status : ℕ) (listing : Listing) (bytes given written rest : List ℕ) (failed : Bool) → bytes ≡ given ++ rest →
+    StopsReading false listing given (record { left = Some rest; failed = failed }) → IsListed status listing given written → IsListed status listing bytes written
+listed_front status listings.Show bytes given written rest failed split stops is =
+    subst (λ (xs : List ℕ). IsListed status listings.Show xs written) (sym (split ∙ ap (λ (xs : List ℕ). given ++ xs) stops ∙ append-nil given)) is
+listed_front status listings.Validate bytes given written rest failed split stops is =
+    subst (λ (xs : List ℕ). IsListed status listings.Validate xs written) (sym (split ∙ ap (λ (xs : List ℕ). given ++ xs) stops ∙ append-nil given)) is
+listed_front status (listings.Relocate base budget) bytes given written rest failed split stops (done, is) =
+    let file = bytes_of (text is.file) in (
+      done,
+      record {
+        file = is.file;
+        is_listing = is.is_listing;
+        rest = is.rest ++ rest;
+        split = split ∙ ap (λ (xs : List ℕ). xs ++ rest) is.split ∙ append_assoc file is.rest rest;
+      },
+    )
 
-pub listed_slice : (listing : Listing) (bytes given written : List ℕ) (left : Option (List ℕ)) (failed : Bool) → Consumes (Some bytes) left given →
-    StopsReading false listing given (record { left = left; failed = failed }) → IsListed listing given written → IsListed listing bytes written
-listed_slice listing bytes given written (Some rest) failed consumed stops is = listed_front listing bytes given written rest failed consumed stops is
-listed_slice listing bytes given written None failed consumed stops is = absurd consumed
+pub listed_slice : (status : ℕ) (listing : Listing) (bytes given written : List ℕ) (left : Option (List ℕ)) (failed : Bool) → Consumes (Some bytes) left given →
+    StopsReading false listing given (record { left = left; failed = failed }) → IsListed status listing given written → IsListed status listing bytes written
+listed_slice status listing bytes given written (Some rest) failed consumed stops is = listed_front status listing bytes given written rest failed consumed stops is
+listed_slice status listing bytes given written None failed consumed stops is = absurd consumed
 
 -- the text of a source spells the bytes of which this is printed
-pub lists_text : {W : Type 0} (outlet : W → Outlet) (old new : Writing W) (listing : Listing) (before after cut rest : Supply) (given bytes : List ℕ) →
-    Consumes before.left after.left given → IsAtEnd after.left → SpellsHex given bytes → cut.left ≡ Some bytes → ListsSource outlet false listing cut rest old new →
-    ListsSource outlet true listing before after old new
-lists_text outlet old new listing before after cut rest given bytes consumed at_end spells known lists = record {
+pub lists_text : {W : Type 0} (outlet : W → Outlet) (old new : Writing W) (status : ℕ) (listing : Listing) (before after cut rest : Supply) (given bytes : List ℕ) →
+    Consumes before.left after.left given → IsAtEnd after.left → SpellsHex given bytes → cut.left ≡ Some bytes → ListsSource outlet false status listing cut rest old new →
+    ListsSource outlet true status listing before after old new
+lists_text outlet old new status listing before after cut rest given bytes consumed at_end spells known lists = record {
   given = given;
   consumed = consumed;
   stops = at_end;
   input = bytes;
   is_input = spells;
   text = lists.text;
-  is_listed = listed_slice listing bytes lists.given lists.text rest.left rest.failed (subst (λ (o : Option (List ℕ)). Consumes o rest.left lists.given) known lists.consumed) lists.stops
-      (subst (λ (xs : List ℕ). IsListed listing xs lists.text) lists.is_input lists.is_listed);
+  is_listed = listed_slice status listing bytes lists.given lists.text rest.left rest.failed (subst (λ (o : Option (List ℕ)). Consumes o rest.left lists.given) known lists.consumed) lists.stops
+      (subst (λ (xs : List ℕ). IsListed status listing xs lists.text) lists.is_input lists.is_listed);
   takes = lists.takes;
 }
 

@@ -5,11 +5,11 @@ use Rattle.hunk_words.specs.Carriers.{Outlet, Supply, Writing, saturated}
 use Rattle.hunk_wide.specs.declared.spelling.Spelling.{Spelling}
 use Rattle.hunk_commands.specs.Engine.{IsTextOfSome, PutsAll, PutsFirst, ReadsNoFile, StopsAtWrite}
 use Rattle.hunk_commands.specs.Faults.{IsWrite}
-use Rattle.hunk_commands.specs.Inputs.{HasFile, ReadsInput, TellsReading}
+use Rattle.hunk_commands.specs.Inputs.{HasFile, ReadsInVain, ReadsInput, TellsReading}
 use Rattle.hunk_commands.specs.Output.{StopsOutput}
 use Rattle.hunk_commands.specs.Rewritten.{IsRewritten}
 use Rattle.hunk_commands.specs.declared.fault.RunFault.{RunFault}
-use Rattle.hunk_commands.specs.declared.fault.RunFault.TheVariants.{Memory}
+use Rattle.hunk_commands.specs.declared.fault.RunFault.TheVariants.{Memory, Read}
 use Rattle.hunk_commands.specs.declared.rewriting.Rewritten.{Rewritten}
 use Rattle.hunk_run.specs.Inputs.{HasInput, unread}
 use Rattle.hunk_run.specs.Refusals.{FromInput, IsRead, StopsInput, StopsSource}
@@ -22,18 +22,18 @@ use Rattle.hunk_run.specs.declared.listing.Listing.TheVariants as listings
 
 -- ---- a listing
 
--- the output has taken what is printed of the input, or of its plain spelling
-abbrev pub ListsAsked : {W : Type 0} → (W → Outlet) → Bool → Bool → Listing → Supply → Supply → Writing W → Writing W → Type 0
-ListsAsked outlet hex false listing before after old new = ListsSource outlet hex listing before after old new
-ListsAsked outlet hex true listing before after old new = ListsWide outlet hex listing before after old new
+-- the output has taken what is printed, with this status, of the input, or of its plain spelling
+abbrev pub ListsAsked : {W : Type 0} → (W → Outlet) → Bool → Bool → ℕ → Listing → Supply → Supply → Writing W → Writing W → Type 0
+ListsAsked outlet hex false status listing before after old new = ListsSource outlet hex status listing before after old new
+ListsAsked outlet hex true status listing before after old new = ListsWide outlet hex status listing before after old new
 
 -- the same of the input that a reader gave, which had these bytes left
-abbrev pub ListsRead : {W : Type 0} → (W → Outlet) → Bool → Bool → Listing → Option (List ℕ) → Writing W → Writing W → Type 0
-ListsRead outlet hex wide listing left old new = (after : Supply) × ListsAsked outlet hex wide listing (unread left) after old new
+abbrev pub ListsRead : {W : Type 0} → (W → Outlet) → Bool → Bool → ℕ → Listing → Option (List ℕ) → Writing W → Writing W → Type 0
+ListsRead outlet hex wide status listing left old new = (after : Supply) × ListsAsked outlet hex wide status listing (unread left) after old new
 
 -- the same of an input of which these bytes are known
-abbrev pub ListsInput : {W : Type 0} → (W → Outlet) → Bool → Bool → Listing → Option (List ℕ) → Writing W → Writing W → Type 0
-ListsInput outlet hex wide listing known old new = (left : Option (List ℕ)) × Leaves known left × ListsRead outlet hex wide listing left old new
+abbrev pub ListsInput : {W : Type 0} → (W → Outlet) → Bool → Bool → ℕ → Listing → Option (List ℕ) → Writing W → Writing W → Type 0
+ListsInput outlet hex wide status listing known old new = (left : Option (List ℕ)) × Leaves known left × ListsRead outlet hex wide status listing left old new
 
 -- why nothing is printed
 abbrev pub StopsAsked : Bool → Bool → Listing → Supply → Supply → ℕ → RunFault → Type 0
@@ -58,7 +58,7 @@ TellsSpelling From hex wide most result (Some spelling) =
 pub record AsksListing {W : Type 0} (outlet : W → Outlet) (hex wide : Bool) (listing : Listing) (before after : Supply) (most : ℕ) (old new : Writing W)
     (result : Result ℕ RunFault) (spelling : Option Spelling) : Type 0 where
   pub outcome : TellsOutcome outlet old new result
-  pub done : IfOk result (λ status. status ≡ 0 → ListsAsked outlet hex wide listing before after old new)
+  pub done : IfOk result (λ status. ListsAsked outlet hex wide status listing before after old new)
   -- with such an input only memory can run out, where nothing has failed
   pub succeeds : HasAsked hex wide listing before most → after.failed ≡ false → (outlet new.sink).failed ≡ false → IfErr result (λ fault. fault ≡ Memory)
   pub tells_read : TellsReading before after result
@@ -71,7 +71,7 @@ pub record AsksListing {W : Type 0} (outlet : W → Outlet) (hex wide : Bool) (l
 pub record AnswersListing {W : Type 0} (outlet : W → Outlet) (hex wide : Bool) (listing : Listing) (known : Option (List ℕ)) (most : ℕ) (old new : Writing W)
     (result : Result ℕ RunFault) (cause : Option Error) : Type 0 where
   pub outcome : TellsOutcome outlet old new result
-  pub done : IfOk result (λ status. status ≡ 0 → ListsInput outlet hex wide listing known old new)
+  pub done : IfOk result (λ status. ListsInput outlet hex wide status listing known old new)
   pub stops : IfErr result (λ fault. ¬ IsWrite fault → StopsInput known (λ before after. StopsAsked hex wide listing before after most) fault)
   pub reads : is_some cause ≡ true ↔ IsErrAnd result IsRead
   pub succeeds : HasAsked hex wide listing (unread known) most → cause ≡ None → (outlet new.sink).failed ≡ false → IfErr result (λ fault. fault ≡ Memory)
@@ -82,20 +82,25 @@ TellsInput known hex wide most result spelling = TellsSpelling (FromInput known)
 
 -- ---- a file that is listed as it is
 
--- It ends the run: writing failed, or there was no memory.
+-- It ends the run: writing or reading failed, or there was no memory.
 abbrev pub EndsAtOnce : RunFault → Type 0
-EndsAtOnce fault = IsWrite fault ⊎ (fault ≡ Memory)
+EndsAtOnce fault = IsWrite fault ⊎ (fault ≡ Memory) ⊎ IsRead fault
 
--- A file that had these bytes left was listed, or writing failed, and it is its own plain spelling; or there was no memory.
-pub record ListsFirst {W : Type 0} (outlet : W → Outlet) (listing : Listing) (left : Option (List ℕ)) (old new : Writing W) (result : Result ℕ RunFault) : Type 0 where
+-- A file that had these bytes left was listed, or writing failed, and it is its own plain spelling; or there was no memory, or reading failed, after it was opened or before.
+pub record ListsFirst {W : Type 0} (outlet : W → Outlet) (listing : Listing) (left : Option (List ℕ)) (most : ℕ) (old new : Writing W) (result : Result ℕ RunFault) : Type 0 where
   pub outcome : TellsOutcome outlet old new result
-  pub done : IfOk result (λ status. status ≡ 0 → ListsRead outlet false true listing left old new)
+  pub done : IfOk result (λ status. ListsRead outlet false true status listing left old new)
   pub ends : IfErr result EndsAtOnce
+  pub stops : IfErr result (λ fault. IsRead fault → (fault ≡ Read 0) ⊎ ((after : Supply) × ReadsInVain fault (unread left) after most))
   pub is_plain : MatchResult result (λ status. IsPlain left) (λ fault. IsWrite fault → IsPlain left)
 
--- the same of a file of which these bytes are known
-abbrev pub ListsFirstOf : {W : Type 0} → (W → Outlet) → Listing → Option (List ℕ) → Writing W → Writing W → Result ℕ RunFault → Type 0
-ListsFirstOf outlet listing known old new result = (left : Option (List ℕ)) × Leaves known left × ListsFirst outlet listing left old new result
+-- the same of a file of which these bytes are known, where the system tells of this cause
+pub record ListsFirstOf {W : Type 0} (outlet : W → Outlet) (listing : Listing) (known : Option (List ℕ)) (most : ℕ) (old new : Writing W)
+    (result : Result ℕ RunFault) (cause : Option Error) : Type 0 where
+  pub left : Option (List ℕ)
+  pub leaves : Leaves known left
+  pub lists : ListsFirst outlet listing left most old new result
+  pub reads : is_some cause ≡ true ↔ IsErrAnd result IsRead
 
 -- ---- a rewriting
 

@@ -1,4 +1,5 @@
 pub mod Asked
+pub mod Escapes
 pub mod Hosts
 pub mod Inputs
 pub mod Notes

@@ -31,6 +31,7 @@ use Rattle.hunk_run.specs.declared.note.Note.{Note}
 use Rattle.hunk_run.specs.declared.note.Note.TheVariants.{Fault, LeftOut, Line, NotText, Output}
 use Rattle.hunk_run.specs.declared.spelled.Spelled.{Spelled}
 use Rattle.hunk_run.specs.declared.verdict.Verdict.{Verdict}
+use Rattle.hunk_run.specs.Escapes.{escaped, escaped_lines}
 use Rattle.hunk_run.specs.Runs.{rewritten_lines}
 use Rattle.hunk_run.specs.Status.{TellsFindings, with_newline}
 
@@ -38,13 +39,13 @@ use Rattle.hunk_run.specs.Status.{TellsFindings, with_newline}
 
 -- the name of a file, or else that of the standard stream
 abbrev pub shown_name : Option (List ℕ) → List ℕ → List ℕ
-shown_name (Some name) stream = name
+shown_name (Some name) stream = escaped name
 shown_name None stream = stream
 
 -- a file that was left as it was, if there is one
 abbrev pub untouched_end : Option (List ℕ) → List ℕ
 untouched_end None = []
-untouched_end (Some name) = codes "; " ++ (name ++ codes " was not touched")
+untouched_end (Some name) = codes "; " ++ (escaped name ++ codes " was not touched")
 
 -- what is said of something, and of such a file
 abbrev pub said : List ℕ → List ℕ → Option (List ℕ) → List ℕ
@@ -98,12 +99,12 @@ left_out_parts stripped zero = decimal stripped ++ codes " bytes of NAME, SYMBOL
 left_out_parts stripped rest = decimal stripped ++ (codes " bytes of NAME, SYMBOL, DEBUG and ADVISORY blocks, " ++ (decimal rest ++ codes " bytes after the load file\n"))
 
 abbrev pub note_text : Note → Option (List ℕ)
-note_text (Line why) = Some (codes "hunkinfo: " ++ string_bytes why)
+note_text (Line why) = Some (codes "hunkinfo: " ++ escaped_lines (string_bytes why))
 note_text NotText = Some (codes "hunkinfo: a word of the command line is no UTF-8 text: give a file of such a name as standard input, as in hunkinfo show < FILE\n")
 note_text (Fault fault name cause untouched wide) = fault_note fault name cause untouched wide
 note_text (Output (Some error)) = None
 note_text (Output None) = Some (said (codes "standard output") (codes "writing failed") None)
-note_text (LeftOut name stripped rest) = Some (codes "hunkinfo: " ++ (name ++ (codes ": left out: " ++ left_out_parts stripped rest)))
+note_text (LeftOut name stripped rest) = Some (codes "hunkinfo: " ++ (escaped name ++ (codes ": left out: " ++ left_out_parts stripped rest)))
 
 -- ---- how an input is spelled
 

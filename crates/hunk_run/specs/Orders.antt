@@ -62,12 +62,12 @@ pub record Rewrites {W : Type 0} (outlet : W → Outlet) (old new : Writing W) (
   pub rewrites : RewritesInput known (RewritesTo first made output strip wide done) most
   pub takes : Takes outlet old new (rewritten_lines done)
 
--- what it asks for is done
-abbrev pub IsOrderDone : {W : Type 0} → (W → Outlet) → Writing W → Writing W → Option MadeFile → Option MadeFile → ℕ → Option (List ℕ) → Order → Type 0
-IsOrderDone outlet old new first made most known (orders.Show hex wide file) = ListsInput outlet hex wide listings.Show known old new
-IsOrderDone outlet old new first made most known (orders.Validate hex wide file) = ListsInput outlet hex wide listings.Validate known old new
-IsOrderDone outlet old new first made most known (orders.Relocate hex wide base budget file) = ListsInput outlet hex wide (listings.Relocate base budget) known old new
-IsOrderDone outlet old new first made most known (orders.Rewrite strip wide input output) = Rewrites outlet old new first made most known output strip wide
+-- what it asks for is done, with this status: 0, or 1 where `validate` finds something
+abbrev pub IsOrderDone : {W : Type 0} → (W → Outlet) → Writing W → Writing W → Option MadeFile → Option MadeFile → ℕ → Option (List ℕ) → ℕ → Order → Type 0
+IsOrderDone outlet old new first made most known status (orders.Show hex wide file) = ListsInput outlet hex wide status listings.Show known old new
+IsOrderDone outlet old new first made most known status (orders.Validate hex wide file) = ListsInput outlet hex wide status listings.Validate known old new
+IsOrderDone outlet old new first made most known status (orders.Relocate hex wide base budget file) = ListsInput outlet hex wide status (listings.Relocate base budget) known old new
+IsOrderDone outlet old new first made most known status (orders.Rewrite strip wide input output) = (status ≡ 0) × Rewrites outlet old new first made most known output strip wide
 
 -- Of an order that is done nothing is said, but what its rewriting has left out.
 abbrev pub SaysLeftOut : {W : Type 0} → (W → Outlet) → Writing W → Writing W → Option MadeFile → Option MadeFile → ℕ → Option (List ℕ) → Order → Option Note → Type 0
@@ -88,12 +88,30 @@ abbrev pub StopsWriting : Option MadeFile → Option MadeFile → ℕ → Option
 StopsWriting first made most known (orders.Rewrite strip wide input output) written = RewritesInput known (RewritesFirst first made output strip wide written) most
 StopsWriting first made most known order written = ⊥
 
--- The fault that a note tells of is one of these, with what the system says where it is of reading or writing; where it tells that OUT was not touched, none was made.
-abbrev pub TellsFault : Option MadeFile → Option MadeFile → ℕ → Option (List ℕ) → Order → Option Note → Type 0
-TellsFault first made most known order (Some (Fault (Write written) name cause untouched wide)) = StopsWriting first made most known order written × (is_some cause ≡ true)
-TellsFault first made most known order (Some (Fault fault name cause untouched wide)) =
-    StopsOrder most known order fault × (is_some cause ≡ true ↔ IsRead fault) × (made ≡ first)
-TellsFault first made most known order _ = ⊤
+-- what a fault leaves: where it is one of reading or writing, that has failed; at any fault but one of writing no file was made
+abbrev pub StopsBy : Option MadeFile → Option MadeFile → Bool → ℕ → Option (List ℕ) → Order → RunFault → Type 0
+StopsBy first made failed most known order (Write written) = StopsWriting first made most known order written × (failed ≡ true)
+StopsBy first made failed most known order fault = StopsOrder most known order fault × (IsRead fault → failed ≡ true) × (made ≡ first)
+
+-- What a standard output that failed leaves: a rewriting was done before, and OUT has all, or has stopped so; a listing makes no file.
+abbrev pub LeavesOut : Option MadeFile → Option MadeFile → Bool → ℕ → Option (List ℕ) → Order → Type 0
+LeavesOut first made failed most known (orders.Rewrite strip wide input output) =
+    ((done : Rewritten) × RewritesInput known (RewritesTo first made output strip wide done) most)
+    ⊎ ((fault : RunFault) × StopsBy first made failed most known (orders.Rewrite strip wide input output) fault)
+LeavesOut first made failed most known order = made ≡ first
+
+-- The order has stopped by the fault that a note tells of, with what the system says where it is of reading or writing.
+abbrev pub TellsFault : Option MadeFile → Option MadeFile → Bool → ℕ → Option (List ℕ) → Order → Option Note → Type 0
+TellsFault first made failed most known order (Some (Fault fault name cause untouched wide)) =
+    StopsBy first made failed most known order fault × (is_some cause ≡ true ↔ IsOfSystem fault)
+TellsFault first made failed most known order (Some (Output cause)) = LeavesOut first made failed most known order
+TellsFault first made failed most known order _ = ⊤
+
+-- The note tells of a failed opening, reading or writing of a file, or standard output has failed, too.
+abbrev pub TellsFailure : Option Note → Type 0
+TellsFailure (Some (Fault fault name cause untouched wide)) = IsOfSystem fault
+TellsFailure (Some (Output cause)) = ⊤
+TellsFailure _ = ⊥
 
 -- Nothing is made, or OUT is and nothing else.
 abbrev pub MakesOut : Option MadeFile → Option MadeFile → Option Order → Type 0
@@ -108,9 +126,9 @@ HasOrdered most known (orders.Validate hex wide file) = HasAsked hex wide listin
 HasOrdered most known (orders.Relocate hex wide base budget file) = HasAsked hex wide (listings.Relocate base budget) (unread known) most
 HasOrdered most known (orders.Rewrite strip wide input output) = HasRewriting wide (unread known) most
 
--- A fault of which the system says nothing is want of memory.
+-- A fault that the note tells of is want of memory.
 abbrev pub LacksMemory : Option Note → Type 0
-LacksMemory (Some (Fault fault name None untouched wide)) = fault ≡ Memory
+LacksMemory (Some (Fault fault name cause untouched wide)) = fault ≡ Memory
 LacksMemory _ = ⊤
 
 -- ---- how its input is spelled
@@ -136,12 +154,15 @@ SaysSpelled most known (orders.Rewrite strip wide input output) Unread said = Sa
 
 -- ---- how a run ends
 
--- The run has this order: where the status is 0 it is done, and what it has left out is said. The note names its files, and says why it is not done.
-pub record EndsOrder {W : Type 0} (outlet : W → Outlet) (old new : Writing W) (first made : Option MadeFile) (most : ℕ) (known : Option (List ℕ))
+-- The run has this order: where the status is 0 it is done, and what it has left out is said; without a note it is done with this status. The note names its files, and
+-- says why it is not done. `failing` and `failed` tell whether opening, reading or writing a file has failed before the run, and after it.
+pub record EndsOrder {W : Type 0} (outlet : W → Outlet) (old new : Writing W) (first made : Option MadeFile) (failing failed : Bool) (most : ℕ) (known : Option (List ℕ))
     (order : Order) (ended : Ended) : Type 0 where
-  pub done : ended.status ≡ 0 → IsOrderDone outlet old new first made most known order
+  pub done : ended.status ≡ 0 → IsOrderDone outlet old new first made most known 0 order
+  pub found : ended.note ≡ None → IsOrderDone outlet old new first made most known ended.status order
   pub left_out : ended.status ≡ 0 → SaysLeftOut outlet old new first made most known order ended.note
   pub names : NamesFiles order ended.note
   pub spelled : SaysSpelled most known order (TellsUnread ended.note) ended.spelled
-  pub stops : TellsFault first made most known order ended.note
-  pub succeeds : HasOrdered most known order → (outlet old.sink).failed ≡ false → LacksMemory ended.note
+  pub stops : TellsFault first made failed most known order ended.note
+  pub told : failing ≡ false → failed ≡ true → TellsFailure ended.note
+  pub succeeds : HasOrdered most known order → (outlet old.sink).failed ≡ false → failed ≡ false → LacksMemory ended.note

@@ -60,12 +60,23 @@ IsRead fault = (place : ℕ) × (fault ≡ Read place)
 abbrev pub IsOfSystem : RunFault → Type 0
 IsOfSystem fault = IsRead fault ⊎ IsWrite fault
 
+-- the answer is a fault of reading
+abbrev pub failed_reading : {T : Type 0} → Result T RunFault → Bool
+failed_reading (Err (Read place)) = true
+failed_reading _ = false
+
+-- the answer is a fault of reading or writing
+abbrev pub failed_at_files : {T : Type 0} → Result T RunFault → Bool
+failed_at_files (Err (Read place)) = true
+failed_at_files (Err (Write written)) = true
+failed_at_files _ = false
+
 -- ---- what comes of listing what a source has, or where `hex` is set what its text spells
 
 pub record ListsSupply {W : Type 0} (outlet : W → Outlet) (hex : Bool) (listing : Listing) (before after : Supply) (most : ℕ) (old new : Writing W)
     (result : Result ℕ RunFault) : Type 0 where
   pub outcome : TellsOutcome outlet old new result
-  pub done : IfOk result (λ status. status ≡ 0 → ListsSource outlet hex listing before after old new)
+  pub done : IfOk result (λ status. ListsSource outlet hex status listing before after old new)
   -- with such an input only memory can run out, where nothing has failed
   pub succeeds : HasInput hex listing before most → after.failed ≡ false → (outlet new.sink).failed ≡ false → IfErr result (λ fault. fault ≡ Memory)
   pub tells_read : TellsReading before after result

@@ -1,5 +1,5 @@
 -- What a run has done: its output is a writer that is old before it and new after it.
-use Rattle.std.specs.Prelude.{◌≡◌, ◌⊎◌, ◌+◌, ◌++◌, ℕ, Bool, true, false, List}
+use Rattle.std.specs.Prelude.{◌≡◌, ◌⊎◌, ◌+◌, ◌++◌, ℕ, zero, suc, Bool, true, false, List}
 use Rattle.std.specs.Io.KnownBytes.{Consumes, IsAtEnd}
 use Rattle.hunk_words.specs.Carriers.{Outlet, Supply, Writing}
 use Rattle.hunk_words.specs.Longs.{bytes_of}
@@ -22,11 +22,16 @@ use Rattle.hunk_commands.specs.Validated.{IsValidated}
 use Rattle.hunk_listing.specs.RewritingLines.{left_out_line, wrote_line}
 use Rattle.hunk_run.specs.Status.{PrintsOrFails, with_newline}
 
--- what is printed of an input in which nothing is amiss
-abbrev pub IsListed : Listing → List ℕ → List ℕ → Type 0
-IsListed listings.Show input text = IsShown input text
-IsListed listings.Validate input text = IsValidated 0 input text
-IsListed (listings.Relocate base budget) input text = IsRelocated base budget input text
+-- the status that goes with so many findings
+abbrev pub found_status : ℕ → ℕ
+found_status zero = 0
+found_status (suc more) = 1
+
+-- what is printed of an input, with this status: 0, or 1 where `validate` finds something
+abbrev pub IsListed : ℕ → Listing → List ℕ → List ℕ → Type 0
+IsListed status listings.Show input text = (status ≡ 0) × IsShown input text
+IsListed status listings.Validate input text = (count : ℕ) × (status ≡ found_status count) × IsValidated count input text
+IsListed status (listings.Relocate base budget) input text = (status ≡ 0) × IsRelocated base budget input text
 
 -- what is printed of a rewriting
 abbrev pub rewritten_lines : Rewritten → List ℕ
@@ -49,8 +54,8 @@ StopsReading false listings.Show given after = IsAtEnd after.left
 StopsReading false listings.Validate given after = IsAtEnd after.left
 StopsReading false (listings.Relocate base budget) given after = (file : LoadFileValue) × IsLoadFile file × (given ≡ bytes_of (text file))
 
--- The output has taken what is printed of the input that the source gave.
-pub record ListsSource {W : Type 0} (outlet : W → Outlet) (hex : Bool) (listing : Listing) (before after : Supply)
+-- The output has taken what is printed, with this status, of the input that the source gave.
+pub record ListsSource {W : Type 0} (outlet : W → Outlet) (hex : Bool) (status : ℕ) (listing : Listing) (before after : Supply)
     (old new : Writing W) : Type 0 where
   pub given : List ℕ
   pub consumed : Consumes before.left after.left given
@@ -58,7 +63,7 @@ pub record ListsSource {W : Type 0} (outlet : W → Outlet) (hex : Bool) (listin
   pub input : List ℕ
   pub is_input : IsInput hex given input
   pub text : List ℕ
-  pub is_listed : IsListed listing input text
+  pub is_listed : IsListed status listing input text
   pub takes : Takes outlet old new text
 
 -- why no bytes were read that a text of at most this many bytes spells

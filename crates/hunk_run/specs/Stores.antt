@@ -1,13 +1,14 @@
 -- The files that a run is given, as clauses see them, and the file that it makes.
-use Rattle.std.specs.Prelude.{◌≡◌, ◌⊎◌, ◌++◌, ◌≤◌, ℕ, List, [], Option, Some, None, Result, Ok, IfSome, IsErrAnd, length, take}
+use Rattle.std.specs.Prelude.{◌≡◌, ◌⊎◌, ◌++◌, ◌≤◌, ℕ, zero, Bool, true, false, if◌then◌else◌, List, [], ◌∷◌, Option, Some, None, Result, Ok, Err, IfSome, length, take}
 use Rattle.std.specs.declared.io.Error.{Error}
 use Rattle.hunk_words.specs.Carriers.{saturated}
-use Rattle.hunk_run.specs.Settling.{SaysLost}
+use Rattle.hunk_run.specs.Settling.{has_lost}
 
--- the bytes that the file of each name has, and those of standard input, where they are known
+-- the bytes that the file of each name has, and those of standard input, where they are known; and which file can be read again from its start
 pub record Holdings : Type 0 where
   pub content : List ℕ → Option (List ℕ)
   pub input : Option (List ℕ)
+  pub again : List ℕ → Bool
 
 -- a file that was made: its name, what it has taken since, and what it answered when it was last asked to keep all of that
 pub record MadeFile : Type 0 where
@@ -15,11 +16,13 @@ pub record MadeFile : Type 0 where
   pub taken : List ℕ
   pub answer : Option (Result (Unit {0}) Error)
 
--- what is known of the input of this name, or of standard input, where no file was made yet
-abbrev pub bytes_of_input : Holdings → Option MadeFile → Option (List ℕ) → Option (List ℕ)
-bytes_of_input holdings made None = holdings.input
-bytes_of_input holdings None (Some name) = holdings.content name
-bytes_of_input holdings (Some file) (Some name) = None
+-- What is known of the input of this name, or of standard input, where no file was made yet. Once an input was opened, no more is known of one that can't be read again.
+abbrev pub bytes_of_input : Holdings → Bool → Option MadeFile → Option (List ℕ) → Option (List ℕ)
+bytes_of_input holdings false made None = holdings.input
+bytes_of_input holdings true made None = None
+bytes_of_input holdings false None (Some name) = holdings.content name
+bytes_of_input holdings true None (Some name) = if holdings.again name then holdings.content name else None
+bytes_of_input holdings opened (Some file) (Some name) = None
 
 -- What is left to read is this, where it is known.
 abbrev pub Leaves : Option (List ℕ) → Option (List ℕ) → Type 0
@@ -38,6 +41,12 @@ abbrev pub asked_to_keep : Option MadeFile → Result (Unit {0}) Error → Optio
 asked_to_keep (Some file) result = Some (record { name = file.name; taken = file.taken; answer = Some result })
 asked_to_keep None result = None
 
+-- the write fails: by an error, or as it takes none of some bytes
+abbrev pub fails_to_write : List ℕ → Result ℕ Error → Bool
+fails_to_write bytes (Err error) = true
+fails_to_write (byte ∷ bytes) (Ok zero) = true
+fails_to_write bytes (Ok count) = false
+
 -- ---- all of them: the file that was made is old before them and new after them
 
 -- it was made by this name, and has taken just these bytes
@@ -55,7 +64,7 @@ pub record MakesWhole (old new : Option MadeFile) (name text : List ℕ) : Type 
   pub makes : MakesFile old new name text
   pub answer : Result (Unit {0}) Error
   pub asked : makes.answer ≡ Some answer
-  pub kept : ¬ IsErrAnd answer SaysLost
+  pub kept : has_lost answer ≡ false
 
 -- It has taken as many of the first bytes of such a text as this tells.
 pub record MakesFirst (IsText : List ℕ → Type 0) (old new : Option MadeFile) (name : List ℕ) (written : ℕ) : Type 0 where

@@ -60,8 +60,9 @@ abbrev pub ReadsNoBytes : Bool → RunFault → Supply → Supply → ℕ → Ty
 ReadsNoBytes true fault before after most = ReadsNoText fault before after most
 ReadsNoBytes false fault before after most = ReadsInVain fault before after most
 
--- a fault that an input may have which was not read
+-- a fault that an input may have which was not read: of the refusals that name no part of a file only its length is one
 abbrev pub IsUnread : RunFault → Type 0
+IsUnread (Refused refusal) = refusal.reason ≡ reasons.FileLimit
 IsUnread (RefusedIn refusal) = ⊥
 IsUnread (Write written) = ⊥
 IsUnread _ = ⊤
@@ -73,9 +74,9 @@ HasBytes false before most input = (before.left ≡ Some input) × (length input
 
 -- ---- bytes at hand
 
--- the output has taken what is printed of them
-abbrev pub ListsBytes : {W : Type 0} → (W → Outlet) → Listing → List ℕ → Writing W → Writing W → Type 0
-ListsBytes outlet listing bytes old new = (text : List ℕ) × IsListed listing bytes text × Takes outlet old new text
+-- the output has taken what is printed of them, with this status
+abbrev pub ListsBytes : {W : Type 0} → (W → Outlet) → ℕ → Listing → List ℕ → Writing W → Writing W → Type 0
+ListsBytes outlet status listing bytes old new = (text : List ℕ) × IsListed status listing bytes text × Takes outlet old new text
 
 -- why nothing is printed of them
 abbrev pub StopsBytes : Listing → List ℕ → ℕ → RunFault → Type 0
@@ -110,7 +111,7 @@ pub record StopsPlain (listing : Listing) (input : List ℕ) (most : ℕ) (fault
 pub record ListsPlain {W : Type 0} (outlet : W → Outlet) (listing : Listing) (input : List ℕ) (most : ℕ) (old new : Writing W)
     (result : Result ℕ RunFault) : Type 0 where
   pub outcome : TellsOutcome outlet old new result
-  pub done : IfOk result (λ status. status ≡ 0 → ListsBytes outlet listing (plain input) old new)
+  pub done : IfOk result (λ status. ListsBytes outlet status listing (plain input) old new)
   pub stops : IfErr result (λ fault. ¬ IsWrite fault → StopsPlain listing input most fault)
   pub succeeds : length (plain input) < most → AreListed listing (plain input) most → (outlet new.sink).failed ≡ false → IfErr result (λ fault. fault ≡ Memory)
 
@@ -138,14 +139,14 @@ pub record HasWide (hex : Bool) (listing : Listing) (before : Supply) (most : �
   pub few : length (plain input) < most
   pub listed : AreListed listing (plain input) most
 
--- The output has taken what is printed of the plain spelling of the input, which is all that there was to read.
-pub record ListsWide {W : Type 0} (outlet : W → Outlet) (hex : Bool) (listing : Listing) (before after : Supply) (old new : Writing W) : Type 0 where
+-- The output has taken what is printed, with this status, of the plain spelling of the input, which is all that there was to read.
+pub record ListsWide {W : Type 0} (outlet : W → Outlet) (hex : Bool) (status : ℕ) (listing : Listing) (before after : Supply) (old new : Writing W) : Type 0 where
   pub given : List ℕ
   pub consumed : Consumes before.left after.left given
   pub at_end : IsAtEnd after.left
   pub input : List ℕ
   pub is_input : IsInput hex given input
-  pub lists : ListsBytes outlet listing (plain input) old new
+  pub lists : ListsBytes outlet status listing (plain input) old new
 
 -- ---- how it is spelled
 

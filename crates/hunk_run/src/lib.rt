@@ -17,6 +17,7 @@ ghost use Rattle.hunk_command_line.specs.Line.{order_of, words_read};
 ghost use Rattle.hunk_run.specs.Runs.{PrintsNoHelp};
 ghost use Rattle.hunk_run.specs.Stores.{bytes_of_input};
 
+mod escaped;
 mod host;
 mod listing;
 mod listing_first;
@@ -79,8 +80,10 @@ pub fn run<S: Store, W: Sink>(
     // refused.
     ensures ordered { (order : Order) → takes hunkinfo (words_read (map string_bytes words.now)) ≡ true
         → order_of (map string_bytes words.now) ≡ Some order
-        → EndsOrder W.outlet out.old out.new (S.made store) (S.made result.1) FILE_BYTES
-        (bytes_of_input (S.holdings store) (S.made store) (input_of order)) order result.0 }
+        → EndsOrder W.outlet out.old out.new (S.made store) (S.made result.1)
+        (S.failed store) (S.failed result.1) FILE_BYTES
+        (bytes_of_input (S.holdings store) (S.opened store) (S.made store) (input_of order))
+        order result.0 }
     ensures refused { takes hunkinfo (words_read (map string_bytes words.now)) ≡ true
         → order_of (map string_bytes words.now) ≡ None
         → PrintsNoHelp W.outlet out.old out.new result.0.status }
@@ -94,7 +97,8 @@ pub fn run<S: Store, W: Sink>(
         → result.0.status ≡ 0
         → (order : Order) × (order_of (map string_bytes words.now) ≡ Some order)
         × IsOrderDone W.outlet out.old out.new (S.made store) (S.made result.1) FILE_BYTES
-        (bytes_of_input (S.holdings store) (S.made store) (input_of order)) order }
+        (bytes_of_input (S.holdings store) (S.opened store) (S.made store) (input_of order))
+        0 order }
 
     // What becomes of the files.
     ensures makes { MakesOut (S.made store) (S.made result.1)
@@ -130,7 +134,8 @@ pub fn run<S: Store, W: Sink>(
             return (ended.with_spelled(spelled), store);
         }
     };
-    let (answer, cause, spelled) = list_file(&store, alloc, listing, &file, form, out);
+    let mut store = store;
+    let (answer, cause, spelled) = list_file(&mut store, alloc, listing, &file, form, out);
     let ended = end_listing(answer, file, cause, form.wide, out);
     (ended.with_spelled(spelled), store)
 }

@@ -1,17 +1,11 @@
 //! The commands that print what they find in one input.
-ghost use Rattle.std.specs.Prelude.{◌≡◌, ◌↔◌, ◌+◌, IfErr, IfOk, IsErrAnd, None, Some, false, is_some, true};
+ghost use Rattle.std.specs.Prelude.{◌≡◌, ◌||◌, ◌+◌, IfErr, IfOk, IsErrAnd, None, Some, false, true};
 ghost use Rattle.hunk_words.specs.Carriers.{left_of};
-ghost use Rattle.hunk_commands.specs.declared.fault.RunFault.TheVariants.{Memory};
-ghost use Rattle.hunk_commands.specs.Faults.{IsWrite};
 ghost use Rattle.hunk_commands.specs.HexText.{ReadsHex};
 ghost use Rattle.hunk_commands.specs.Inputs.{TellsReading};
-ghost use Rattle.hunk_run.specs.Asked.{AnswersListing, AsksListing, HasAsked, ListsInput, ListsRead};
-ghost use Rattle.hunk_run.specs.Asked.{StopsAsked, TellsInput, TellsSpelling};
-ghost use Rattle.hunk_run.specs.Inputs.{unread};
-ghost use Rattle.hunk_run.specs.Status.{TellsOutcome};
+ghost use Rattle.hunk_run.specs.Asked.{AnswersListing, AsksListing, TellsInput, TellsSpelling};
 ghost use Rattle.hunk_run.specs.Orders.{SaysInput};
-ghost use Rattle.hunk_run.specs.Refusals.{FromInput, FromReader, IsOfFile, IsRead, ListsSupply};
-ghost use Rattle.hunk_run.specs.Refusals.{StopsInput};
+ghost use Rattle.hunk_run.specs.Refusals.{FromInput, IsOfFile, ListsSupply, failed_reading};
 ghost use Rattle.hunk_run.specs.Runs.{ReadsNoText};
 ghost use Rattle.hunk_run.specs.Stores.{bytes_of_input};
 ghost use Rattle.hunk_run.specs.Wide.{IsUnread};
@@ -56,28 +50,22 @@ pub(crate) struct Form {
 /// Prints it of the file, or of standard input, and gives the exit status, 1 where something was
 /// found, what the system says of an input that can't be read, and what is said of its spelling.
 pub(crate) fn list_file<S: Store, W: Sink>(
-    store: &S,
+    store: &mut S,
     alloc: Global,
     listing: Listing,
     file: &Option<FileName>,
     form: Form,
     out: &mut LongWriter<W>,
 ) -> (Result<u8, RunFault>, Option<io::Error>, Option<Spelled>)
-    ensures outcome { TellsOutcome W.outlet out.old out.new result.0 }
-    ensures done { IfOk result.0 (λ status. status ≡ 0
-        → ListsInput W.outlet form.hex form.wide listing
-        (bytes_of_input (S.holdings store.now) (S.made store.now) file.now) out.old out.new) }
-    ensures stops { IfErr result.0 (λ fault. ¬ IsWrite fault → StopsInput
-        (bytes_of_input (S.holdings store.now) (S.made store.now) file.now)
-        (λ before after. StopsAsked form.hex form.wide listing before after FILE_BYTES) fault) }
-    ensures cause { is_some result.1 ≡ true ↔ IsErrAnd result.0 IsRead }
-    ensures succeeds { HasAsked form.hex form.wide listing
-        (unread (bytes_of_input (S.holdings store.now) (S.made store.now) file.now)) FILE_BYTES
-        → result.1 ≡ None → (W.outlet out.new.sink).failed ≡ false
-        → IfErr result.0 (λ fault. fault ≡ Memory) }
+    ensures answers { AnswersListing W.outlet form.hex form.wide listing
+        (bytes_of_input (S.holdings store.old) (S.opened store.old) (S.made store.old) file.now)
+        FILE_BYTES out.old out.new result.0 result.1 }
     ensures spelled { SaysInput form.hex form.wide FILE_BYTES
-        (bytes_of_input (S.holdings store.now) (S.made store.now) file.now) file.now
-        (IsErrAnd result.0 IsUnread) result.2 }
+        (bytes_of_input (S.holdings store.old) (S.opened store.old) (S.made store.old) file.now)
+        file.now (IsErrAnd result.0 IsUnread) result.2 }
+    ensures fails { S.failed store.new ≡ (S.failed store.old || failed_reading result.0) }
+    ensures makes { S.made store.new ≡ S.made store.old }
+    ensures holds { S.holdings store.new ≡ S.holdings store.old }
 {
     let name = match copied(alloc, file, form.wide) {
         Ok(name) => name,
@@ -107,7 +95,7 @@ fn copied(
 /// file that can be read again is first read as it is: only where that is refused, and nothing was
 /// printed, is it read for its plain spelling.
 fn list_input<S: Store, W: Sink>(
-    store: &S,
+    store: &mut S,
     alloc: Global,
     listing: Listing,
     file: &Option<FileName>,
@@ -115,23 +103,27 @@ fn list_input<S: Store, W: Sink>(
     out: &mut LongWriter<W>,
 ) -> (Result<u8, RunFault>, Option<io::Error>, Option<Spelling>)
     ensures answers { AnswersListing W.outlet form.hex form.wide listing
-        (bytes_of_input (S.holdings store.now) (S.made store.now) file.now) FILE_BYTES
-        out.old out.new result.0 result.1 }
+        (bytes_of_input (S.holdings store.old) (S.opened store.old) (S.made store.old) file.now)
+        FILE_BYTES out.old out.new result.0 result.1 }
     ensures spelled { TellsInput
-        (bytes_of_input (S.holdings store.now) (S.made store.now) file.now)
+        (bytes_of_input (S.holdings store.old) (S.opened store.old) (S.made store.old) file.now)
         form.hex form.wide FILE_BYTES result.0 result.2 }
+    ensures fails { S.failed store.new ≡ (S.failed store.old || failed_reading result.0) }
+    ensures makes { S.made store.new ≡ S.made store.old }
+    ensures holds { S.holdings store.new ≡ S.holdings store.old }
 {
-    if form.wide && !form.hex {
-        if let Some(answer) = list_first(store, alloc, listing, file, out) {
-            return (answer, None, None);
-        }
+    if !form.wide || form.hex {
+        return list_once(store, alloc, listing, file, form, out);
     }
-    list_named(store, alloc, listing, file, form, out)
+    match list_first(store, alloc, listing, file, out) {
+        Some((answer, cause)) => (answer, cause, None),
+        None => list_once(store, alloc, listing, file, form, out),
+    }
 }
 
 /// The same, and how the input is spelled where it was read and that was asked for.
-fn list_named<S: Store, W: Sink>(
-    store: &S,
+fn list_once<S: Store, W: Sink>(
+    store: &mut S,
     alloc: Global,
     listing: Listing,
     file: &Option<FileName>,
@@ -139,23 +131,73 @@ fn list_named<S: Store, W: Sink>(
     out: &mut LongWriter<W>,
 ) -> (Result<u8, RunFault>, Option<io::Error>, Option<Spelling>)
     ensures answers { AnswersListing W.outlet form.hex form.wide listing
-        (bytes_of_input (S.holdings store.now) (S.made store.now) file.now) FILE_BYTES
-        out.old out.new result.0 result.1 }
-    ensures spelled { TellsSpelling
-        (FromInput (bytes_of_input (S.holdings store.now) (S.made store.now) file.now))
+        (bytes_of_input (S.holdings store.old) (S.opened store.old) (S.made store.old) file.now)
+        FILE_BYTES out.old out.new result.0 result.1 }
+    ensures spelled { TellsSpelling (FromInput
+        (bytes_of_input (S.holdings store.old) (S.opened store.old) (S.made store.old) file.now))
         form.hex form.wide FILE_BYTES result.0 result.2 }
+    ensures fails { S.failed store.new ≡ (S.failed store.old || failed_reading result.0) }
+    ensures makes { S.made store.new ≡ S.made store.old }
+    ensures holds { S.holdings store.new ≡ S.holdings store.old }
 {
-    let Some(name) = file else {
-        return list_reader(alloc, listing, FromRead::new(store.input()), form, out);
-    };
+    match file {
+        Some(name) => list_named(store, alloc, listing, name, form, out),
+        None => list_standard(store, alloc, listing, form, out),
+    }
+}
+
+/// The same of the file of this name.
+fn list_named<S: Store, W: Sink>(
+    store: &mut S,
+    alloc: Global,
+    listing: Listing,
+    name: &FileName,
+    form: Form,
+    out: &mut LongWriter<W>,
+) -> (Result<u8, RunFault>, Option<io::Error>, Option<Spelling>)
+    ensures answers { AnswersListing W.outlet form.hex form.wide listing
+        (bytes_of_input (S.holdings store.old) (S.opened store.old) (S.made store.old)
+        (Some name.now)) FILE_BYTES out.old out.new result.0 result.1 }
+    ensures spelled { TellsSpelling (FromInput
+        (bytes_of_input (S.holdings store.old) (S.opened store.old) (S.made store.old)
+        (Some name.now))) form.hex form.wide FILE_BYTES result.0 result.2 }
+    ensures fails { S.failed store.new ≡ (S.failed store.old || failed_reading result.0) }
+    ensures makes { S.made store.new ≡ S.made store.old }
+    ensures holds { S.holdings store.new ≡ S.holdings store.old }
+{
     let file = match store.open(name.as_str()) {
         Ok(file) => file,
         Err(error) => return (Err(RunFault::Read { place: 0 }), Some(error), None),
     };
-    match source_of(alloc, listing, file, form) {
-        Ok(source) => list_reader(alloc, listing, source, form, out),
-        Err(_) => (Err(RunFault::Memory), None, None),
-    }
+    let mut source = match source_of(alloc, listing, file, form) {
+        Ok(source) => source,
+        Err(_) => return (Err(RunFault::Memory), None, None),
+    };
+    let (answer, spelling) = list_asked(alloc, listing, &mut source, form, out);
+    (answer, store.close(source), spelling)
+}
+
+/// The same of standard input.
+fn list_standard<S: Store, W: Sink>(
+    store: &mut S,
+    alloc: Global,
+    listing: Listing,
+    form: Form,
+    out: &mut LongWriter<W>,
+) -> (Result<u8, RunFault>, Option<io::Error>, Option<Spelling>)
+    ensures answers { AnswersListing W.outlet form.hex form.wide listing
+        (bytes_of_input (S.holdings store.old) (S.opened store.old) (S.made store.old) None)
+        FILE_BYTES out.old out.new result.0 result.1 }
+    ensures spelled { TellsSpelling (FromInput
+        (bytes_of_input (S.holdings store.old) (S.opened store.old) (S.made store.old) None))
+        form.hex form.wide FILE_BYTES result.0 result.2 }
+    ensures fails { S.failed store.new ≡ (S.failed store.old || failed_reading result.0) }
+    ensures makes { S.made store.new ≡ S.made store.old }
+    ensures holds { S.holdings store.new ≡ S.holdings store.old }
+{
+    let mut source = FromRead::new(store.input());
+    let (answer, spelling) = list_asked(alloc, listing, &mut source, form, out);
+    (answer, store.close_input(source), spelling)
 }
 
 /// The bytes of a file. A load asks for little at a time, so its file is read through a buffer;
@@ -173,39 +215,6 @@ pub(crate) fn source_of<R: Read + Drop>(
         Listing::Relocate { .. } if !form.hex && !form.wide => FromRead::buffered(alloc, file),
         _ => Ok(FromRead::new(file)),
     }
-}
-
-/// The same of what a reader gives that has not failed.
-fn list_reader<R: Read + Drop, W: Sink>(
-    alloc: Global,
-    listing: Listing,
-    source: FromRead<R>,
-    form: Form,
-    out: &mut LongWriter<W>,
-) -> (Result<u8, RunFault>, Option<io::Error>, Option<Spelling>)
-    requires fresh { source.error ≡ None }
-    ensures outcome { TellsOutcome W.outlet out.old out.new result.0 }
-    ensures done { IfOk result.0 (λ status. status ≡ 0
-        → ListsRead W.outlet form.hex form.wide listing (left_of R.remaining source.reader)
-        out.old out.new) }
-    ensures succeeds { HasAsked form.hex form.wide listing
-        (unread (left_of R.remaining source.reader)) FILE_BYTES
-        → result.1 ≡ None → (W.outlet out.new.sink).failed ≡ false
-        → IfErr result.0 (λ fault. fault ≡ Memory) }
-    ensures stops { IfErr result.0 (λ fault. ¬ IsWrite fault
-        → FromReader (left_of R.remaining source.reader)
-        (λ before after. StopsAsked form.hex form.wide listing before after FILE_BYTES fault)) }
-    ensures cause { is_some result.1 ≡ true ↔ IsErrAnd result.0 IsRead }
-    ensures spelled { TellsSpelling (FromReader (left_of R.remaining source.reader))
-        form.hex form.wide FILE_BYTES result.0 result.2 }
-{
-    let mut source = source;
-    let (answer, spelling) = list_asked(alloc, listing, &mut source, form, out);
-    let cause = match answer {
-        Ok(_) => None,
-        Err(_) => source.error(),
-    };
-    (answer, cause, spelling)
 }
 
 /// The same of the bytes that the source has, as they are or in their plain spelling, and how they

@@ -67,7 +67,7 @@ fn list_held<W: Sink>(
 ) -> Result<u8, RunFault>
     ensures outcome { TellsOutcome W.outlet out.old out.new result }
     ensures done { IfOk result
-        (λ status. status ≡ 0 → ListsBytes W.outlet listing bytes.now out.old out.new) }
+        (λ status. ListsBytes W.outlet status listing bytes.now out.old out.new) }
     ensures stops { IfErr result
         (λ fault. ¬ IsWrite fault → StopsBytes listing bytes.now FILE_BYTES fault) }
     ensures succeeds { AreListed listing bytes.now FILE_BYTES

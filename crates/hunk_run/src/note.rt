@@ -4,6 +4,7 @@ ghost use Rattle.std.specs.Fmt.{DisplaysOnOk};
 ghost use Rattle.hunk_run.specs.Notes.{ended_with, fault_note, note_text, output_failed, shown_name, note_with, untouched_end};
 ghost use Rattle.hunk_run.specs.declared.note.Note.TheVariants.{LeftOut};
 
+use crate::escaped::{Escaped, EscapedLines};
 use crate::spelled::Spelled;
 use crate::verdict::{Verdict, hint};
 use hunk_command_line::FileName;
@@ -25,7 +26,8 @@ const OF_BLOCKS: &str = "bytes of NAME, SYMBOL, DEBUG and ADVISORY blocks";
 /// What is said of the bytes after a load file.
 const AFTER: &str = "bytes after the load file";
 
-/// What a run says on standard error, to a person. It is displayed with its last line end.
+/// What a run says on standard error, to a person. It is displayed with its last line end, and with
+/// escapes in the place of control characters that a word of the command line has.
 #[derive(Debug, Drop)]
 pub enum Note {
     /// The words are no order, for the reason that this text gives, which has its line end.
@@ -113,13 +115,30 @@ impl Note {
     }
 }
 
-/// The name to show of a file, or of a standard stream.
-pub(crate) fn shown<'a>(name: &'a Option<FileName>, stream: &'a str) -> &'a str
-    ensures { result.now ≡ shown_name name.entry.now stream.entry.now }
+/// The file that something is said of, or else the standard stream. It is displayed as its name.
+#[derive(Clone, Copy)]
+pub(crate) struct Named<'a>(pub &'a Option<FileName>, pub &'a str);
+
+impl fmt::Display for Named<'_> {
+    ghost output = { λ named. Some (shown_name named.0.now named.1.now) };
+
+    fn fmt<W: fmt::Write>(&self, f: &mut fmt::Formatter<W>) -> fmt::Result {
+        match self.0 {
+            Some(name) => {
+                let name = escaped(name);
+                write!(f, "{name}")
+            }
+            None => f.write_str(self.1),
+        }
+    }
+}
+
+/// The name of a file, as it is shown.
+fn escaped(name: &FileName) -> Escaped<'_>
+    ensures { result.text.now ≡ name.now }
 {
-    match name {
-        Some(name) => name.as_str(),
-        None => stream,
+    Escaped {
+        text: name.as_str(),
     }
 }
 
@@ -128,7 +147,10 @@ impl fmt::Display for Note {
 
     fn fmt<W: fmt::Write>(&self, f: &mut fmt::Formatter<W>) -> fmt::Result {
         match self {
-            Note::Line(why) => write!(f, "hunkinfo: {why}"),
+            Note::Line(why) => {
+                let why = EscapedLines { text: why.as_str() };
+                write!(f, "hunkinfo: {why}")
+            }
             Note::NotText => write!(f, "hunkinfo: {NOT_TEXT}\n"),
             Note::Fault {
                 fault,
@@ -165,7 +187,7 @@ impl fmt::Display for Untouched<'_> {
     fn fmt<W: fmt::Write>(&self, f: &mut fmt::Formatter<W>) -> fmt::Result {
         match self.file {
             Some(name) => {
-                let name = name.as_str();
+                let name = escaped(name);
                 write!(f, "; {name} was not touched")
             }
             None => Ok(()),
@@ -183,7 +205,7 @@ fn write_left_out<W: fmt::Write>(
     ensures { DisplaysOnOk W.write_str_gives f.old result
         (note_text (LeftOut name.now stripped rest)) f.new }
 {
-    let name = name.as_str();
+    let name = escaped(name);
     if stripped == 0 {
         return write!(f, "hunkinfo: {name}: left out: {rest} {AFTER}\n");
     }
@@ -208,7 +230,7 @@ fn write_fault<W: fmt::Write>(
     ensures { DisplaysOnOk W.write_str_gives f.old result
         (fault_note fault name.entry.now cause.entry.now untouched.entry.now wide) f.new }
 {
-    let input = shown(name, "standard input");
+    let input = Named(name, "standard input");
     let end = Untouched { file: untouched };
     match (fault, cause) {
         (RunFault::Memory, _) => write!(f, "hunkinfo: out of memory{end}\n"),
@@ -231,14 +253,14 @@ fn write_fault<W: fmt::Write>(
         (RunFault::Read { .. }, Some(error)) => write!(f, "hunkinfo: {input}: {error}{end}\n"),
         (RunFault::Read { .. }, None) => write!(f, "hunkinfo: {input}: reading failed{end}\n"),
         (RunFault::Write { written }, Some(error)) => {
-            let output = shown(name, "standard output");
+            let output = Named(name, "standard output");
             write!(
                 f,
                 "hunkinfo: {output}: {error}: the first {written} bytes of it are written\n"
             )
         }
         (RunFault::Write { .. }, None) => {
-            let output = shown(name, "standard output");
+            let output = Named(name, "standard output");
             write!(f, "hunkinfo: {output}: writing failed\n")
         }
     }

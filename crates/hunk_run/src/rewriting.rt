@@ -1,15 +1,13 @@
 //! The command `rewrite`, from one file to another.
-ghost use Rattle.std.specs.Prelude.{◌≡◌, ◌↔◌, ◌-◌, ℕ, false, is_some, true, IfErr, IfOk, IsErrAnd, None, Some};
+ghost use Rattle.std.specs.Prelude.{◌≡◌, ◌↔◌, ◌||◌, ◌-◌, ℕ, false, is_some, true, IfErr, IfOk, IsErrAnd, None, Some};
 ghost use Rattle.hunk_commands.specs.declared.fault.RunFault.TheVariants.{Memory, Write};
 ghost use Rattle.hunk_commands.specs.Faults.{IsWrite};
 ghost use Rattle.hunk_commands.specs.Inputs.{ReadsInput, TellsReading};
 ghost use Rattle.hunk_run.specs.Asked.{AsksRewriting, HasRewriting, StopsRewriting, TellsInput};
 ghost use Rattle.hunk_run.specs.Asked.{TellsSpelling};
-ghost use Rattle.hunk_run.specs.Inputs.{unread};
 ghost use Rattle.hunk_run.specs.Notes.{EndsOrFails, left_out_note, rewritten_ended};
-ghost use Rattle.hunk_run.specs.Orders.{AnswersRewriting, RewritesFirst, RewritesInput};
-ghost use Rattle.hunk_run.specs.Orders.{RewritesTo, SaysInput};
-ghost use Rattle.hunk_run.specs.Refusals.{FromInput, IsOfSystem, StopsInput};
+ghost use Rattle.hunk_run.specs.Orders.{AnswersRewriting, RewritesFirst, RewritesTo, SaysInput};
+ghost use Rattle.hunk_run.specs.Refusals.{FromInput, failed_at_files};
 ghost use Rattle.hunk_run.specs.Runs.{rewritten_lines};
 ghost use Rattle.hunk_run.specs.Stores.{bytes_of_input};
 ghost use Rattle.hunk_run.specs.Wide.{IsUnread};
@@ -55,31 +53,14 @@ pub(crate) fn rewrite_file<S: Store>(
     Option<io::Error>,
     Option<Spelled>,
 )
-    // What OUT has taken: all of the file, or after a fault of writing the first bytes of it, and
-    // after another one nothing.
-    ensures rewrites { IfOk result.1 (λ done. RewritesInput
-        (bytes_of_input (S.holdings store) (S.made store) (Some input.now))
-        (RewritesTo (S.made store) (S.made result.0) output.now way.strip way.wide done)
-        FILE_BYTES) }
-    ensures write { IfErr result.1 (λ fault. (written : ℕ) → fault ≡ Write written → RewritesInput
-        (bytes_of_input (S.holdings store) (S.made store) (Some input.now))
-        (RewritesFirst (S.made store) (S.made result.0) output.now way.strip way.wide written)
-        FILE_BYTES) }
-    ensures untouched { IfErr result.1 (λ fault. ¬ IsWrite fault
-        → S.made result.0 ≡ S.made store) }
-    ensures holds { S.holdings result.0 ≡ S.holdings store }
-
-    // What was read, of whose failure the system tells, and when a file is written.
-    ensures stops { IfErr result.1 (λ fault. ¬ IsWrite fault → StopsInput
-        (bytes_of_input (S.holdings store) (S.made store) (Some input.now))
-        (λ before after. StopsRewriting way.wide before after FILE_BYTES) fault) }
-    ensures cause { is_some result.2 ≡ true ↔ IsErrAnd result.1 IsOfSystem }
-    ensures succeeds { HasRewriting way.wide
-        (unread (bytes_of_input (S.holdings store) (S.made store) (Some input.now))) FILE_BYTES
-        → result.2 ≡ None → IfErr result.1 (λ fault. fault ≡ Memory) }
+    ensures answers { AnswersRewriting (S.made store) (S.made result.0)
+        (bytes_of_input (S.holdings store) (S.opened store) (S.made store) (Some input.now))
+        output.now way.strip way.wide FILE_BYTES result.1 result.2 }
     ensures spelled { SaysInput false way.wide FILE_BYTES
-        (bytes_of_input (S.holdings store) (S.made store) (Some input.now)) (Some input.now)
-        (IsErrAnd result.1 IsUnread) result.3 }
+        (bytes_of_input (S.holdings store) (S.opened store) (S.made store) (Some input.now))
+        (Some input.now) (IsErrAnd result.1 IsUnread) result.3 }
+    ensures fails { S.failed result.0 ≡ (S.failed store || failed_at_files result.1) }
+    ensures holds { S.holdings result.0 ≡ S.holdings store }
 {
     let name = match copied(alloc, input, way.wide) {
         Ok(name) => name,
@@ -117,13 +98,14 @@ fn rewrite_input<S: Store>(
     Option<io::Error>,
     Option<Spelling>,
 )
-    ensures holds { S.holdings result.0 ≡ S.holdings store }
     ensures answers { AnswersRewriting (S.made store) (S.made result.0)
-        (bytes_of_input (S.holdings store) (S.made store) (Some input.now)) output.now
-        way.strip way.wide FILE_BYTES result.1 result.2 }
+        (bytes_of_input (S.holdings store) (S.opened store) (S.made store) (Some input.now))
+        output.now way.strip way.wide FILE_BYTES result.1 result.2 }
     ensures spelled { TellsInput
-        (bytes_of_input (S.holdings store) (S.made store) (Some input.now))
+        (bytes_of_input (S.holdings store) (S.opened store) (S.made store) (Some input.now))
         false way.wide FILE_BYTES result.1 result.3 }
+    ensures fails { S.failed result.0 ≡ (S.failed store || failed_at_files result.1) }
+    ensures holds { S.holdings result.0 ≡ S.holdings store }
 {
     if !way.wide || !store.is_regular(input.as_str()) {
         return rewrite_named(store, alloc, input, output, way);
@@ -139,6 +121,7 @@ fn rewrite_input<S: Store>(
             (store, Err(RunFault::Write { written }), cause, None)
         }
         Err(RunFault::Memory) => (store, Err(RunFault::Memory), cause, None),
+        Err(RunFault::Read { place }) => (store, Err(RunFault::Read { place }), cause, None),
         Err(_) => rewrite_named(store, alloc, input, output, way),
     }
 }
@@ -156,26 +139,29 @@ fn rewrite_named<S: Store>(
     Option<io::Error>,
     Option<Spelling>,
 )
-    ensures holds { S.holdings result.0 ≡ S.holdings store }
     ensures answers { AnswersRewriting (S.made store) (S.made result.0)
-        (bytes_of_input (S.holdings store) (S.made store) (Some input.now)) output.now
-        way.strip way.wide FILE_BYTES result.1 result.2 }
-    ensures spelled { TellsSpelling
-        (FromInput (bytes_of_input (S.holdings store) (S.made store) (Some input.now)))
+        (bytes_of_input (S.holdings store) (S.opened store) (S.made store) (Some input.now))
+        output.now way.strip way.wide FILE_BYTES result.1 result.2 }
+    ensures spelled { TellsSpelling (FromInput
+        (bytes_of_input (S.holdings store) (S.opened store) (S.made store) (Some input.now)))
         false way.wide FILE_BYTES result.1 result.3 }
+    ensures fails { S.failed result.0 ≡ (S.failed store || failed_at_files result.1) }
+    ensures holds { S.holdings result.0 ≡ S.holdings store }
 {
+    let mut store = store;
     let mut source = match store.open(input.as_str()) {
         Ok(file) => FromRead::new(file),
         Err(error) => return (store, Err(RunFault::Read { place: 0 }), Some(error), None),
     };
-    let (store, answer, error, spelling) = rewrite_to::<S, FromRead<S::File>, Brand>(
+    let (mut store, answer, error, spelling) = rewrite_to::<S, FromRead<S::File>, Brand>(
         store,
         alloc,
         &mut source,
         output,
         way,
     );
-    (store, answer, error.or(source.error()), spelling)
+    let cause = store.close(source);
+    (store, answer, error.or(cause), spelling)
 }
 
 /// Writes the file that the source gives again, to `output`, which is settled then. The store is
@@ -199,7 +185,7 @@ fn rewrite_to<S: Store, R: Source, K: Outset>(
 )
     // It only names what is there.
     requires { (S.holdings store ≡ K.holdings) × (S.made store ≡ K.made)
-        × (output.now ≡ K.name) }
+        × (output.now ≡ K.name) × (S.failed store ≡ K.failed) }
     ensures rewrites { IfOk result.1 (λ done. ReadsInput
         (RewritesTo (S.made store) (S.made result.0) output.now way.strip way.wide done)
         (R.supply source.old) (R.supply source.new) FILE_BYTES) }
@@ -210,6 +196,7 @@ fn rewrite_to<S: Store, R: Source, K: Outset>(
         → S.made result.0 ≡ S.made store) }
     ensures holds { S.holdings result.0 ≡ S.holdings store }
     ensures error { is_some result.2 ≡ true ↔ IsErrAnd result.1 IsWrite }
+    ensures fails { S.failed result.0 ≡ (S.failed store || is_some result.2) }
 
     // What was read, and when a file is written.
     ensures succeeds { HasRewriting way.wide (R.supply source.old) FILE_BYTES

@@ -2,7 +2,7 @@
 ghost use Rattle.std.specs.Prelude.{◌≡◌, Some};
 ghost use Rattle.hunk_run.specs.Notes.{spelled_line, spelled_told};
 
-use crate::note::shown;
+use crate::note::Named;
 use hunk_command_line::FileName;
 use hunk_wide::Spelling;
 use std::fmt;
@@ -42,7 +42,7 @@ impl fmt::Display for Spelled {
     ghost output = { λ spelled. Some (spelled_line spelled) };
 
     fn fmt<W: fmt::Write>(&self, f: &mut fmt::Formatter<W>) -> fmt::Result {
-        let name = shown(&self.name, "standard input");
+        let name = Named(&self.name, "standard input");
         let blocks = self.short_blocks;
         let ends = self.ends;
         let what = if blocks == 1 { "block" } else { "blocks" };

@@ -1,9 +1,8 @@
 //! A file that is made at its first byte.
-ghost use Rattle.std.specs.Prelude.{◌≡◌, ◌≤◌, ◌↔◌, ◌||◌, [], ℕ, List, None, Option, Some, false};
-ghost use Rattle.std.specs.Prelude.{IfOk, IsErrAnd, OnOk, is_err, is_some, length, true};
-ghost use Rattle.std.specs.Io.KnownBytes.{WriteAppends};
+ghost use Rattle.std.specs.Prelude.{◌≡◌, ◌||◌, [], ℕ, Bool, List, None, Option, false};
+ghost use Rattle.std.specs.Prelude.{OnOk, is_err, is_some};
 ghost use Rattle.hunk_run.specs.OutFile.{file_outlet};
-ghost use Rattle.hunk_run.specs.Settling.{SaysLost};
+ghost use Rattle.hunk_run.specs.Settling.{has_lost};
 ghost use Rattle.hunk_run.specs.Stores.{Holdings, MadeFile, MakesAtMost, MakesFile, MakesWhole};
 
 use crate::store::Store;
@@ -19,14 +18,18 @@ pub(crate) trait Outset {
     ghost made: { Option MadeFile };
 
     ghost name: { List ℕ };
+
+    ghost failed: { Bool };
 }
 
 impl Outset for Brand {
-    ghost holdings = { record { content = λ _. None; input = None } };
+    ghost holdings = { record { content = λ _. None; input = None; again = λ _. false } };
 
     ghost made = { None };
 
     ghost name = { [] };
+
+    ghost failed = { false };
 }
 
 /// A sink that makes its file in a store, at its first `push`.
@@ -43,7 +46,7 @@ pub(crate) struct ToFile<'a, S: Store, K: Outset> {
 }
 
 impl<'a, S: Store, K: Outset> Model for ToFile<'a, S, K> {
-    ghost use Rattle.std.specs.Prelude.{◌≡◌, is_some};
+    ghost use Rattle.std.specs.Prelude.{◌≡◌, ◌||◌, is_some};
     ghost use Rattle.hunk_run.specs.OutFile.{IsMade, OutFile};
 
     ghost Value = { OutFile };
@@ -55,13 +58,15 @@ impl<'a, S: Store, K: Outset> Model for ToFile<'a, S, K> {
     } };
 
     ghost invariant = { λ s. (s.name.now ≡ K.name) × (S.holdings s.store ≡ K.holdings)
-        × IsMade s.is_made K.made (S.made s.store) K.name s.taken.bytes };
+        × IsMade s.is_made K.made (S.made s.store) K.name s.taken.bytes
+        × (S.failed s.store ≡ (K.failed || is_some s.error)) };
 }
 
 impl<'a, S: Store, K: Outset> ToFile<'a, S, K> {
     /// A sink to the file of this name, of which nothing is touched yet.
     pub(crate) fn new(store: S, name: &'a FileName) -> ToFile<'a, S, K>
-        requires { (name.now ≡ K.name) × (S.holdings store ≡ K.holdings) × (S.made store ≡ K.made) }
+        requires { (name.now ≡ K.name) × (S.holdings store ≡ K.holdings) × (S.made store ≡ K.made)
+            × (S.failed store ≡ K.failed) }
         ensures empty { result.taken ≡ [] }
         ensures sound { result.failed ≡ false }
         ensures untouched { result.made ≡ K.made }
@@ -77,27 +82,28 @@ impl<'a, S: Store, K: Outset> ToFile<'a, S, K> {
     }
 
     /// Makes the file where it is not made yet.
-    fn make(&mut self) -> io::Result<()>
-        ensures same { (self.new.taken ≡ self.old.taken) × (self.new.failed ≡ self.old.failed) }
+    ///
+    /// # Errors
+    ///
+    /// `Failed` where it can't be made.
+    fn make(&mut self) -> Result<(), Failed>
         ensures made { OnOk result (MakesFile K.made self.new.made K.name self.new.taken) }
+        ensures failed { self.new.failed ≡ (self.old.failed || is_err result) }
+        ensures same { self.new.taken ≡ self.old.taken }
     {
-        if !self.is_made {
-            self.store.create(self.name.as_str())?;
-            self.is_made = true;
+        if self.is_made {
+            return Ok(());
         }
-        Ok(())
-    }
-
-    /// Writes to the file, which is made first where it is not there yet.
-    fn write(&mut self, bytes: &[u8]) -> io::Result<usize>
-        ensures inside { IfOk result (λ n. n ≤ length bytes.now) }
-        ensures same { self.new.failed ≡ self.old.failed }
-        ensures bytes { WriteAppends (Some self.old.taken) (Some self.new.taken) result bytes.now }
-    {
-        self.make()?;
-        let count = self.store.write(bytes)?;
-        self.taken = self.taken.and(&bytes[..count]);
-        Ok(count)
+        match self.store.create(self.name.as_str()) {
+            Ok(()) => {
+                self.is_made = true;
+                Ok(())
+            }
+            Err(error) => {
+                self.error = Some(error);
+                Err(Failed)
+            }
+        }
     }
 
     /// Has the file keep all that was pushed, and waits until it does. A pipe or a terminal has
@@ -112,23 +118,13 @@ impl<'a, S: Store, K: Outset> ToFile<'a, S, K> {
         ensures failed { self.new.failed ≡ (self.old.failed || is_err result) }
         ensures same { self.new.taken ≡ self.old.taken }
     {
-        match self.loss() {
+        self.make()?;
+        match loss_of(self.store.keep()) {
             None => Ok(()),
             Some(error) => {
                 self.error = Some(error);
                 Err(Failed)
             }
-        }
-    }
-
-    /// What is amiss, if anything, where the file is asked to keep all that was pushed.
-    fn loss(&mut self) -> Option<io::Error>
-        ensures settled { result ≡ None → MakesWhole K.made self.new.made K.name self.new.taken }
-        ensures same { (self.new.taken ≡ self.old.taken) × (self.new.failed ≡ self.old.failed) }
-    {
-        match self.make() {
-            Ok(()) => loss_of(self.store.keep()),
-            Err(error) => Some(error),
         }
     }
 
@@ -138,6 +134,7 @@ impl<'a, S: Store, K: Outset> ToFile<'a, S, K> {
         ensures made { S.made result.0 ≡ self.entry.made }
         ensures makes { MakesAtMost K.made self.entry.made K.name self.entry.taken }
         ensures error { is_some result.1 ≡ self.entry.failed }
+        ensures failed { S.failed result.0 ≡ (K.failed || self.entry.failed) }
     {
         let ToFile {
             store,
@@ -155,12 +152,16 @@ impl<S: Store, K: Outset> Sink for ToFile<'_, S, K> {
     ghost outlet = { λ s. file_outlet s };
 
     fn push(&mut self, bytes: &[u8]) -> Result<usize, Failed> {
-        match self.write(bytes) {
+        self.make()?;
+        match self.store.write(bytes) {
             Ok(0) if !bytes.is_empty() => {
                 self.error = Some(io::Error::from(io::ErrorKind::WriteZero));
                 Err(Failed)
             }
-            Ok(n) => Ok(n),
+            Ok(count) => {
+                self.taken = self.taken.and(&bytes[..count]);
+                Ok(count)
+            }
             Err(error) => {
                 self.error = Some(error);
                 Err(Failed)
@@ -171,8 +172,8 @@ impl<S: Store, K: Outset> Sink for ToFile<'_, S, K> {
 
 /// What is amiss where a file that answers so does not keep all that was written, as far as it
 /// keeps anything.
-fn loss_of(answer: io::Result<()>) -> Option<io::Error>
-    ensures { is_some result ≡ true ↔ IsErrAnd answer SaysLost }
+pub(crate) fn loss_of(answer: io::Result<()>) -> Option<io::Error>
+    ensures { is_some result ≡ has_lost answer }
 {
     match answer {
         Ok(()) => None,

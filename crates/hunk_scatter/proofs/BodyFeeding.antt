@@ -1,14 +1,14 @@
 -- A piece of a source that the loader of a body is fed, and why none is.
-use Rattle.std.proofs.Common.{◌≡◌, ℕ, zero, suc, ◌+◌, ◌^◌, ◌<◌, ◌≤◌, List, [], ◌++◌, length, take, None, Ok, Err, true, false, refl, sym, ap, subst, ◌∙◌, append-nil, length-append, arith, inl, inr}
+use Rattle.std.proofs.Common.{◌≡◌, ℕ, zero, suc, ◌+◌, ◌^◌, ◌<◌, ◌≤◌, List, [], ◌++◌, length, take, drop, None, Ok, Err, true, false, refl, sym, ap, subst, ◌∙◌, append_assoc, append-nil, take-append-drop, length-append, arith, inl, inr}
 use Rattle.std.proofs.lemmas.List.{length-take-le, take-take}
 use Rattle.std.specs.{Prelude.IsTrue, Io.KnownBytes.Consumes}
 use Rattle.hunk_words.specs.{Carriers.Supply, declared.fault.Fault.Fault}
 use Rattle.hunk_grammar.specs.declared.file_kind.Sniff.TheVariants as sniffs
-use Rattle.hunk_files.specs.{FileParts.IsPartAt, declared.row.Row.Row}
+use Rattle.hunk_files.specs.{Fault.HasRefusal, FileParts.IsPartAt, declared.row.Row.Row}
 use Rattle.hunk_files.specs.declared.part.Part.TheVariants as parts
 use Rattle.hunk_scatter.specs.{BodyFeeds.{FeedsMore, IsCutShort}, LoadOutcomes.{GoesPastNoFile, IsBodyStop, IsReadFault}, LoadRefusals.IsFaultIn}
-use Rattle.hunk_scatter.specs.{LoaderReasons.is_of_body, LoaderValues.{BodyLoaderValue, FeedsFront, IsHunkRefusal, IsWholeFile, MayGoOnInFile}}
-use Rattle.hunk_scatter.proofs.{Faults.{refusal_told, told_at}, Feeding.{file_fed, file_within_more}, PartLaws.read_fault_in}
+use Rattle.hunk_scatter.specs.{LoaderReasons.is_of_body, LoaderValues.{BodyLoaderValue, FeedsFront, HasNoRefusal, IsBodyRefusal, IsHunkRefusal, IsWholeFile, MayGoOnInFile}}
+use Rattle.hunk_scatter.proofs.{Faults.{no_refusal_on, part_within, refusal_after, refusal_ends, refusal_told, refusal_within, told_at}, Feeding.{file_fed, file_within_more}, PartLaws.read_fault_in}
 
 -- nothing was given
 pub none_given : (old new : Supply) (limit : ℕ) (loader : BodyLoaderValue) (want : ℕ) (f : Fault) → Consumes old.left new.left [] → length loader.fed ≤ limit → IsCutShort loader want →
@@ -63,6 +63,37 @@ whole_piece old new limit before after piece want n consumed within works short 
     }
 
 -- ---- of what the source holds
+
+-- the longword that is refused ends in the piece
+pub refused_in : (fed piece : List ℕ) (f : Fault) → HasNoRefusal fed → length (fed ++ piece) < 2 ^ 64 → IsBodyRefusal (fed ++ piece) f → (length fed < f.place + 4) × (f.place + 4 ≤ length (fed ++ piece))
+refused_in fed piece f clean few r =
+    let h : HasRefusal (fed ++ piece) f.place f.reason = refusal_told (fed ++ piece) f few r in
+    (refusal_after fed piece f.place f.reason clean h, refusal_ends (fed ++ piece) f.place f.reason h)
+
+-- up to its end it is the refusal of the bytes
+refusal_cut : (bytes rest : List ℕ) (hunk : ℕ) (f : Fault) → length (bytes ++ rest) < 2 ^ 64 → length bytes ≡ f.place + 4 → IsHunkRefusal (bytes ++ rest) hunk f → IsHunkRefusal bytes hunk f
+refusal_cut bytes rest hunk f few ends k =
+    let is : k.refusal.0 ≡ f.place = told_at (bytes ++ rest) f few k.refusal in
+    record {
+      refusal = (k.refusal.0, refusal_within bytes rest k.refusal.0 f.reason k.refusal.1 (omega (arith, is, ends)), k.refusal.2);
+      of_hunk = part_within sniffs.Load bytes rest k.refusal.0 (parts.Hunk hunk) k.of_hunk (omega (arith, is, ends));
+    }
+
+-- what is held was taken up to the end of the longword that is refused
+pub held_refused : (old new : Supply) (limit : ℕ) (before after : BodyLoaderValue) (shown : List ℕ) (most n : ℕ) (f : Fault) → Consumes old.left new.left (take n shown) → length before.fed + most ≤ limit → limit < 2 ^ 64 →
+    most ≤ length shown → length before.fed + n ≡ f.place + 4 → n ≤ most → after.rows ≡ before.rows → IsHunkRefusal (before.fed ++ take most shown) after.hunk f → IsTrue (is_of_body f.reason) →
+    FeedsMore old new limit before after (Err f)
+held_refused old new limit before after shown most n f consumed within bound fits ends le rows k own =
+    let count : length (take n shown) ≡ n = length-take-le n shown (omega (arith, le, fits)) in
+    let size : length (before.fed ++ take n shown) ≡ f.place + 4 = omega (arith, length-append before.fed (take n shown), count, ends) in
+    let joined : before.fed ++ take most shown ≡ (before.fed ++ take n shown) ++ drop n (take most shown) =
+    ap (λ (xs : List ℕ). before.fed ++ xs) (sym (take-append-drop n (take most shown)))
+    ∙ ap (λ (xs : List ℕ). before.fed ++ (xs ++ drop n (take most shown))) (take-take n most shown le)
+    ∙ sym (append_assoc before.fed (take n shown) (drop n (take most shown))) in
+    let few : length ((before.fed ++ take n shown) ++ drop n (take most shown)) < 2 ^ 64 = omega (arith, ap length joined, length-append before.fed (take most shown), length-take-le most shown fits, within, bound) in
+    let cut : IsHunkRefusal (before.fed ++ take n shown) after.hunk f =
+    refusal_cut (before.fed ++ take n shown) (drop n (take most shown)) after.hunk f few size (subst (λ (bs : List ℕ). IsHunkRefusal bs after.hunk f) joined k) in
+    refused old new limit before after (take n shown) f consumed (omega (arith, length-append before.fed (take n shown), count, le, within)) bound rows cut own (λ on. absurd (no_refusal_on _ _ _ on cut.refusal.1))
 
 -- where no file is whole yet, something is taken
 some_taken : (before after : BodyLoaderValue) (n : ℕ) (piece : List ℕ) → 0 < length piece → (IsWholeFile before.rows before.fed → ⊥) → after.rows ≡ before.rows → FeedsFront before.fed piece after.fed n →

@@ -1,12 +1,14 @@
 -- Faults of bytes that go on.
-use Rattle.std.proofs.Common.{rules, ◌≡◌, ℕ, ◌+◌, ◌-◌, ◌^◌, ◌<◌, ◌≤◌, List, [], ◌∷◌, ◌++◌, length, take, drop, length-append, length-drop, arith, refl, sym, ap, subst, ◌∙◌, append_assoc, append-nil, take-append-drop, ◌⊎◌, inl, inr}
+use Rattle.std.proofs.Common.{rules, ◌≡◌, ℕ, ◌+◌, ◌-◌, ◌/◌, ◌^◌, ◌<◌, ◌≤◌, List, [], ◌∷◌, ◌++◌, length, take, drop, length-append, length-drop, arith, refl, sym, ap, subst, ◌∙◌, append_assoc, append-nil, take-append-drop, ◌⊎◌, inl, inr}
 use Rattle.std.proofs.Math.Seq.{take-add}
-use Rattle.std.proofs.lemmas.List.{take_rest}
+use Rattle.std.proofs.lemmas.List.{take-append-le, take_rest}
 use Rattle.hunk_words.specs.{declared.fault.Fault.Fault, declared.reason.Reason.Reason, Longs.{longs, bytes_of}}
 use Rattle.hunk_words.proofs.LongLaws.{length-longs}
-use Rattle.hunk_files.specs.{Fault.HasRefusal, LoadText.text}
+use Rattle.hunk_grammar.specs.declared.file_kind.Sniff.{Sniff}
+use Rattle.hunk_files.specs.{Fault.HasRefusal, FileParts.{IsPartAfter, IsPartAt}, LoadText.text, declared.part.Part.Part}
 use Rattle.hunk_files.proofs.walk.Scan.{no_fault}
-use Rattle.hunk_scatter.specs.LoaderValues.{IsBodyRefusal, MayGoOnInFile}
+use Rattle.hunk_scatter.specs.LoaderValues.{HasNoRefusal, IsBodyRefusal, MayGoOnInFile}
+use Rattle.hunk_scatter.proofs.ListCuts.{fronts}
 
 pub longs-more : (bytes more : List ℕ) → (rest : List ℕ) × (longs (bytes ++ more) ≡ longs bytes ++ rest)
 longs-more [] more = (longs more, refl)
@@ -54,6 +56,45 @@ pub refusal_front : (fed piece : List ℕ) (n at : ℕ) (reason : Reason) → Ha
 refusal_front fed piece n at reason h =
     subst (λ (bs : List ℕ). HasRefusal bs at reason) (append_assoc fed (take n piece) (drop n piece) ∙ ap (λ (xs : List ℕ). fed ++ xs) (take-append-drop n piece))
     (refusal_more (fed ++ take n piece) (drop n piece) at reason h)
+
+-- The longword that is refused ends in the bytes.
+pub refusal_ends : (bytes : List ℕ) (at : ℕ) (reason : Reason) → HasRefusal bytes at reason → at + 4 ≤ length bytes
+refusal_ends bytes at reason h = omega (arith, h.place, ap length h.split, length-append h.before (h.word ∷ h.after), length-longs bytes)
+
+-- A refusal is one of the front that its longword ends in.
+pub refusal_within : (bytes rest : List ℕ) (at : ℕ) (reason : Reason) → HasRefusal (bytes ++ rest) at reason → at + 4 ≤ length bytes → HasRefusal bytes at reason
+refusal_within bytes rest at reason h inside = go (fronts h.before h.word h.after (longs bytes) r.0 (sym h.split ∙ r.1))
+  where
+    r : (more : List ℕ) × (longs (bytes ++ rest) ≡ longs bytes ++ more)
+    r = longs-more bytes rest
+
+    go : ((m : List ℕ) × (longs bytes ≡ h.before ++ h.word ∷ m)) ⊎ ((m : List ℕ) × (h.before ≡ longs bytes ++ m)) → HasRefusal bytes at reason
+    go (inl (m, e)) = record {
+      before = h.before;
+      word = h.word;
+      after = m;
+      role = h.role;
+      split = e;
+      place = h.place;
+      expects = h.expects;
+      refuses = h.refuses;
+    }
+    go (inr (m, e)) = absurd (omega (arith, inside, h.place, ap length e, length-append (longs bytes) m, length-longs bytes))
+
+-- Where none of what was fed is refused, the longword ends in the piece.
+pub refusal_after : (fed piece : List ℕ) (at : ℕ) (reason : Reason) → HasNoRefusal fed → HasRefusal (fed ++ piece) at reason → length fed < at + 4
+refusal_after fed piece at reason clean h = omega (arith, not_before)
+  where
+    not_before : at + 4 ≤ length fed → ⊥
+    not_before le = clean at reason (refusal_within fed piece at reason h le)
+
+-- The part that a longword is of goes by the longwords before it.
+pub part_within : (kind : Sniff) (bytes rest : List ℕ) (place : ℕ) (part : Part) → IsPartAt kind (bytes ++ rest) place part → place ≤ length bytes → IsPartAt kind bytes place part
+part_within kind bytes rest place part h inside =
+    let r = longs-more bytes rest in
+    let same : take (place / 4) (longs (bytes ++ rest)) ≡ take (place / 4) (longs bytes) =
+    ap (λ (xs : List ℕ). take (place / 4) xs) r.1 ∙ take-append-le (place / 4) (longs bytes) r.0 (omega (arith, inside, length-longs bytes)) in
+    subst (λ (ws : List ℕ). IsPartAfter kind ws part) same h
 
 -- So much of a piece, and so much of its rest.
 pub fed_on : (fed piece front after : List ℕ) (n m : ℕ) → front ≡ fed ++ take n piece → after ≡ front ++ take m (take (length piece - n) (drop n piece)) → after ≡ fed ++ take (n + m) piece

@@ -1,5 +1,5 @@
 -- What was wanted is consumed whole, and goes past no end.
-use Rattle.std.proofs.Common.{rules, ◌≡◌, ℕ, suc, ◌+◌, ◌<◌, ◌≤◌, List, [], ◌∷◌, ◌++◌, length, take, refl, sym, ap, subst, ◌∙◌, append_assoc, length-append, length-take, arith, ◌⊎◌, inl, inr}
+use Rattle.std.proofs.Common.{◌≡◌, ℕ, suc, ◌+◌, ◌<◌, ◌≤◌, List, [], ◌∷◌, ◌++◌, length, take, refl, sym, ap, subst, ◌∙◌, append_assoc, length-append, length-take, arith, ◌⊎◌, inl, inr}
 use Rattle.std.proofs.lemmas.Grind.{common_steps}
 use Rattle.std.proofs.lemmas.List.{take_all}
 use Rattle.std.specs.Io.KnownBytes.{Consumes}
@@ -31,9 +31,6 @@ fronts_of (x ∷ xs) cs (y ∷ ys) bs e =
 
 pub gives_more : (a b c : Supply) (limit : ℕ) (fed piece after : List ℕ) → Gives a b limit fed → Consumes b.left c.left piece → length fed + length piece ≤ limit → after ≡ fed ++ piece → Gives a c limit after
 gives_more a b c limit fed piece after g k le e = grind (arith, common_steps)
-
-pub gives_none : (a b c : Supply) (limit : ℕ) (fed : List ℕ) → Gives a b limit fed → Consumes b.left c.left [] → Gives a c limit fed
-gives_none a b c limit fed g k = search rules
 
 -- ---- in a header
 

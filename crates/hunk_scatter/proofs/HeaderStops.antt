@@ -1,8 +1,9 @@
 -- What stops the loader of a header is the fault of the bytes, the budget, or that memory ran out.
 use Rattle.std.proofs.Common.{rules, ◌≡◌, true, false, ℕ, ◌+◌, ◌-◌, ◌*◌, ◌<◌, List, [], ◌∷◌, ◌++◌, length, take, drop, sym, ap, subst, ◌∙◌, append_assoc, append-nil, arith, length-append, Some, None, ◌⊎◌, inl, inr}
 use Rattle.std.proofs.lemmas.Grind.{common_steps}
+use Rattle.std.proofs.lemmas.List.{drop_all}
 use Rattle.std.specs.Prelude.{IsTrue}
-use Rattle.hunk_words.specs.{Bits.size_longs, Longs.{longs, IsLong, AreLongs, IsBytes}, declared.{fault.Fault.Fault, reason.Reason.Reason}}
+use Rattle.hunk_words.specs.{Bits.size_longs, Longs.{bytes_of, longs, IsLong, AreLongs, IsBytes}, declared.{fault.Fault.Fault, reason.Reason.Reason}}
 use Rattle.hunk_words.proofs.LongLaws.{longs-bytes_of, length-bytes_of}
 use Rattle.hunk_blocks.proofs.Lists.{All-more}
 use Rattle.hunk_files.specs.{Fault.{Expects, HasRefusal, is_word_refusal}, Image.declared_bytes, LoadFile.TableEntry}
@@ -15,6 +16,7 @@ use Rattle.hunk_files.proofs.{walk.Accepted.header_accepted, walk.Reading.{reads
 use Rattle.hunk_scatter.specs.HeaderBytes.{IsHeaderTable, header_words, header_bytes, IsHeaderFront, MayGoOnInHeader, entries_so_far}
 use Rattle.hunk_scatter.specs.HeaderFaults.{ExceedsBudget, IsOverBudget, IsBudgetOrMemory, IsHeaderFaultBy, IsHeaderFault}
 use Rattle.hunk_scatter.specs.HeaderLoaderFields.{adds, declares, StopsFor, HeaderStop, StopsInPiece}
+use Rattle.hunk_scatter.specs.LoadOutcomes.{GoesPastNoHeader}
 use Rattle.hunk_scatter.proofs.{After.{stays_after, table_after, expected_passes, header_passes, role_here}, HeaderGrows.{row_in_table, table_grows}}
 use Rattle.hunk_scatter.proofs.HeaderReads.{here, read_here, position_here, refusal_is, sum_here}
 use Rattle.hunk_scatter.proofs.{HeaderSteps.{IsInHeader, not_in_body, step_adds, step_opens}, PartLaws.{part_after, part_in_header}}
@@ -182,6 +184,34 @@ module _ (budget : ℕ) (bytes rest : List ℕ) (f : Fault) (s : HeaderStop budg
       go (inl (inl r)) = refused r m.fits
       go (inl (inr o)) = inl o.reason_is
       go (inr l) = inr l.reason_is
+
+  -- The bytes go past no header.
+  pub stop_within : GoesPastNoHeader bytes
+  stop_within t more is e = go (fronts s.ws s.word [] (header_words t) (longs more) spelled)
+    where
+      spelled : s.ws ++ s.word ∷ [] ≡ header_words t ++ longs more
+      spelled =
+          sym (append-nil (s.ws ++ s.word ∷ []))
+          ∙ sym (longs-bytes_of (s.ws ++ s.word ∷ []) [] before_longs)
+          ∙ ap longs (append-nil (bytes_of (s.ws ++ s.word ∷ [])) ∙ sym s.spelled ∙ e)
+          ∙ longs-bytes_of (header_words t) more (header_longs t is)
+
+      go : ((m : List ℕ) × (header_words t ≡ s.ws ++ s.word ∷ m)) ⊎ ((m : List ℕ) × (s.ws ≡ header_words t ++ m)) → more ≡ []
+      go (inl (m, d)) =
+          drop_all 0 more
+          (omega (
+            arith,
+            ap length (sym s.spelled ∙ e),
+            length-bytes_of (s.ws ++ s.word ∷ []),
+            length-append (header_bytes t) more,
+            length-bytes_of (header_words t),
+            ap length d,
+            length-append s.ws (s.word ∷ m),
+            length-append s.ws (s.word ∷ []),
+          ))
+      go (inr (m, d)) =
+          absurd (not_in_body at header_at
+          (stays_after (header_words t) m (open_hunk (length t) [] t) at (header_read t is) (table_after t is) (subst (λ (xs : List ℕ). HasRead xs (More at)) d read_at)))
 
 -- A stop in the rest of a piece is one in the piece.
 pub stops_on : (budget same : ℕ) (fed piece front : List ℕ) (n : ℕ) (f : Fault) → same ≡ budget → front ≡ fed ++ take n piece →

@@ -1,4 +1,5 @@
 pub mod After
+pub mod AllShown
 pub mod BodyChecks
 pub mod BodyFeeding
 pub mod BodyFields
@@ -10,6 +11,7 @@ pub mod Feeding
 pub mod Forget
 pub mod HeaderEnds
 pub mod HeaderEntries
+pub mod HeaderFeeding
 pub mod HeaderFields
 pub mod HeaderFronts
 pub mod HeaderGrows

@@ -56,6 +56,10 @@ pub record CompletesRow (bytes : List ℕ) (at : ℕ) : Type 0 where
       → header_bytes table ≡ bytes_of (before ++ word ∷ []) ++ more → length rest ≤ length more)
       → IsHeaderFront bytes
 
+-- A row is completed by a longword that ends in the piece, after the bytes that were fed.
+abbrev pub CompletesRowIn : List ℕ → List ℕ → Type 0
+CompletesRowIn fed piece = (at : ℕ) × CompletesRow (fed ++ piece) at × (length fed < at + 4)
+
 -- What the loader of a header answers: Budget where its table passes it, OutOfMemory where memory ran out for a row, else
 -- the fault of the bytes.
 abbrev pub IsHeaderFaultBy : Reason → ℕ → List ℕ → ℕ → Type 0

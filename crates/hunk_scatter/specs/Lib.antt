@@ -5,6 +5,7 @@ pub mod BodySteps
 pub mod Checking
 pub mod HeaderBytes
 pub mod HeaderFaults
+pub mod HeaderFeeds
 pub mod HeaderLoaderFields
 pub mod HeaderOwing
 pub mod HeaderSizes

@@ -1,5 +1,5 @@
 -- A load from a source.
-use Rattle.std.specs.Prelude.{◌≡◌, ℕ, ◌*◌, ◌/◌, ◌<◌, ◌≤◌, true, false, List, [], ◌++◌, length, map, Some, None, ◌⊎◌, IsTrue, Result, IfErr, MatchResult, IsErrAnd, take}
+use Rattle.std.specs.Prelude.{◌≡◌, ℕ, ◌+◌, ◌*◌, ◌/◌, ◌<◌, ◌≤◌, true, false, List, [], ◌++◌, length, map, Some, None, ◌⊎◌, IsTrue, Result, IfErr, MatchResult, IsErrAnd, take}
 use Rattle.std.specs.Io.KnownBytes.{Consumes, IsAtEnd}
 use Rattle.hunk_words.specs.Carriers.{Supply}
 use Rattle.hunk_words.specs.Longs.{bytes_of}
@@ -31,6 +31,19 @@ GivesAtMost old new limit = (given : List ℕ) × Gives old new limit given
 -- These bytes, the last of all, are still to be read.
 abbrev pub KeepsRest : Supply → List ℕ → Type 0
 KeepsRest now rest = (front : List ℕ) × (now.left ≡ Some (front ++ rest))
+
+-- All that the source has left is at hand.
+abbrev pub IsAllShown : Supply → List ℕ → Type 0
+IsAllShown supply shown = supply.left ≡ Some shown
+
+-- It stays so.
+abbrev pub StaysAllShown : Supply → List ℕ → Supply → List ℕ → Type 0
+StaysAllShown old shown new after = IsAllShown old shown → IsAllShown new after
+
+-- After these bytes it has given none past the longword at the fault.
+abbrev pub TakesNoFurther : Supply → Supply → List ℕ → Fault → Type 0
+TakesNoFurther old new before f =
+    (piece : List ℕ) × Consumes old.left new.left piece × (length (before ++ piece) ≤ f.place + 4)
 
 -- The table declares more than the budget, or a hunk of it has no base.
 abbrev pub IsNotPlaced : Placing → ℕ → List TableEntry → Type 0

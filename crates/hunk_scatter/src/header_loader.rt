@@ -17,6 +17,7 @@ ghost use Rattle.hunk_scatter.specs.HeaderBytes.{IsHeaderTable, header_bytes, Is
 ghost use Rattle.hunk_scatter.specs.HeaderBytes.{entries_so_far};
 ghost use Rattle.hunk_scatter.specs.HeaderFaults.{ExceedsBudget, IsOverBudget, IsBudgetOrMemory};
 ghost use Rattle.hunk_scatter.specs.HeaderFaults.{KeepsToBudget, IsHeaderFault};
+ghost use Rattle.hunk_scatter.specs.HeaderFeeds.{StopsAtLongword};
 ghost use Rattle.hunk_scatter.specs.HeaderLoaderFields.{FeedsHeaderOrStops};
 ghost use Rattle.hunk_scatter.specs.HeaderOwing.{HasRowsToCome, HasHeaderToCome};
 ghost use Rattle.hunk_scatter.specs.Owing.{most_want};
@@ -199,6 +200,8 @@ impl HeaderLoader {
         ensures accepts { self.old.refused ≡ None → MayGoOnInHeader (self.old.fed ++ piece.now)
             → IfErr result (λ f. IsBudgetOrMemory f.reason) }
         ensures own_reasons { IfErr result (λ f. IsTrue (is_of_header f.reason)) }
+        ensures at_longword { self.old.refused ≡ None
+            → IfErr result (StopsAtLongword self.old.budget self.old.fed piece.now) }
 
         // A loader that has refused.
         ensures remembers { IfErr result (λ f. self.new.refused ≡ Some f) }

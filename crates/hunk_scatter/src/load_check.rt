@@ -5,6 +5,7 @@ ghost use Rattle.hunk_files.specs.Fault.{BeginsWithLoadFile, HasFault, is_load_r
 ghost use Rattle.hunk_files.specs.FileParts.{IsPartAt};
 ghost use Rattle.hunk_grammar.specs.declared.file_kind.Sniff.TheVariants.{Load};
 ghost use Rattle.hunk_scatter.specs.HeaderBytes.{header_bytes};
+ghost use Rattle.hunk_scatter.specs.HeaderFaults.{CompletesRowIn};
 ghost use Rattle.hunk_scatter.specs.LoadChecks.{IsBodyAfter, IsStageAfter, IsSummary, counted_bytes};
 ghost use Rattle.hunk_scatter.specs.LoadChecks.{no_budget};
 
@@ -116,7 +117,8 @@ impl BodyCheck {
 fn feed_header(loader: HeaderLoader, piece: &[u8]) -> Result<Stage, AllocError>
     requires reading { loader.refused ≡ None }
     requires budget { loader.budget ≡ no_budget }
-    ensures { IfOk result (λ stage. IsStageAfter stage (loader.fed ++ piece.now)) }
+    ensures stage { IfOk result (λ stage. IsStageAfter stage (loader.fed ++ piece.now)) }
+    ensures wants { IfErr result (λ _. CompletesRowIn loader.fed piece.now) }
 {
     let mut loader = loader;
     let taken = match loader.feed(piece) {
@@ -164,9 +166,11 @@ impl LoadCheck {
     ///
     /// # Errors
     ///
-    /// `AllocError` where memory is refused for a hunk's row.
+    /// `AllocError` where memory is refused for a hunk's row. The piece has the last byte of the
+    /// longword that completes it.
     pub fn feed(self, piece: &[u8]) -> Result<LoadCheck, AllocError>
-        ensures { IfOk result (λ next. next ≡ self ++ piece.now) }
+        ensures fed { IfOk result (λ next. next ≡ self ++ piece.now) }
+        ensures wants { IfErr result (λ _. CompletesRowIn self piece.now) }
     {
         let LoadCheck { stage, history } = self;
         let stage = match stage {

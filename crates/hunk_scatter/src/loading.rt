@@ -1,5 +1,6 @@
 //! A load from a source.
-ghost use Rattle.std.specs.Prelude.{◌≡◌, ℕ, ◌+◌, ◌<◌, ◌≤◌, Bool, List, ◌++◌, length, [], take, None, IfOk};
+ghost use Rattle.std.specs.Prelude.{◌≡◌, ℕ, ◌+◌, ◌<◌, ◌≤◌, ◌^◌, Bool, List, ◌++◌, length, [], take, None};
+ghost use Rattle.std.specs.Prelude.{IfOk, ◌⊎◌};
 ghost use Rattle.std.specs.Prelude.{IfErr, OnOk, OnErr};
 ghost use Rattle.std.specs.Prelude.{IsErrAnd, MatchResult};
 ghost use Rattle.std.specs.Io.KnownBytes.{Consumes};
@@ -7,12 +8,14 @@ ghost use Rattle.hunk_words.specs.declared.reason.Reason.TheVariants as reasons;
 ghost use Rattle.hunk_files.specs.Image.{declared_bytes};
 ghost use Rattle.hunk_files.specs.declared.part.Part.TheVariants.{Header, Hunk};
 ghost use Rattle.hunk_scatter.specs.BodyFeeds.{FeedsMore, IsCutShort};
-ghost use Rattle.hunk_scatter.specs.HeaderBytes.{IsHeaderTable, header_bytes};
+ghost use Rattle.hunk_scatter.specs.HeaderBytes.{IsHeader, IsHeaderTable, header_bytes};
 ghost use Rattle.hunk_scatter.specs.HeaderFaults.{IsOverBudget};
-ghost use Rattle.hunk_scatter.specs.LoaderValues.{IsImageOf, IsWholeFile};
-ghost use Rattle.hunk_scatter.specs.LoadOutcomes.{Gives, GoesPastNoFile, GoesPastNoHeader, HasFileWithin};
-ghost use Rattle.hunk_scatter.specs.LoadOutcomes.{IsBodyStop, IsHeaderStop};
-ghost use Rattle.hunk_scatter.specs.LoadOutcomes.{IsReadFault, Loads, PassesBudget, StopsAfterFile};
+ghost use Rattle.hunk_scatter.specs.HeaderFeeds.{FeedsHeader, IsHeaderCutShort};
+ghost use Rattle.hunk_scatter.specs.LoaderValues.{HasNoRefusal, IsImageOf, IsWholeFile};
+ghost use Rattle.hunk_scatter.specs.LoadOutcomes.{Gives, GivesAtMost, GoesPastNoFile, GoesPastNoHeader};
+ghost use Rattle.hunk_scatter.specs.LoadOutcomes.{HasFileWithin, IsAllShown, IsBodyStop, IsHeaderStop};
+ghost use Rattle.hunk_scatter.specs.LoadOutcomes.{IsReadFault, Loads, PassesBudget, StaysAllShown};
+ghost use Rattle.hunk_scatter.specs.LoadOutcomes.{StopsAfterFile, TakesNoFurther};
 ghost use Rattle.hunk_scatter.specs.LoadOutcomes.{StopsAfterHeader, TellsFailure};
 ghost use Rattle.hunk_scatter.specs.LoadRefusals.{IsFaultIn, LoadsOrNames, NamesPart, fault_of, without_part};
 ghost use Rattle.hunk_scatter.specs.Owing.{most_want};
@@ -78,6 +81,117 @@ fn read_piece<R: Source>(
     }
 }
 
+/// How many bytes of a piece there are up to the end of the longword at this place, where so many
+/// bytes were fed before the piece.
+#[inline(always)]
+fn up_to_end(place: u64, fed: u64) -> usize
+    requires ends_in_piece { fed < place + 4 }
+    requires room { place + 4 < 2 ^ 64 }
+    ensures { fed + result ≡ place + 4 }
+{
+    (place + 4 - fed) as usize
+}
+
+/// Feeds the loader a piece of at most `want` bytes, which is pulled into the buffer.
+#[inline(always)]
+fn feed_header_pulled<R: Source>(
+    r: &mut R,
+    buf: &mut [u8],
+    loader: &mut HeaderLoader,
+    want: usize,
+    file_bytes: u64,
+) -> Result<(), LoadFault>
+    requires reading { loader.old.refused ≡ None }
+    requires below_limit { length loader.old.fed ≤ file_bytes }
+    requires nonempty { 0 < want }
+    requires buffer { want ≤ length buf.old }
+    requires cut_short { IsHeaderCutShort loader.old want }
+    requires none_held { (R.shown r.old ≡ []) ⊎ (file_bytes ≤ length loader.old.fed) }
+    ensures feeds { FeedsHeader (R.supply r.old) (R.supply r.new) file_bytes
+        loader.old loader.new result }
+    ensures buffer_kept { length buf.new ≡ length buf.old }
+    ensures tells_read { TellsFailure (R.supply r.old) (R.supply r.new) result }
+    ensures shows { OnOk result (StaysAllShown (R.supply r.old) (R.shown r.old)
+        (R.supply r.new) (R.shown r.new)) }
+    ensures no_further { IsAllShown (R.supply r.old) (R.shown r.old)
+        → IfErr result (TakesNoFurther (R.supply r.old) (R.supply r.new) loader.old.fed) }
+{
+    let n = match read_piece(r, buf, want, loader.fed(), file_bytes) {
+        Ok(n) => n,
+        Err(fault) => return Err(fault),
+    };
+    match loader.feed(&buf[..n]) {
+        Ok(_) => Ok(()),
+        Err(fault) => Err(fault),
+    }
+}
+
+/// Feeds the loader what the source holds, where it lies, and takes of it what the loader took: all
+/// up to the limit, or to the end of the header. Where a longword is refused, it is the last that is
+/// taken.
+#[inline(always)]
+fn feed_header_held<R: Source>(
+    r: &mut R,
+    loader: &mut HeaderLoader,
+    file_bytes: u64,
+) -> Result<(), LoadFault>
+    requires reading { loader.old.refused ≡ None }
+    requires below_limit { length loader.old.fed < file_bytes }
+    requires some { 0 < length (R.shown r.old) }
+    requires goes_on { ¬ IsHeader loader.old.fed }
+    ensures feeds { FeedsHeader (R.supply r.old) (R.supply r.new) file_bytes
+        loader.old loader.new result }
+    ensures works { (R.supply r.new).failed ≡ (R.supply r.old).failed }
+    ensures shows { OnOk result (StaysAllShown (R.supply r.old) (R.shown r.old)
+        (R.supply r.new) (R.shown r.new)) }
+    ensures no_further { IfErr result
+        (TakesNoFurther (R.supply r.old) (R.supply r.new) loader.old.fed) }
+{
+    let held = r.held();
+    let fed = loader.fed();
+    let most = (file_bytes - fed).min(held.len() as u64) as usize;
+    let front = match loader.feed(&held[..most]) {
+        Ok(front) => front,
+        Err(fault) => {
+            let end = up_to_end(fault.place, fed);
+            r.consume(end);
+            return Err(fault);
+        }
+    };
+    r.consume(front);
+    Ok(())
+}
+
+/// Feeds the loader a next piece: what the source holds, or else at most `want` bytes that are
+/// pulled.
+#[inline(always)]
+fn feed_header_next<R: Source>(
+    r: &mut R,
+    buf: &mut [u8],
+    loader: &mut HeaderLoader,
+    want: usize,
+    file_bytes: u64,
+) -> Result<(), LoadFault>
+    requires reading { loader.old.refused ≡ None }
+    requires below_limit { length loader.old.fed ≤ file_bytes }
+    requires nonempty { 0 < want }
+    requires buffer { want ≤ length buf.old }
+    requires cut_short { IsHeaderCutShort loader.old want }
+    ensures feeds { FeedsHeader (R.supply r.old) (R.supply r.new) file_bytes
+        loader.old loader.new result }
+    ensures buffer_kept { length buf.new ≡ length buf.old }
+    ensures tells_read { TellsFailure (R.supply r.old) (R.supply r.new) result }
+    ensures shows { OnOk result (StaysAllShown (R.supply r.old) (R.shown r.old)
+        (R.supply r.new) (R.shown r.new)) }
+    ensures no_further { IsAllShown (R.supply r.old) (R.shown r.old)
+        → IfErr result (TakesNoFurther (R.supply r.old) (R.supply r.new) loader.old.fed) }
+{
+    if r.held().is_empty() || loader.fed() >= file_bytes {
+        return feed_header_pulled(r, buf, loader, want, file_bytes);
+    }
+    feed_header_held(r, loader, file_bytes)
+}
+
 /// Reads the header.
 fn load_header<R: Source>(
     alloc: Global,
@@ -94,6 +208,10 @@ fn load_header<R: Source>(
         × (declared_bytes declared.table ≤ limits.budget))
         (λ f. IsHeaderStop limits (R.supply r.new) given f × IsFaultIn given Header f) }
     ensures tells_read { TellsFailure (R.supply r.old) (R.supply r.new) result }
+    ensures shows { OnOk result (StaysAllShown (R.supply r.old) (R.shown r.old)
+        (R.supply r.new) (R.shown r.new)) }
+    ensures no_further { IsAllShown (R.supply r.old) (R.shown r.old)
+        → IfErr result (TakesNoFurther (R.supply r.old) (R.supply r.new) []) }
 {
     let mut loader = HeaderLoader::new(alloc, limits.budget);
     'reading: loop {
@@ -101,8 +219,10 @@ fn load_header<R: Source>(
         if want == 0 {
             break 'reading;
         }
-        let n = read_piece(r, buf, want, loader.fed(), limits.file_bytes)?;
-        loader.feed(&buf[..n])?;
+        match feed_header_next(r, buf, &mut loader, want, limits.file_bytes) {
+            Ok(_) => {}
+            Err(fault) => return Err(fault),
+        }
     }
     match loader.declared() {
         Ok(declared) => Ok(declared),
@@ -135,9 +255,14 @@ fn feed_pulled<R: Source>(
     requires nonempty { 0 < want }
     requires buffer { want ≤ length buf.old }
     requires cut_short { IsCutShort loader.old want }
+    requires none_held { (R.shown r.old ≡ []) ⊎ (limit ≤ length loader.old.fed) }
     ensures feeds { FeedsMore (R.supply r.old) (R.supply r.new) limit loader.old loader.new result }
     ensures buffer_kept { length buf.new ≡ length buf.old }
     ensures tells_read { TellsFailure (R.supply r.old) (R.supply r.new) result }
+    ensures shows { OnOk result (StaysAllShown (R.supply r.old) (R.shown r.old)
+        (R.supply r.new) (R.shown r.new)) }
+    ensures no_further { IsAllShown (R.supply r.old) (R.shown r.old)
+        → IfErr result (TakesNoFurther (R.supply r.old) (R.supply r.new) loader.old.fed) }
 {
     let n = match read_piece(r, buf, want, loader.fed(), limit) {
         Ok(n) => n,
@@ -150,7 +275,7 @@ fn feed_pulled<R: Source>(
 }
 
 /// Feeds the loader what the source holds, where it lies, and takes of it what the loader took: all
-/// up to the limit, or to the end of the file. Where a longword is refused, all up to the limit is
+/// up to the limit, or to the end of the file. Where a longword is refused, it is the last that is
 /// taken.
 #[inline(always)]
 fn feed_held<R: Source>(r: &mut R, loader: &mut BodyLoader, limit: u64) -> Result<(), LoadFault>
@@ -158,15 +283,22 @@ fn feed_held<R: Source>(r: &mut R, loader: &mut BodyLoader, limit: u64) -> Resul
     requires below_limit { length loader.old.fed < limit }
     requires some { 0 < length (R.shown r.old) }
     requires goes_on { ¬ IsWholeFile loader.old.rows loader.old.fed }
+    requires clean { HasNoRefusal loader.old.fed }
     ensures feeds { FeedsMore (R.supply r.old) (R.supply r.new) limit loader.old loader.new result }
     ensures works { (R.supply r.new).failed ≡ (R.supply r.old).failed }
+    ensures shows { OnOk result (StaysAllShown (R.supply r.old) (R.shown r.old)
+        (R.supply r.new) (R.shown r.new)) }
+    ensures no_further { IfErr result
+        (TakesNoFurther (R.supply r.old) (R.supply r.new) loader.old.fed) }
 {
     let held = r.held();
-    let most = (limit - loader.fed()).min(held.len() as u64) as usize;
+    let fed = loader.fed();
+    let most = (limit - fed).min(held.len() as u64) as usize;
     let taken = match loader.feed(&held[..most]) {
         Ok(taken) => taken,
         Err(fault) => {
-            r.consume(most);
+            let count = up_to_end(fault.place, fed);
+            r.consume(count);
             return Err(fault);
         }
     };
@@ -193,6 +325,10 @@ fn feed_next<R: Source>(
     ensures feeds { FeedsMore (R.supply r.old) (R.supply r.new) limit loader.old loader.new result }
     ensures buffer_kept { length buf.new ≡ length buf.old }
     ensures tells_read { TellsFailure (R.supply r.old) (R.supply r.new) result }
+    ensures shows { OnOk result (StaysAllShown (R.supply r.old) (R.shown r.old)
+        (R.supply r.new) (R.shown r.new)) }
+    ensures no_further { IsAllShown (R.supply r.old) (R.shown r.old)
+        → IfErr result (TakesNoFurther (R.supply r.old) (R.supply r.new) loader.old.fed) }
 {
     if r.held().is_empty() || loader.fed() >= limit {
         return feed_pulled(r, buf, loader, want, limit);
@@ -219,6 +355,8 @@ fn load_body<R: Source>(
         (λ refusal. IsBodyStop limit (R.supply r.new) (loader.fed ++ more) (fault_of refusal)
         × NamesPart (loader.fed ++ more) refusal) }
     ensures tells_read { TellsFailure (R.supply r.old) (R.supply r.new) (without_part result) }
+    ensures no_further { IsAllShown (R.supply r.old) (R.shown r.old) → IfErr (without_part result)
+        (TakesNoFurther (R.supply r.old) (R.supply r.new) loader.fed) }
 {
     let mut loader = loader;
     'reading: loop {
@@ -258,7 +396,9 @@ fn load_body<R: Source>(
 ///   store at the end of the header.
 ///
 /// There is no image then. What was read of the source stays read, at most `limits.file_bytes`
-/// bytes.
+/// bytes. Where a longword is refused, it is the last that was taken of what the source holds, so
+/// what follows it is still to be read. Of a source that holds nothing, at most `want` bytes are
+/// pulled at a time.
 pub fn load<R: Source, P: Placer>(
     alloc: Global,
     r: &mut R,
@@ -271,6 +411,10 @@ pub fn load<R: Source, P: Placer>(
     ensures one_file { StopsAfterFile (R.supply r.old) (R.supply r.new) }
     ensures header_first { StopsAfterHeader (P.base p.now) limits.budget
         (R.supply r.old) (R.supply r.new) }
+
+    // Of a source that shows all that it has left, no byte past the longword at the fault.
+    ensures no_further { IsAllShown (R.supply r.old) (R.shown r.old) → IfErr result
+        (λ f. GivesAtMost (R.supply r.old) (R.supply r.new) (f.place + 4)) }
 
     // Success, and where there is none.
     ensures succeeds { HasFileWithin (P.base p.now) limits (R.supply r.old)
@@ -308,6 +452,10 @@ pub fn load_naming_part<R: Source, P: Placer>(
     ensures one_file { StopsAfterFile (R.supply r.old) (R.supply r.new) }
     ensures header_first { StopsAfterHeader (P.base p.now) limits.budget
         (R.supply r.old) (R.supply r.new) }
+
+    // Of a source that shows all that it has left, no byte past the longword at the fault.
+    ensures no_further { IsAllShown (R.supply r.old) (R.shown r.old) → IfErr (without_part result)
+        (λ f. GivesAtMost (R.supply r.old) (R.supply r.new) (f.place + 4)) }
 
     // Success, and where there is none.
     ensures succeeds { HasFileWithin (P.base p.now) limits (R.supply r.old)

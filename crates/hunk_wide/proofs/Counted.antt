@@ -235,7 +235,7 @@ filler_ends after (a ∷ b ∷ rest) few = absurd (omega arith)
 -- ---- an input that is its own plain spelling
 
 -- in a short block
-abbrev in_short : Spot → Bool
+abbrev pub in_short : Spot → Bool
 in_short Passing = false
 in_short (Straight owed next) = false
 in_short (Long p) = false
@@ -273,7 +273,7 @@ word_out Same place w e = on_out (files.Object (object.step (places.Word place) 
 word_out BehindEnd place w e = on_out (files.Object (object.step (places.Word place) w))
 word_out AsLong place w e = absurd (true≢false e)
 
-behind_out : (p : FilePosition) (w : ℕ) → is_short (given p w) ≡ false → in_short (behind_long p w) ≡ false
+pub behind_out : (p : FilePosition) (w : ℕ) → is_short (given p w) ≡ false → in_short (behind_long p w) ≡ false
 behind_out (files.Load positions.FirstLong) w e = first_out w (w == header_word) (w == unit_word)
 behind_out (files.Load (positions.Body o phases.FirstBlock)) w e = block_out (given_block o w) o phases.FirstBlock w e
 behind_out (files.Load (positions.Body o phases.BlockWord)) w e = block_out (given_block o w) o phases.BlockWord w e

@@ -4,10 +4,16 @@ pub mod Ends
 pub mod Few
 pub mod Objects
 pub mod Files
+pub mod From
+pub mod FromBlocks
+pub mod FromShort
+pub mod FromWide
+pub mod FromWords
 pub mod Leads
 pub mod AsIs
 pub mod ShortWords
 pub mod Placing
+pub mod Places
 pub mod Straight
 pub mod Stretches
 pub mod Short

@@ -1,14 +1,14 @@
 -- From which byte of a wide spelling a byte of the plain one comes.
 use Rattle.std.proofs.Common.{◌≡◌, ℕ, zero, suc, ◌+◌, ◌-◌, ◌<◌, ◌≤◌, Bool, true, false, cond, ltb, List, [], ◌∷◌, ◌++◌, ◌⊎◌, inl, inr, length, take, drop, min, get_or, length-append, refl, sym, ap, subst, ◌∙◌, append_assoc, arith}
 use Rattle.std.specs.Int.{from_be_bytes, w32}
-use Rattle.std.proofs.lemmas.{Bool.{eq-eqb, le-ltb, lt-ltb, ltb-false, ne_eqb}, List.length-take}
+use Rattle.std.proofs.lemmas.{Bool.{eq-eqb, le-ltb, lt-ltb, ltb-false, ltb-true, ne_eqb}, List.length-take}
 use Rattle.hunk_wide.specs.declared.position.FilePosition.{FilePosition}
 use Rattle.hunk_wide.specs.declared.spot.ShortPart.{ShortPart}
 use Rattle.hunk_wide.specs.declared.spot.Spot.{Spot}
 use Rattle.hunk_wide.specs.declared.spot.Spot.TheVariants.{Passing, Straight, Long, Half, Filler}
 use Rattle.hunk_wide.specs.declared.spot.Given.{Given}
 use Rattle.hunk_wide.specs.declared.spot.Given.TheVariants.{Same, BehindEnd, AsLong}
-use Rattle.hunk_wide.specs.Places.{ComesFrom, GoesBy, count_long, here_or, place_from}
+use Rattle.hunk_wide.specs.Places.{GoesBy, IsOfUnit, count_long, here_or, place_from}
 use Rattle.hunk_wide.specs.Halves.{behind_filler, behind_half, half_of, out_filler}
 use Rattle.hunk_wide.specs.Longwords.{behind_long, given, out_long}
 use Rattle.hunk_wide.specs.Plain.{plain_from}
@@ -26,12 +26,14 @@ unfolding place_from
 long_in_front p (a ∷ b ∷ c ∷ d ∷ rest) n whole = record { some = omega arith; whole = whole; goes = refl }
 long_in_front p _ n whole = absurd (omega arith)
 
-pub half_in_front : (after : FilePosition) (part : ShortPart) (odd : Bool) (bytes : List ℕ) (n : ℕ) → 2 ≤ length bytes → GoesBy (Half after part odd) bytes n 2 4 (behind_half after part odd (front_half bytes))
+pub half_in_front : (after : FilePosition) (part : ShortPart) (odd : Bool) (bytes : List ℕ) (n : ℕ) → 2 ≤ length bytes
+    → GoesBy (Half after part odd) bytes n 2 4 (behind_half after part odd (front_half bytes))
 unfolding place_from
 half_in_front after part odd (a ∷ b ∷ rest) n whole = record { some = omega arith; whole = whole; goes = refl }
 half_in_front after part odd _ n whole = absurd (omega arith)
 
-filler_in_front : (after : FilePosition) (bytes : List ℕ) (n : ℕ) → 2 ≤ length bytes → GoesBy (Filler after) bytes n 2 (length (out_filler (get_or bytes 0 0) (get_or bytes 1 0))) (behind_filler after (get_or bytes 0 0) (get_or bytes 1 0))
+filler_in_front : (after : FilePosition) (bytes : List ℕ) (n : ℕ) → 2 ≤ length bytes
+    → GoesBy (Filler after) bytes n 2 (length (out_filler (get_or bytes 0 0) (get_or bytes 1 0))) (behind_filler after (get_or bytes 0 0) (get_or bytes 1 0))
 unfolding place_from
 filler_in_front after (a ∷ b ∷ rest) n whole = record { some = omega arith; whole = whole; goes = refl }
 filler_in_front after _ n whole = absurd (omega arith)
@@ -47,10 +49,11 @@ other_in_front after bytes n whole e =
     (ne_eqb (front_half bytes) 0 e) (filler_in_front after bytes n whole)
 
 here_past : (n later : ℕ) → 0 < n → here_or 1 1 n later ≡ 1 + later
-here_past n later some = ap (λ (b : Bool). cond b 0 (1 + later)) (le-ltb n 1 (omega arith))
+here_past n later some = ap (λ (b : Bool). cond b (n - (1 - 1)) (1 + later)) (le-ltb n 1 (omega arith))
 
 -- all of the bytes that are given out as they are
-straight_place : (owed : ℕ) (next : FilePosition) (bytes : List ℕ) (n : ℕ) → owed < n → owed < length bytes → place_from (Straight owed next) bytes n ≡ suc owed + place_from (Long next) (drop (suc owed) bytes) (n - suc owed)
+straight_place : (owed : ℕ) (next : FilePosition) (bytes : List ℕ) (n : ℕ) → owed < n → owed < length bytes
+    → place_from (Straight owed next) bytes n ≡ suc owed + place_from (Long next) (drop (suc owed) bytes) (n - suc owed)
 unfolding place_from
 straight_place owed next [] n past whole = absurd (omega arith)
 straight_place zero next (b ∷ rest) n past whole = here_past n _ past
@@ -67,12 +70,12 @@ straight_in_front owed next bytes n past whole = record {
   whole = omega arith;
   goes =
       straight_place owed next bytes n past whole
-      ∙ sym (ap (λ (b : Bool). cond b 0 (suc owed + place_from (Long next) (drop (suc owed) bytes) (n - suc owed))) (le-ltb n (suc owed) (omega arith)));
+      ∙ sym (ap (λ (b : Bool). cond b (n - (suc owed - suc owed)) (suc owed + place_from (Long next) (drop (suc owed) bytes) (n - suc owed))) (le-ltb n (suc owed) (omega arith)));
 }
 
 -- ---- no whole unit
 
-pub long_few : (p : FilePosition) (bytes : List ℕ) (n : ℕ) → length bytes < 4 → place_from (Long p) bytes n ≡ 0
+pub long_few : (p : FilePosition) (bytes : List ℕ) (n : ℕ) → length bytes < 4 → place_from (Long p) bytes n ≡ min n (length bytes)
 unfolding place_from
 long_few p [] n few = refl
 long_few p (a ∷ []) n few = refl
@@ -80,13 +83,13 @@ long_few p (a ∷ b ∷ []) n few = refl
 long_few p (a ∷ b ∷ c ∷ []) n few = refl
 long_few p (a ∷ b ∷ c ∷ d ∷ rest) n few = absurd (omega arith)
 
-pub half_few : (after : FilePosition) (part : ShortPart) (odd : Bool) (bytes : List ℕ) (n : ℕ) → length bytes < 2 → place_from (Half after part odd) bytes n ≡ 0
+pub half_few : (after : FilePosition) (part : ShortPart) (odd : Bool) (bytes : List ℕ) (n : ℕ) → length bytes < 2 → place_from (Half after part odd) bytes n ≡ min n (length bytes)
 unfolding place_from
 half_few after part odd [] n few = refl
 half_few after part odd (a ∷ []) n few = refl
 half_few after part odd (a ∷ b ∷ rest) n few = absurd (omega arith)
 
-pub filler_few : (after : FilePosition) (bytes : List ℕ) (n : ℕ) → length bytes < 2 → place_from (Filler after) bytes n ≡ 0
+pub filler_few : (after : FilePosition) (bytes : List ℕ) (n : ℕ) → length bytes < 2 → place_from (Filler after) bytes n ≡ min n (length bytes)
 unfolding place_from
 filler_few after [] n few = refl
 filler_few after (a ∷ []) n few = refl
@@ -113,24 +116,38 @@ pub passing_place : (bytes : List ℕ) (n : ℕ) → place_from Passing bytes n 
 unfolding place_from
 passing_place bytes n = refl
 
--- ---- what comes before it
+-- ---- the unit that it is in
 
-nothing : (s : Spot) (bytes : List ℕ) (n : ℕ) → ComesFrom s bytes n 0
-nothing s bytes n = record { given = []; spot = s; front = λ more. refl; most = omega arith }
+starts : (s : Spot) (bytes : List ℕ) (n at : ℕ) → at ≤ 3 → IsOfUnit s bytes n at
+starts s bytes n at few = record {
+  start = 0;
+  front = record { given = []; spot = s; front = λ more. refl; most = omega arith };
+  after = omega arith;
+  near = omega arith;
+}
 
-unit_comes : (s next : Spot) (bytes rest cells out : List ℕ) (size count n later : ℕ) → ((k : ℕ) → take (size + k) bytes ≡ cells ++ take k rest)
-    → ((more : List ℕ) → plain_from s (cells ++ more) ≡ out ++ plain_from next more) → length out ≡ count → ComesFrom next rest (n - count) later → ComesFrom s bytes n (here_or size count n later)
-unit_comes s next bytes rest cells out size count n later cut through len r = go (ltb n count) refl
+-- No unit is whole.
+cut_off : (s : Spot) (bytes : List ℕ) (n : ℕ) → length bytes ≤ 3 → IsOfUnit s bytes n (min n (length bytes))
+cut_off s bytes n few = starts s bytes n (min n (length bytes)) (omega arith)
+
+unit_comes : (s next : Spot) (bytes rest cells out : List ℕ) (size count n later : ℕ) → 0 < size → size ≤ 4 → ((k : ℕ) → take (size + k) bytes ≡ cells ++ take k rest)
+    → ((more : List ℕ) → plain_from s (cells ++ more) ≡ out ++ plain_from next more) → length out ≡ count → IsOfUnit next rest (n - count) later → IsOfUnit s bytes n (here_or size count n later)
+unit_comes s next bytes rest cells out size count n later some most cut through len r = go (ltb n count) refl
   where
-    go : (b : Bool) → ltb n count ≡ b → ComesFrom s bytes n (cond b 0 (size + later))
-    go true e = nothing s bytes n
+    go : (b : Bool) → ltb n count ≡ b → IsOfUnit s bytes n (cond b (n - (count - size)) (size + later))
+    go true e = starts s bytes n (n - (count - size)) (omega (arith, ltb-true n count e, some, most))
     go false e = record {
-      given = out ++ r.given;
-      spot = r.spot;
-      front = λ more.
-          ap (λ (x : List ℕ). plain_from s (x ++ more)) (cut later) ∙ ap (plain_from s) (append_assoc cells (take later rest) more)
-          ∙ through (take later rest ++ more) ∙ ap (λ (x : List ℕ). out ++ x) (r.front more) ∙ sym (append_assoc out r.given (plain_from r.spot more));
-      most = omega (arith, length-append out r.given, len, r.most, ltb-false n count e);
+      start = size + r.start;
+      front = record {
+        given = out ++ r.front.given;
+        spot = r.front.spot;
+        front = λ more.
+            ap (λ (x : List ℕ). plain_from s (x ++ more)) (cut r.start) ∙ ap (plain_from s) (append_assoc cells (take r.start rest) more)
+            ∙ through (take r.start rest ++ more) ∙ ap (λ (x : List ℕ). out ++ x) (r.front.front more) ∙ sym (append_assoc out r.front.given (plain_from r.front.spot more));
+        most = omega (arith, length-append out r.front.given, len, r.front.most, ltb-false n count e);
+      };
+      after = omega (arith, r.after);
+      near = omega (arith, r.near);
     }
 
 four : (a b c d : ℕ) (rest : List ℕ) (k : ℕ) → take (4 + k) (a ∷ b ∷ c ∷ d ∷ rest) ≡ (a ∷ b ∷ c ∷ d ∷ []) ++ take k rest
@@ -147,37 +164,42 @@ out_length Same a b c d w = refl
 out_length BehindEnd a b c d w = refl
 out_length AsLong a b c d w = refl
 
--- Whatever follows the bytes before it, the same are given out for them, and no more than the number.
-pub comes_from : (s : Spot) (bytes : List ℕ) (n : ℕ) → ComesFrom s bytes n (place_from s bytes n)
+pub of_unit : (s : Spot) (bytes : List ℕ) (n : ℕ) → IsOfUnit s bytes n (place_from s bytes n)
 unfolding place_from plain_from
-comes_from Passing bytes n =
-    record { given = take (min n (length bytes)) bytes; spot = Passing; front = λ more. refl; most = omega (arith, length-take (min n (length bytes)) bytes) }
-comes_from (Straight zero next) (b ∷ rest) n =
-    unit_comes (Straight zero next) (Long next) (b ∷ rest) rest (b ∷ []) (b ∷ []) 1 1 n _ (one b rest) (λ more. refl) refl (comes_from (Long next) rest (n - 1))
-comes_from (Straight (suc owed) next) (b ∷ rest) n =
-    unit_comes (Straight (suc owed) next) (Straight owed next) (b ∷ rest) rest (b ∷ []) (b ∷ []) 1 1 n _ (one b rest) (λ more. refl) refl (comes_from (Straight owed next) rest (n - 1))
-comes_from (Straight zero next) [] n = nothing (Straight zero next) [] n
-comes_from (Straight (suc owed) next) [] n = nothing (Straight (suc owed) next) [] n
-comes_from (Long p) (a ∷ b ∷ c ∷ d ∷ rest) n =
+of_unit Passing bytes n = record {
+  start = min n (length bytes);
+  front = record { given = take (min n (length bytes)) bytes; spot = Passing; front = λ more. refl; most = omega (arith, length-take (min n (length bytes)) bytes) };
+  after = omega arith;
+  near = omega arith;
+}
+of_unit (Straight zero next) (b ∷ rest) n =
+    unit_comes (Straight zero next) (Long next) (b ∷ rest) rest (b ∷ []) (b ∷ []) 1 1 n _ (omega arith) (omega arith) (one b rest) (λ more. refl) refl (of_unit (Long next) rest (n - 1))
+of_unit (Straight (suc owed) next) (b ∷ rest) n =
+    unit_comes (Straight (suc owed) next) (Straight owed next) (b ∷ rest) rest (b ∷ []) (b ∷ []) 1 1 n _ (omega arith) (omega arith) (one b rest) (λ more. refl) refl (of_unit (Straight owed next) rest (n - 1))
+of_unit (Straight zero next) [] n = cut_off (Straight zero next) [] n (omega arith)
+of_unit (Straight (suc owed) next) [] n = cut_off (Straight (suc owed) next) [] n (omega arith)
+of_unit (Long p) (a ∷ b ∷ c ∷ d ∷ rest) n =
     let w : ℕ = from_be_bytes w32 (a ∷ b ∷ c ∷ d ∷ []) in
     unit_comes (Long p) (behind_long p w) (a ∷ b ∷ c ∷ d ∷ rest) rest (a ∷ b ∷ c ∷ d ∷ []) (out_long (given p w) (a ∷ b ∷ c ∷ d ∷ []) w) 4 (count_long (given p w)) n _
-    (four a b c d rest) (λ more. refl) (out_length (given p w) a b c d w) (comes_from (behind_long p w) rest (n - count_long (given p w)))
-comes_from (Half after part odd) (a ∷ b ∷ rest) n =
+    (omega arith) (omega arith) (four a b c d rest) (λ more. refl) (out_length (given p w) a b c d w) (of_unit (behind_long p w) rest (n - count_long (given p w)))
+of_unit (Half after part odd) (a ∷ b ∷ rest) n =
     unit_comes (Half after part odd) (behind_half after part odd (half_of a b)) (a ∷ b ∷ rest) rest (a ∷ b ∷ []) (0 ∷ 0 ∷ a ∷ b ∷ []) 2 4 n _
-    (two a b rest) (λ more. refl) refl (comes_from (behind_half after part odd (half_of a b)) rest (n - 4))
-comes_from (Filler after) (a ∷ b ∷ rest) n =
+    (omega arith) (omega arith) (two a b rest) (λ more. refl) refl (of_unit (behind_half after part odd (half_of a b)) rest (n - 4))
+of_unit (Filler after) (a ∷ b ∷ rest) n =
     unit_comes (Filler after) (behind_filler after a b) (a ∷ b ∷ rest) rest (a ∷ b ∷ []) (out_filler a b) 2 (length (out_filler a b)) n _
-    (two a b rest) (λ more. refl) refl (comes_from (behind_filler after a b) rest (n - length (out_filler a b)))
-comes_from (Long p) [] n = nothing (Long p) [] n
-comes_from (Long p) (a ∷ []) n = nothing (Long p) (a ∷ []) n
-comes_from (Long p) (a ∷ b ∷ []) n = nothing (Long p) (a ∷ b ∷ []) n
-comes_from (Long p) (a ∷ b ∷ c ∷ []) n = nothing (Long p) (a ∷ b ∷ c ∷ []) n
-comes_from (Half after part odd) [] n = nothing (Half after part odd) [] n
-comes_from (Half after part odd) (a ∷ []) n = nothing (Half after part odd) (a ∷ []) n
-comes_from (Filler after) [] n = nothing (Filler after) [] n
-comes_from (Filler after) (a ∷ []) n = nothing (Filler after) (a ∷ []) n
+    (omega arith) (omega arith) (two a b rest) (λ more. refl) refl (of_unit (behind_filler after a b) rest (n - length (out_filler a b)))
+of_unit (Long p) [] n = cut_off (Long p) [] n (omega arith)
+of_unit (Long p) (a ∷ []) n = cut_off (Long p) (a ∷ []) n (omega arith)
+of_unit (Long p) (a ∷ b ∷ []) n = cut_off (Long p) (a ∷ b ∷ []) n (omega arith)
+of_unit (Long p) (a ∷ b ∷ c ∷ []) n = cut_off (Long p) (a ∷ b ∷ c ∷ []) n (omega arith)
+of_unit (Half after part odd) [] n = cut_off (Half after part odd) [] n (omega arith)
+of_unit (Half after part odd) (a ∷ []) n = cut_off (Half after part odd) (a ∷ []) n (omega arith)
+of_unit (Filler after) [] n = cut_off (Filler after) [] n (omega arith)
+of_unit (Filler after) (a ∷ []) n = cut_off (Filler after) (a ∷ []) n (omega arith)
 
-pub stops_here : (first at owed size count : ℕ) (s next : Spot) (rest : List ℕ) → first ≡ at + place_from s rest owed → GoesBy s rest owed size count next → owed < count → first ≡ at
+pub stops_here : (first at owed size count : ℕ) (s next : Spot) (rest : List ℕ) → first ≡ at + place_from s rest owed → GoesBy s rest owed size count next → owed < count
+    → first ≡ at + (owed - (count - size))
 stops_here first at owed size count s next rest e g less =
-    let here : place_from s rest owed ≡ 0 = g.goes ∙ ap (λ (b : Bool). cond b 0 (size + place_from next (drop size rest) (owed - count))) (lt-ltb owed count less) in
+    let here : place_from s rest owed ≡ owed - (count - size) =
+    g.goes ∙ ap (λ (b : Bool). cond b (owed - (count - size)) (size + place_from next (drop size rest) (owed - count))) (lt-ltb owed count less) in
     omega (arith, e, here)

@@ -1,3 +1,4 @@
+pub mod Counts
 pub mod FileEnds
 pub mod Halves
 pub mod Held

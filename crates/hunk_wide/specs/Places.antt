@@ -4,7 +4,7 @@ use Rattle.std.specs.Int.{from_be_bytes, w32}
 use Rattle.hunk_grammar.specs.declared.position.Position.TheVariants as positions
 use Rattle.hunk_wide.specs.declared.position.FilePosition.TheVariants as files
 use Rattle.hunk_wide.specs.declared.spot.Spot.{Spot}
-use Rattle.hunk_wide.specs.declared.spot.Spot.TheVariants.{Passing, Straight, Long, Half, Filler}
+use Rattle.hunk_wide.specs.declared.spot.Spot.TheVariants.{Straight, Long, Half, Filler}
 use Rattle.hunk_wide.specs.declared.spot.Given.{Given}
 use Rattle.hunk_wide.specs.declared.spot.Given.TheVariants.{Same, BehindEnd, AsLong}
 use Rattle.hunk_wide.specs.Halves.{behind_filler, behind_half, half_of, out_filler}
@@ -17,14 +17,14 @@ count_long Same = 4
 count_long BehindEnd = 8
 count_long AsLong = 4
 
--- The byte is one of those that are given out for this unit, or comes later.
+-- Byte n is one of those that are given out for this unit, of so many bytes, or comes later. Bytes that are put in stand before
+-- those of the unit, and have the place of its first one.
 abbrev pub here_or : ℕ → ℕ → ℕ → ℕ → ℕ
-here_or unit given n later = if nat_lt n given then 0 else unit + later
+here_or unit given n later = if nat_lt n given then n - (given - unit) else unit + later
 
--- How many bytes come before the unit for which byte n, counted from 0, is given out. Where bytes are given out
--- as they are each is a unit; of a unit that is not whole, and of what is given out at the end, it is the first byte.
+-- How many bytes come before the one for which byte n, counted from 0, is given out. Bytes that are given out as they are
+-- go one by one, and so do those of a unit that is not whole. After all that is given out the bytes end.
 unfoldable pub place_from : Spot → List ℕ → ℕ → ℕ
-place_from Passing bytes n = min n (length bytes)
 place_from (Straight zero next) (b ∷ rest) n = here_or 1 1 n (place_from (Long next) rest (n - 1))
 place_from (Straight (suc owed) next) (b ∷ rest) n = here_or 1 1 n (place_from (Straight owed next) rest (n - 1))
 place_from (Long p) (a ∷ b ∷ c ∷ d ∷ rest) n =
@@ -32,17 +32,11 @@ place_from (Long p) (a ∷ b ∷ c ∷ d ∷ rest) n =
     (place_from (behind_long p (from_be_bytes w32 (a ∷ b ∷ c ∷ d ∷ []))) rest (n - count_long (given p (from_be_bytes w32 (a ∷ b ∷ c ∷ d ∷ [])))))
 place_from (Half after part odd) (a ∷ b ∷ rest) n = here_or 2 4 n (place_from (behind_half after part odd (half_of a b)) rest (n - 4))
 place_from (Filler after) (a ∷ b ∷ rest) n = here_or 2 (length (out_filler a b)) n (place_from (behind_filler after a b) rest (n - length (out_filler a b)))
-place_from spot bytes n = 0
+place_from spot bytes n = min n (length bytes)
 
 -- Where in an input a byte of its plain spelling comes from.
 abbrev pub place_of : List ℕ → ℕ → ℕ
 place_of input place = place_from (Long (files.Load positions.FirstLong)) input place
-
--- where no whole unit is left before it
-abbrev pub last_place : Spot → List ℕ → ℕ → ℕ
-last_place Passing bytes n = min n (length bytes)
-last_place (Straight owed next) bytes n = min n (length bytes)
-last_place _ bytes n = 0
 
 -- Units of this size are in front, for which so many bytes are given out, byte n by the first of them or none, and after
 -- them the next bytes are for this.
@@ -57,3 +51,11 @@ pub record ComesFrom (s : Spot) (bytes : List ℕ) (n at : ℕ) : Type 0 where
   pub spot : Spot
   pub front : GivesFor s (take at bytes) given spot
   pub most : length given ≤ n
+
+-- The byte at this place is one of a unit, of at most four bytes, that begins where the bytes come from that are given out
+-- before byte n or with it.
+pub record IsOfUnit (s : Spot) (bytes : List ℕ) (n at : ℕ) : Type 0 where
+  pub start : ℕ
+  pub front : ComesFrom s bytes n start
+  pub after : start ≤ at
+  pub near : at ≤ start + 3

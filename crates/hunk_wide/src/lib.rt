@@ -19,7 +19,9 @@ mod units;
 mod writing;
 
 pub use crate::expander::Expander;
-pub use crate::laws::{one_object_spelling, one_spelling, plain_spelling};
+pub use crate::laws::{
+    from_wide_spelling, input_places, one_object_spelling, one_spelling, plain_spelling,
+};
 pub use crate::place::place_in;
 pub use crate::plain::Plain;
 pub use crate::position::FilePosition;

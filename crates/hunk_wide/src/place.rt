@@ -1,7 +1,8 @@
 //! Places of the plain spelling, and where they are in a wide one.
-ghost use Rattle.std.specs.Prelude.{◌≡◌, ◌+◌, ◌<◌, ◌≤◌, length, min, IfNone, IfSome};
+ghost use Rattle.std.specs.Prelude.{◌≡◌, ◌-◌, ◌<◌, ◌≤◌, length, min, IfNone, IfSome};
 ghost use Rattle.hunk_grammar.specs.declared.position.Position.TheVariants.{FirstLong};
-ghost use Rattle.hunk_wide.specs.Places.{ComesFrom, count_long, last_place, GoesBy, place_from, place_of};
+ghost use Rattle.hunk_wide.specs.Places.{GoesBy, IsOfUnit, count_long, place_from, place_of};
+ghost use Rattle.hunk_wide.specs.Plain.{plain};
 ghost use Rattle.hunk_wide.specs.declared.position.FilePosition.TheVariants.{Load};
 ghost use Rattle.hunk_wide.specs.declared.spot.Spot.TheVariants.{Filler, Half, Long, Straight};
 
@@ -20,19 +21,16 @@ struct Unit {
     next: Spot,
 }
 
-/// Where in a wide spelling the byte `place` of the plain one comes from, both counted from 0.
+/// Where in a wide spelling the byte `place` of the plain one stands, both counted from 0.
 ///
-/// Of content, names, debug data and offsets of 32 bits it is just that byte. Else it is the first
-/// byte of the longword, or of the word of 16 bits, for which the byte is given out: for an END
-/// that is left out, of what comes in its place.
-///
-/// After the last one it is the end of the input, or where the unit begins that is cut off: a
-/// longword, or a word of 16 bits. So it is for the place of `Truncated`, which is after the last
-/// whole longword of the plain spelling.
+/// A byte that is put in has the place of the next one that is not. So it is of an END that is left
+/// out, and of the upper 16 bits of a number of a short block. From the end of the plain spelling on
+/// it is the end of the input.
 pub fn place_in(bytes: &[u8], place: u64) -> u64
     ensures value { result ≡ place_of bytes.now place }
     ensures inside { result ≤ length bytes.now }
-    ensures front { ComesFrom (Long (Load FirstLong)) bytes.now place result }
+    ensures behind { length (plain bytes.now) ≤ place → result ≡ length bytes.now }
+    ensures unit { IsOfUnit (Long (Load FirstLong)) bytes.now place result }
 {
     let mut spot = Spot::Long(FilePosition::Load(Position::FirstLong));
     let mut rest = bytes;
@@ -40,31 +38,30 @@ pub fn place_in(bytes: &[u8], place: u64) -> u64
     let mut at: u64 = 0;
     'units: while let Some(unit) = unit_at(spot, rest, owed) {
         if owed < unit.given {
-            return at;
+            return at + place_in_unit(unit, owed);
         }
         owed -= unit.given;
         at += unit.size as u64;
         rest = &rest[unit.size..];
         spot = unit.next;
     }
-    at + last(spot, rest, owed)
+    at + owed.min(rest.len() as u64)
 }
 
-/// How far it is where no whole unit is left.
-fn last(spot: Spot, rest: &[u8], owed: u64) -> u64
-    ensures value { result ≡ last_place spot rest.now owed }
-    ensures inside { result ≤ length rest.now }
+/// Where in the unit this byte stands that is given out for it. What is put in comes first.
+fn place_in_unit(unit: Unit, byte: u64) -> u64
+    requires { byte < unit.given }
+    ensures value { result ≡ byte - (unit.given - unit.size) }
+    ensures inside { result ≤ unit.size }
 {
-    match spot {
-        Spot::Passing | Spot::Straight { owed: _, next: _ } => owed.min(rest.len() as u64),
-        _ => 0,
-    }
+    let put_in = unit.given.saturating_sub(unit.size as u64);
+    byte.saturating_sub(put_in)
 }
 
 /// The unit that the bytes begin with, or bytes that are given out as they are, all before byte
 /// `n`.
 fn unit_at(spot: Spot, rest: &[u8], n: u64) -> Option<Unit>
-    ensures none { IfNone result (place_from spot rest.now n ≡ last_place spot rest.now n) }
+    ensures none { IfNone result (place_from spot rest.now n ≡ min n (length rest.now)) }
     ensures some { IfSome result
         (λ unit. GoesBy spot rest.now n unit.size unit.given unit.next) }
 {
@@ -98,7 +95,8 @@ fn straight_unit(owed: u64, next: FilePosition, rest: &[u8], n: u64) -> Option<U
 }
 
 fn long_unit(position: FilePosition, rest: &[u8], n: u64) -> Option<Unit>
-    ensures none { IfNone result (place_from (Long position) rest.now n ≡ 0) }
+    ensures none { IfNone result (place_from (Long position) rest.now n
+        ≡ min n (length rest.now)) }
     ensures some { IfSome result
         (λ unit. GoesBy (Long position) rest.now n unit.size unit.given unit.next) }
 {
@@ -121,7 +119,7 @@ fn half_unit(
     n: u64,
 ) -> Option<Unit>
     ensures none { IfNone result
-        (place_from (Half after part is_odd) rest.now n ≡ 0) }
+        (place_from (Half after part is_odd) rest.now n ≡ min n (length rest.now)) }
     ensures some { IfSome result
         (λ unit. GoesBy (Half after part is_odd) rest.now n unit.size unit.given unit.next) }
 {
@@ -137,7 +135,7 @@ fn half_unit(
 }
 
 fn filler_unit(after: FilePosition, rest: &[u8], n: u64) -> Option<Unit>
-    ensures none { IfNone result (place_from (Filler after) rest.now n ≡ 0) }
+    ensures none { IfNone result (place_from (Filler after) rest.now n ≡ min n (length rest.now)) }
     ensures some { IfSome result
         (λ unit. GoesBy (Filler after) rest.now n unit.size unit.given unit.next) }
 {

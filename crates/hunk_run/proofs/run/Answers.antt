@@ -1,16 +1,12 @@
-use Rattle.std.proofs.Common.{◌≡◌, ◌∙◌, ℕ, false, List, Option, Some, None, ap, inl, map, refl, subst, sym}
-use Rattle.std.specs.Prelude.{IfErr, IfOk, IsErrAnd}
+use Rattle.std.proofs.Common.{◌≡◌, ◌∙◌, ℕ, Bool, List, Option, Some, None, ap, inl, map, refl, subst, sym}
+use Rattle.std.specs.Prelude.{IsErrAnd}
 use Rattle.std.specs.String.{string_bytes}
 use Rattle.hunk_command_line.specs.Line.{order_of}
 use Rattle.hunk_command_line.specs.declared.asked.Order.{Order}
 use Rattle.hunk_command_line.specs.declared.asked.Order.TheVariants.{Relocate, Rewrite, Show, Validate}
-use Rattle.hunk_commands.specs.Faults.{IsWrite}
-use Rattle.hunk_commands.specs.declared.fault.RunFault.TheVariants.{Memory}
 use Rattle.hunk_run.specs.Notes.{Notes, ended_with, input_of, is_wide, output_of}
-use Rattle.hunk_run.specs.Asked.{HasAsked, ListsInput, StopsAsked}
-use Rattle.hunk_run.specs.Inputs.{unread}
+use Rattle.hunk_run.specs.Asked.{AnswersListing}
 use Rattle.hunk_run.specs.Orders.{EndsOrder, SaysInput, SaysLeftOut, SaysSpelled}
-use Rattle.hunk_run.specs.Refusals.{StopsInput}
 use Rattle.hunk_run.specs.Stores.{MadeFile, bytes_of_input}
 use Rattle.hunk_run.specs.declared.TheConstants.{FILE_BYTES}
 use Rattle.hunk_run.specs.Wide.{IsUnread}
@@ -30,18 +26,24 @@ module _ (g : Over) (c : goal.After-with_spelled-2 g) where
 
   -- what is known of the input of this name
   abbrev known : Option (List ℕ) → Option (List ℕ)
-  known name = bytes_of_input (g.S.Store.holdings c.args.store) made name
+  known name = bytes_of_input (g.S.Store.holdings c.args.store) (g.S.Store.opened c.args.store) made name
+
+  abbrev failing : Bool
+  failing = g.S.Store.failed c.args.store
+
+  abbrev failed : Bool
+  failed = g.S.Store.failed c.list_file-answer.new.store
+
+  abbrev EndsBy : Order → Ended → Type 0
+  EndsBy order ended = EndsOrder g.W.Sink.outlet c.args.out.now c.end_listing-ended.new.out made (g.S.Store.made c.list_file-answer.new.store) failing failed FILE_BYTES (known (input_of order)) order ended
 
   abbrev Ends : Order → Type 0
-  Ends order = EndsOrder g.W.Sink.outlet c.args.out.now c.end_listing-ended.new.out made made FILE_BYTES (known (input_of order)) order c.with_spelled-2.result
+  Ends order = EndsBy order c.with_spelled-2.result
 
   abbrev Lists : (Listing × Form × Option (List ℕ)) → Type 0
   Lists asked =
       ((c.match-order-2.listing.2 ≡ asked.2) × (c.match-order-2.listing.1 ≡ asked.1))
-      × IfOk c.list_file-answer.result.0 (λ status. status ≡ 0 → ListsInput g.W.Sink.outlet asked.1.hex asked.1.wide asked.0 (known asked.2) c.args.out.now c.list_file-answer.new.out)
-      × IfErr c.list_file-answer.result.0 (λ fault. ¬ IsWrite fault → StopsInput (known asked.2) (λ before after. StopsAsked asked.1.hex asked.1.wide asked.0 before after FILE_BYTES) fault)
-      × (HasAsked asked.1.hex asked.1.wide asked.0 (unread (known asked.2)) FILE_BYTES → c.list_file-answer.result.1 ≡ None → (g.W.Sink.outlet c.list_file-answer.new.out.sink).failed ≡ false →
-      IfErr c.list_file-answer.result.0 (λ fault. fault ≡ Memory))
+      × AnswersListing g.W.Sink.outlet asked.1.hex asked.1.wide asked.0 (known asked.2) FILE_BYTES c.args.out.now c.list_file-answer.new.out c.list_file-answer.result.0 c.list_file-answer.result.1
       × SaysInput asked.1.hex asked.1.wide FILE_BYTES (known asked.2) asked.2 (IsErrAnd c.list_file-answer.result.0 IsUnread) c.list_file-answer.result.2
 
   -- what is said of the spelling changes nothing else
@@ -50,34 +52,36 @@ module _ (g : Over) (c : goal.After-with_spelled-2 g) where
 
   listed : Ends c.in-Ok.order
   listed =
-      let lists : Lists c.match-order-2.listing = ((refl, refl), c.list_file-answer.ensures.done, c.list_file-answer.ensures.stops, c.list_file-answer.ensures.succeeds, c.list_file-answer.ensures.spelled) in
+      let lists : Lists c.match-order-2.listing = ((refl, refl), c.list_file-answer.ensures.answers, c.list_file-answer.ensures.spelled) in
       let for : (order : Order) → c.in-Ok.order ≡ order → output_of order ≡ None → c.match-order-2.listing.1.wide ≡ is_wide order →
       SaysLeftOut g.W.Sink.outlet c.args.out.now c.end_listing-ended.new.out made made FILE_BYTES (known (input_of order)) order None →
       ListsOrder g.W.Sink.outlet c.args.out.now c.list_file-answer.new.out made FILE_BYTES (known (input_of order)) order c.list_file-answer.result.0 c.match-order-2.listing.2
       c.list_file-answer.result.1 →
       SaysSpelled FILE_BYTES (known (input_of order)) order (IsErrAnd c.list_file-answer.result.0 IsUnread) c.list_file-answer.result.2 → Ends c.in-Ok.order =
       λ order is none flag unsaid all says.
-      subst Ends (sym is) (and_said (λ (e : Ended). EndsOrder g.W.Sink.outlet c.args.out.now c.end_listing-ended.new.out made made FILE_BYTES (known (input_of order)) order e)
-      (listing_ends g.W.Sink.outlet c.args.out.now c.list_file-answer.new.out c.end_listing-ended.new.out made FILE_BYTES (known (input_of order)) order c.list_file-answer.result.0
-      c.match-order-2.listing.2 c.list_file-answer.result.1 c.match-order-2.listing.1.wide c.end_listing-ended.result c.list_file-answer.result.2 c.list_file-answer.ensures.outcome
-      c.end_listing-ended.ensures c.list_file-answer.ensures.cause none flag unsaid all says)) in
+      subst Ends (sym is) (and_said (EndsBy order)
+      (subst (λ (m : Option MadeFile). EndsOrder g.W.Sink.outlet c.args.out.now c.end_listing-ended.new.out made m failing failed FILE_BYTES (known (input_of order)) order
+      (ended_with c.list_file-answer.result.2 c.end_listing-ended.result)) (sym c.list_file-answer.ensures.makes)
+      (listing_ends g.W.Sink.outlet c.args.out.now c.list_file-answer.new.out c.end_listing-ended.new.out made failing failed FILE_BYTES (known (input_of order)) order c.list_file-answer.result.0
+      c.match-order-2.listing.2 c.list_file-answer.result.1 c.match-order-2.listing.1.wide c.end_listing-ended.result c.list_file-answer.result.2 c.list_file-answer.ensures.answers.outcome
+      c.end_listing-ended.ensures c.list_file-answer.ensures.answers.reads c.list_file-answer.ensures.fails none flag unsaid all says))) in
       elim c.match-order-2.branch [
         | in-Show w ↦
-            let (same, done, stops, memory, says) = subst Lists w.listing-is lists in
-            for (Show w.in-Show.hex w.in-Show.wide w.in-Show.file) w.in-Show.is refl (ap (λ (f : Form). f.wide) same.1) refl (same.0, done, stops, memory) says
+            let (same, answers, says) = subst Lists w.listing-is lists in
+            for (Show w.in-Show.hex w.in-Show.wide w.in-Show.file) w.in-Show.is refl (ap (λ (f : Form). f.wide) same.1) refl (same.0, answers.done, answers.stops, answers.succeeds) says
         | in-Validate w ↦
-            let (same, done, stops, memory, says) = subst Lists w.listing-is lists in
-            for (Validate w.in-Validate.hex w.in-Validate.wide w.in-Validate.file) w.in-Validate.is refl (ap (λ (f : Form). f.wide) same.1) refl (same.0, done, stops, memory) says
+            let (same, answers, says) = subst Lists w.listing-is lists in
+            for (Validate w.in-Validate.hex w.in-Validate.wide w.in-Validate.file) w.in-Validate.is refl (ap (λ (f : Form). f.wide) same.1) refl (same.0, answers.done, answers.stops, answers.succeeds) says
         | in-Relocate w ↦
-            let (same, done, stops, memory, says) = subst Lists w.listing-is lists in
-            for (Relocate w.in-Relocate.hex w.in-Relocate.wide w.in-Relocate.base w.in-Relocate.budget w.in-Relocate.file) w.in-Relocate.is refl (ap (λ (f : Form). f.wide) same.1) refl (same.0, done, stops, memory) says
+            let (same, answers, says) = subst Lists w.listing-is lists in
+            for (Relocate w.in-Relocate.hex w.in-Relocate.wide w.in-Relocate.base w.in-Relocate.budget w.in-Relocate.file) w.in-Relocate.is refl (ap (λ (f : Form). f.wide) same.1) refl (same.0, answers.done, answers.stops, answers.succeeds) says
       ]
 
   noted : Notes g.W.Sink.outlet c.args.out.now c.end_listing-ended.new.out c.with_spelled-2.result.status c.with_spelled-2.result.note
   noted = and_said (λ (e : Ended). Notes g.W.Sink.outlet c.args.out.now c.end_listing-ended.new.out e.status e.note)
       (notes_listing g.W.Sink.outlet c.args.out.now c.list_file-answer.new.out c.end_listing-ended.new.out c.match-order-2.listing.2 c.list_file-answer.result.1 c.match-order-2.listing.1.wide
       c.end_listing-ended.result
-      c.list_file-answer.result.0 c.list_file-answer.ensures.outcome c.end_listing-ended.ensures)
+      c.list_file-answer.result.0 c.list_file-answer.ensures.answers.outcome c.end_listing-ended.ensures)
 
   asked : (order : Order) → order_of (map string_bytes c.args.words.now) ≡ Some order → c.in-Ok.order ≡ order
   asked order is = let own = c.in-Ok.ensures.order in cc
@@ -95,7 +99,7 @@ pub returns-clause-heard : goal.returns-clause-heard
 returns-clause-heard g c = λ no_help no_version zero. (c.in-Ok.order, c.in-Ok.ensures.order, (listed g c).done zero)
 
 pub returns-clause-makes : goal.returns-clause-makes
-returns-clause-makes g c = inl refl
+returns-clause-makes g c = inl c.list_file-answer.ensures.makes
 
 pub returns-clause-notes : goal.returns-clause-notes
 returns-clause-notes g c = noted g c
@@ -107,21 +111,27 @@ module _ (g : Over) (c : goal.After-with_spelled g) where
   then_made = g.S.Store.made c.rewrite_file-store.result.0
 
   abbrev known_of : Order → Option (List ℕ)
-  known_of order = bytes_of_input (g.S.Store.holdings c.args.store) (g.S.Store.made c.args.store) (input_of order)
+  known_of order = bytes_of_input (g.S.Store.holdings c.args.store) (g.S.Store.opened c.args.store) (g.S.Store.made c.args.store) (input_of order)
+
+  abbrev EndsTooBy : Order → Ended → Type 0
+  EndsTooBy order ended = EndsOrder g.W.Sink.outlet c.args.out.now c.end_rewriting-ended.new.out (g.S.Store.made c.args.store) then_made
+      (g.S.Store.failed c.args.store) (g.S.Store.failed c.rewrite_file-store.result.0) FILE_BYTES (known_of order) order ended
 
   abbrev EndsToo : Order → Type 0
-  EndsToo order = EndsOrder g.W.Sink.outlet c.args.out.now c.end_rewriting-ended.new.out (g.S.Store.made c.args.store) then_made FILE_BYTES (known_of order) order c.with_spelled.result
+  EndsToo order = EndsTooBy order c.with_spelled.result
+
+  abbrev rewriting : Order
+  rewriting = Rewrite c.in-Rewrite.strip c.in-Rewrite.wide c.in-Rewrite.input c.in-Rewrite.output
 
   rewritten : EndsToo c.in-Ok.order
   rewritten =
       subst EndsToo (sym c.in-Rewrite.is)
-      (subst (λ (e : Ended). EndsOrder g.W.Sink.outlet c.args.out.now c.end_rewriting-ended.new.out (g.S.Store.made c.args.store) then_made FILE_BYTES
-      (known_of (Rewrite c.in-Rewrite.strip c.in-Rewrite.wide c.in-Rewrite.input c.in-Rewrite.output))
-      (Rewrite c.in-Rewrite.strip c.in-Rewrite.wide c.in-Rewrite.input c.in-Rewrite.output) e) (sym c.with_spelled.ensures)
-      (rewriting_ends g.W.Sink.outlet c.args.out.now c.end_rewriting-ended.new.out (g.S.Store.made c.args.store) then_made FILE_BYTES
-      (known_of (Rewrite c.in-Rewrite.strip c.in-Rewrite.wide c.in-Rewrite.input c.in-Rewrite.output)) c.in-Rewrite.strip c.in-Rewrite.wide c.rewrite_file-store.result.1 c.in-Rewrite.input c.in-Rewrite.output
-      c.rewrite_file-store.result.2 c.end_rewriting-ended.result c.rewrite_file-store.result.3 c.end_rewriting-ended.ensures c.rewrite_file-store.ensures.rewrites c.rewrite_file-store.ensures.write
-      c.rewrite_file-store.ensures.untouched c.rewrite_file-store.ensures.stops c.rewrite_file-store.ensures.cause c.rewrite_file-store.ensures.succeeds c.rewrite_file-store.ensures.spelled))
+      (subst (EndsTooBy rewriting) (sym c.with_spelled.ensures)
+      (rewriting_ends g.W.Sink.outlet c.args.out.now c.end_rewriting-ended.new.out (g.S.Store.made c.args.store) then_made
+      (g.S.Store.failed c.args.store) (g.S.Store.failed c.rewrite_file-store.result.0) FILE_BYTES
+      (known_of rewriting) c.in-Rewrite.strip c.in-Rewrite.wide c.rewrite_file-store.result.1 c.in-Rewrite.input c.in-Rewrite.output
+      c.rewrite_file-store.result.2 c.end_rewriting-ended.result c.rewrite_file-store.result.3 c.end_rewriting-ended.ensures c.rewrite_file-store.ensures.answers
+      c.rewrite_file-store.ensures.fails c.rewrite_file-store.ensures.spelled))
 
   rewriting_noted : Notes g.W.Sink.outlet c.args.out.now c.end_rewriting-ended.new.out c.with_spelled.result.status c.with_spelled.result.note
   rewriting_noted =
@@ -146,9 +156,9 @@ returns-in-Rewrite-clause-heard g c = λ no_help no_version zero. (c.in-Ok.order
 
 pub returns-in-Rewrite-clause-makes : goal.returns-in-Rewrite-clause-makes
 returns-in-Rewrite-clause-makes g c =
-    makes_out (g.S.Store.made c.args.store) (then_made g c) FILE_BYTES (known_of g c (Rewrite c.in-Rewrite.strip c.in-Rewrite.wide c.in-Rewrite.input c.in-Rewrite.output)) c.in-Rewrite.strip c.in-Rewrite.wide
-    c.in-Rewrite.output _ c.in-Rewrite.input c.rewrite_file-store.result.1 (c.in-Ok.ensures.order ∙ ap Some c.in-Rewrite.is) c.rewrite_file-store.ensures.rewrites
-    c.rewrite_file-store.ensures.write c.rewrite_file-store.ensures.untouched
+    makes_out (g.S.Store.made c.args.store) (then_made g c) FILE_BYTES (known_of g c (rewriting g c)) c.in-Rewrite.strip c.in-Rewrite.wide
+    c.in-Rewrite.output _ c.in-Rewrite.input c.rewrite_file-store.result.1 (c.in-Ok.ensures.order ∙ ap Some c.in-Rewrite.is) c.rewrite_file-store.ensures.answers.rewrites
+    c.rewrite_file-store.ensures.answers.write c.rewrite_file-store.ensures.answers.untouched
 
 pub returns-in-Rewrite-clause-notes : goal.returns-in-Rewrite-clause-notes
 returns-in-Rewrite-clause-notes g c = rewriting_noted g c
@@ -165,7 +175,7 @@ returns-in-Err-clause-tells g c =
 
 pub returns-in-Err-clause-ordered : goal.returns-in-Err-clause-ordered
 returns-in-Err-clause-ordered g c = λ order takes is.
-    refusal_ends g.W.Sink.outlet c.args.out.now c.refuse.new.out _ _ _ _ order c.in-Err.fault c.refuse.result (c.in-Err.ensures.refuses takes) is c.refuse.ensures
+    refusal_ends g.W.Sink.outlet c.args.out.now c.refuse.new.out _ _ _ _ _ order c.in-Err.fault c.refuse.result (c.in-Err.ensures.refuses takes) is c.refuse.ensures
 
 pub returns-in-Err-clause-refused : goal.returns-in-Err-clause-refused
 returns-in-Err-clause-refused g c = λ takes none.

@@ -12,6 +12,7 @@ mod limits;
 mod loads;
 mod memory;
 mod parts;
+mod refusals;
 mod streams;
 
 use hunk_files::Row;

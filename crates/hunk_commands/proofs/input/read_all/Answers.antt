@@ -1,8 +1,9 @@
-use Rattle.std.proofs.Common.{rules, ◌+◌, ◌<◌, ◌≤◌, ◌++◌, length, take, length-append, refl, arith}
+use Rattle.std.proofs.Common.{rules, ◌≡◌, ◌+◌, ◌<◌, ◌≤◌, ◌++◌, ℕ, List, length, take, drop, length-append, refl, subst, arith}
+use Rattle.std.proofs.lemmas.List.{take-append-le}
 use Rattle.std.proofs.KnownBytes.{Consumes-trans}
 use Rattle.std.proofs.lemmas.Result.{err_from_is_err_and}
 use Rattle.hunk_commands.specs.{declared.fault.RunFault.TheVariants.Memory, Inputs.ReadsInVain}
-use Rattle.hunk_commands.proofs.Engines.{handed}
+use Rattle.hunk_commands.proofs.{Engines.handed, IncomingLaws.of_err}
 use Rattle.hunk_commands.proofs.input.read_all.Goals as goal
 use Rattle.hunk_commands.proofs.input.read_all.Goals.{then-room, else-room}
 
@@ -31,3 +32,17 @@ returns-in_err-take-in-Ok-clause-reads_at_most g c =
       sound = search rules;
       tells_read = search rules;
     }
+
+pub returns-in_err-take-in-Ok-clause-wanted : goal.returns-in_err-take-in-Ok-clause-wanted
+returns-in_err-take-in-Ok-clause-wanted g c =
+    let held = g.T.Taker.took c.reading.taker in
+    let piece = take c.in-Ok.n c.pull.new.buf in
+    let inside : c.in-Ok.n ≤ length c.pull.new.buf = search rules in
+    let same : take c.in-Ok.n (c.pull.new.buf ++ drop c.if-room.ask c.reading.buf) ≡ piece = take-append-le c.in-Ok.n c.pull.new.buf (drop c.if-room.ask c.reading.buf) inside in
+    of_err _ c.from_residual.result
+    (λ fault memory. record {
+      before = held;
+      piece = piece;
+      given = Consumes-trans _ _ _ held piece c.reading.invariant.2 c.in-Ok.ensures.bytes.0;
+      wants = subst (λ (bs : List ℕ). g.T.Taker.wants held bs) same c.in_err-take-in-Ok.ensures.wanted;
+    })

@@ -1,21 +1,11 @@
 use Rattle.std.proofs.Common.{rules}
-use Rattle.hunk_run.proofs.Plainly.{asked_left}
+use Rattle.std.specs.Prelude.{Some}
+use Rattle.hunk_run.specs.Stores.{bytes_of_input}
+use Rattle.hunk_run.proofs.Failing.{answers_input}
 use Rattle.hunk_run.proofs.listing.list_named.Goals as goal
 
-pub returns-in_default-clause-answers : goal.returns-in_default-clause-answers
-returns-in_default-clause-answers g c = record {
-  outcome = search rules;
-  done = search rules;
-  stops = search rules;
-  reads = search rules;
-  succeeds = λ has. c.list_reader.ensures.succeeds (asked_left c.args.form.hex c.args.form.wide c.args.listing _ _ 67108864 (search rules) has);
-}
-
-pub returns-in-Ok-source_of-clause-answers : goal.returns-in-Ok-source_of-clause-answers
-returns-in-Ok-source_of-clause-answers g c = record {
-  outcome = search rules;
-  done = search rules;
-  stops = search rules;
-  reads = search rules;
-  succeeds = λ has. c.list_reader-in-Ok-source_of.ensures.succeeds (asked_left c.args.form.hex c.args.form.wide c.args.listing _ _ 67108864 (search rules) has);
-}
+pub returns-clause-answers : goal.returns-clause-answers
+returns-clause-answers g c =
+    let known = bytes_of_input (g.S.Store.holdings c.args.store.now) (g.S.Store.opened c.args.store.now) (g.S.Store.made c.args.store.now) (Some c.args.name.now) in
+    answers_input g.W.Sink.outlet c.args.form.hex c.args.form.wide c.args.listing _ _ 67108864 c.args.out.now c.list_asked-answer.new.out c.list_asked-answer.result.0 c.list_asked-answer.result.1
+    c.list_asked-answer.ensures known (g.S.File.Read.remaining c.in-Ok.file) (search rules) (search rules) c.close.result (search rules)

@@ -15,9 +15,9 @@ use Rattle.hunk_run.proofs.listing.list_text.Goals as goal
 -- what was listed of the bytes is listed of the text that spells them
 lists_where_done : {W : Type 0} (outlet : W → Outlet) (old new : Writing W) (listing : Listing) (before after cut rest : Supply) (most : ℕ) (bytes : List ℕ)
     (result : Result ℕ RunFault) → ReadsHex before after most bytes → cut.left ≡ Some bytes →
-    IfOk result (λ status. status ≡ 0 → ListsSource outlet false listing cut rest old new) → IfOk result (λ status. status ≡ 0 → ListsSource outlet true listing before after old new)
+    IfOk result (λ status. ListsSource outlet false status listing cut rest old new) → IfOk result (λ status. ListsSource outlet true status listing before after old new)
 lists_where_done outlet old new listing before after cut rest most bytes (Ok status) read known lists =
-    λ done. lists_text outlet old new listing before after cut rest read.input bytes read.read.given read.read.at_end read.holds known (lists done)
+    lists_text outlet old new status listing before after cut rest read.input bytes read.read.given read.read.at_end read.holds known lists
 lists_where_done outlet old new listing before after cut rest most bytes (Err fault) read known lists = tt
 
 -- where nothing is printed of the bytes, nothing is of the text that spells them

@@ -1,5 +1,6 @@
 use Rattle.std.proofs.Common.{rules, ◌≡◌, ◌++◌, ℕ, zero, suc, List, Some, codes, refl, sym, subst}
 use Rattle.std.specs.Fmt.{DisplaysOnOk, decimal}
+use Rattle.hunk_run.specs.Escapes.{escaped}
 use Rattle.hunk_run.specs.Notes.{left_out_parts}
 use Rattle.hunk_run.proofs.note.write_left_out.Goals as goal
 
@@ -17,14 +18,14 @@ both (suc n) (suc rest) some more = refl
 pub returns-then-rest-eq0 : goal.returns-then-rest-eq0
 returns-then-rest-eq0 g c =
     let Writes : List ℕ → List ℕ → Type 0 =
-    λ name parts. DisplaysOnOk g.W.Write.write_str_gives c.args.f.now c.write-then-rest-eq0.result (Some (codes "hunkinfo: " ++ (name ++ (codes ": left out: " ++ parts))))
+    λ name parts. DisplaysOnOk g.W.Write.write_str_gives c.args.f.now c.write-then-rest-eq0.result (Some (codes "hunkinfo: " ++ (escaped name ++ (codes ": left out: " ++ parts))))
     c.write-then-rest-eq0.new.self in
     let parts = blocks_alone c.args.stripped c.args.rest c.if-stripped-eq0.false c.if-rest-eq0.true in
-    subst (Writes c.args.name.now) (sym parts) (subst (λ (name : List ℕ). Writes name (decimal c.args.stripped ++ codes " bytes of NAME, SYMBOL, DEBUG and ADVISORY blocks\n")) c.as_str-name.ensures (search rules))
+    subst (Writes c.args.name.now) (sym parts) (subst (λ (name : List ℕ). Writes name (decimal c.args.stripped ++ codes " bytes of NAME, SYMBOL, DEBUG and ADVISORY blocks\n")) c.escaped-name.ensures (search rules))
 
 pub returns : goal.returns
 returns g c =
     let Writes : List ℕ → List ℕ → Type 0 =
-    λ name parts. DisplaysOnOk g.W.Write.write_str_gives c.args.f.now c.write-2.result (Some (codes "hunkinfo: " ++ (name ++ (codes ": left out: " ++ parts)))) c.write-2.new.self in
+    λ name parts. DisplaysOnOk g.W.Write.write_str_gives c.args.f.now c.write-2.result (Some (codes "hunkinfo: " ++ (escaped name ++ (codes ": left out: " ++ parts)))) c.write-2.new.self in
     let parts = both c.args.stripped c.args.rest c.if-stripped-eq0.false c.if-rest-eq0.false in
-    subst (Writes c.args.name.now) (sym parts) (subst (λ (name : List ℕ). Writes name (decimal c.args.stripped ++ (codes " bytes of NAME, SYMBOL, DEBUG and ADVISORY blocks, " ++ (decimal c.args.rest ++ codes " bytes after the load file\n")))) c.as_str-name.ensures (search rules))
+    subst (Writes c.args.name.now) (sym parts) (subst (λ (name : List ℕ). Writes name (decimal c.args.stripped ++ (codes " bytes of NAME, SYMBOL, DEBUG and ADVISORY blocks, " ++ (decimal c.args.rest ++ codes " bytes after the load file\n")))) c.escaped-name.ensures (search rules))

@@ -9,7 +9,7 @@ use Rattle.hunk_run.proofs.rewriting.rewrite_file.Goals as goal
 
 pub returns-clause-spelled : goal.returns-clause-spelled
 returns-clause-spelled g c =
-    let known = bytes_of_input (g.S.Store.holdings c.args.store) (g.S.Store.made c.args.store) (Some c.args.input.now) in
+    let known = bytes_of_input (g.S.Store.holdings c.args.store) (g.S.Store.opened c.args.store) (g.S.Store.made c.args.store) (Some c.args.input.now) in
     subst (λ (said : Option Spelled). SaysInput false c.args.way.wide 67108864 known (Some c.args.input.now) (IsErrAnd c.rewrite_input-store.result.1 IsUnread) said) (sym c.said_of.ensures)
     (said_of_input 67108864 known false c.args.way.wide (Some c.args.input.now) c.in-Ok.name c.rewrite_input-store.result.1 c.rewrite_input-store.result.3 c.in-Ok.ensures
     c.rewrite_input-store.ensures.spelled)

@@ -1,5 +1,6 @@
 use Rattle.std.proofs.Common.{◌≡◌, ℕ, ◌<◌, List, ◌++◌, length, sym, ap, subst, ◌∙◌, append_assoc, arith}
 use Rattle.std.proofs.KnownBytes.{Consumes-trans}
+use Rattle.hunk_words.specs.declared.fault.Fault.{Fault}
 use Rattle.hunk_scatter.specs.{LoadOutcomes.{GoesPastNoFile, IsBodyStop}, LoadRefusals.{NamesPart, fault_of}}
 use Rattle.hunk_scatter.proofs.loading.load_body.Goals as goal
 
@@ -22,6 +23,7 @@ reading-preserved g c =
       buffer = c.in-Ok.ensures.buffer_kept ∙ i.buffer;
       reading = f.fed.0;
       works = λ e. f.works ∙ i.works e;
+      shows = λ all. c.in-Ok.ensures.shows (i.shows all);
       rows_are = f.rows ∙ i.rows_are;
       given = (
         i.given.0 ++ f.piece,
@@ -46,4 +48,14 @@ returns-in-Err-clause-ends g c =
         subst (IsBodyStop c.args.limit (g.R.Source.supply c.feed_next.new.r) (c.reading.loader.fed ++ f.piece)) (sym told.ensures.fault) f.stops.0,
         told.ensures.names (c.reading.loader.fed ++ f.piece) f.stops.1,
       ),
+    )
+
+pub returns-in-Err-clause-no_further : goal.returns-in-Err-clause-no_further
+returns-in-Err-clause-no_further g c all =
+    let i = c.reading.invariant in
+    let t = c.in-Err.ensures.no_further (i.shows all) in
+    let is : c.reading.loader.fed ++ t.0 ≡ c.args.loader.fed ++ (i.given.0 ++ t.0) = ap (λ (xs : List ℕ). xs ++ t.0) i.given.2 ∙ append_assoc c.args.loader.fed i.given.0 t.0 in (
+      i.given.0 ++ t.0,
+      Consumes-trans _ _ _ i.given.0 t.0 i.given.1 t.1,
+      omega (arith, t.2, ap length is, ap (λ (f : Fault). f.place) c.refused_in_hunk.ensures.fault),
     )

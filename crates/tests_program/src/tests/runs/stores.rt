@@ -39,6 +39,8 @@ fn ran_over<'x>(
     let store = MemoryStore {
         alloc,
         are_regular,
+        is_opened: false,
+        has_failed: false,
         first: Held {
             name: "b",
             bytes: OTHER.as_slice(),

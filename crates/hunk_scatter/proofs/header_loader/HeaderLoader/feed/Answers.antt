@@ -6,6 +6,7 @@ use Rattle.hunk_files.specs.declared.part.Part.TheVariants as parts
 use Rattle.hunk_scatter.specs.{HeaderBytes.{IsHeader, MayGoOnInHeader}, HeaderFaults.{ExceedsBudget, IsHeaderFault}}
 use Rattle.hunk_scatter.specs.{HeaderLoaderFields.StopsInPiece, LoaderValues.HeaderLoaderValue, LoadOutcomes.GoesPastNoHeader}
 use Rattle.hunk_scatter.proofs.{Faults.{rest_within, fed_on}, HeaderEnds.heading_ends, Feeding.rest_bytes, HeaderFields.piece_within}
+use Rattle.hunk_scatter.proofs.HeaderFeeding.{stops_at}
 use Rattle.hunk_scatter.proofs.HeaderStops.{stop_ends, stop_fault, stop_in_header, stop_over, stop_accepts, stops_on}
 use Rattle.hunk_scatter.proofs.header_loader.HeaderLoader.feed.Goals.{else-loop-taken-test, then-loop-taken-test+in-Ok-eq0}
 use Rattle.hunk_scatter.proofs.header_loader.HeaderLoader.feed.Goals as goal
@@ -60,6 +61,11 @@ returns-in-Err-clause-out_of_memory c none e =
     let i = c.loop-taken.invariant in
     let s : StopsInPiece c.args.self.now.budget c.args.self.now.fed c.args.piece.now c.in-Err.fault = stops_on _ _ _ _ _ _ _ i.budget_is i.fed_is c.in-Err.ensures.feeds_or_stops.stops in
     omega (arith, s.3, stop_ends _ s.0 s.1 c.in-Err.fault s.4)
+
+pub returns-in-Err-clause-at_longword : goal.returns-in-Err-clause-at_longword
+returns-in-Err-clause-at_longword c none =
+    let i = c.loop-taken.invariant in
+    stops_at c.args.self.now.budget c.args.self.now.fed c.args.piece.now c.in-Err.fault (stops_on _ _ _ _ _ _ _ i.budget_is i.fed_is c.in-Err.ensures.feeds_or_stops.stops)
 
 -- what is known after the loop: all of the piece was taken, or the header is whole
 abbrev Ended : HeaderLoaderValue → List ℕ → ℕ → HeaderLoaderValue → Type 0

@@ -12,7 +12,7 @@ invariant_of-result c =
       | in-Header+in_ok-stage-in-Header w ↦
           let inv = subst (λ (s : Stage). IsStageAfter s bytes) w.in-Header.is c.self.invariant in
           rw (c.and-history.ensures, w.stage-is)
-          (subst (λ (bs : List ℕ). IsStageAfter w.in_ok-stage-in-Header.stage (bs ++ piece)) inv.0 w.in_ok-stage-in-Header.ensures)
+          (subst (λ (bs : List ℕ). IsStageAfter w.in_ok-stage-in-Header.stage (bs ++ piece)) inv.0 w.in_ok-stage-in-Header.ensures.stage)
       | in-Body w ↦
           let inv = subst (λ (s : Stage). IsStageAfter s bytes) w.in-Body.is c.self.invariant in
           rw (c.and-history.ensures, w.stage-is) (w.feed-stage.ensures bytes inv.0)
