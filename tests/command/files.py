@@ -1,5 +1,7 @@
 """Files for tests of the command `hunk`, and the call of it."""
 
+import contextlib
+import io
 import os
 import pathlib
 import signal
@@ -8,6 +10,8 @@ import sys
 
 TOP = pathlib.Path(__file__).resolve().parents[2]
 COMMAND = [sys.executable, "-W", "error", "-m", "hunk"]
+# Prints how many bytes of addresses the command takes to begin.
+PEAK = 'import re, hunk.command; print(1024 * int(re.search(r"VmPeak:\\s*(\\d+)", open("/proc/self/status").read())[1]))'
 ENVIRONMENT = {**os.environ, "PYTHONPATH": str(TOP / "bindings/python"), "PYTHONDONTWRITEBYTECODE": "1"}
 
 # A unit `a` of two hunks: CODE of 16 bytes in chip memory, with a relocation at 2 of what stands 8 bytes on in hunk 1, and an EXT
@@ -56,6 +60,16 @@ def start(words, folder, **streams):
     """The command with these words, as it runs. ^C ends it, also where the test itself leaves it alone."""
     return subprocess.Popen([*COMMAND, *words], cwd=folder, env=ENVIRONMENT, bufsize=0,
                             preexec_fn=lambda: signal.signal(signal.SIGINT, signal.SIG_DFL), **streams)
+
+
+def called(words):
+    """The same here and in this process, which takes less: the folder is the one of the process."""
+    from hunk import command
+
+    out, err = io.TextIOWrapper(io.BytesIO()), io.StringIO()
+    with contextlib.redirect_stdout(out), contextlib.redirect_stderr(err):
+        status = command.main(words)
+    return out.buffer.getvalue().decode(), err.getvalue(), status
 
 
 def hunk(*words, folder, given=b""):

@@ -47,6 +47,7 @@ refused at byte 76: Truncated (26)
 SAID_CUT = "hunk: cut: refused at byte 76: Truncated: the input ends too soon (damaged)\n"
 HEAD = "   text\t   data\t    bss\t    dec\t    hex\tfilename\n"
 SIZE_OF_SUM = "     48\t      0\t     12\t     60\t     3c\tsum\n"
+TABLE_HEAD = "class\treason\tbyte\trest\tname\n"
 NO_HUNK_FILE = "refused at byte 0: NotLoadFile: the first longword is not 3F3 (no hunk file)"
 NONE_BETWEEN = "0 object, 0 findings, 0 wide"
 # What sha256sum says of it.

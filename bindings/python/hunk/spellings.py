@@ -37,7 +37,8 @@ def plain(data: Data) -> bytes:
 
 
 def input_place(data: Data, place: int) -> int:
-    """The byte of the input `data` at which a byte of its plain spelling stands."""
+    """The byte of the input `data` at which a byte of its plain spelling stands. One that is put in, as of an END that was left
+    out, has the place of the next that is not; from the end of the plain spelling on it is the end of the input."""
     data = bytes_of(data)
     return int(_input_place(data, len(data), number_of(place, 64, "place")))
 

@@ -12,17 +12,27 @@ from __future__ import annotations
 
 import argparse
 import contextlib
-import errno
-import io
-import os
 import sys
-from typing import Optional, Sequence
+from typing import Any, Optional, Sequence
 
 import hunk
-from hunk.command import differences, documents, dump, explain, nm, picture, relocs, show, size, survey
+from hunk.command import (
+    differences,
+    documents,
+    dump,
+    explain,
+    inputs,
+    nm,
+    picture,
+    relocs,
+    show,
+    size,
+    streams,
+    survey,
+)
 
 SUBCOMMANDS = (show, size, nm, relocs, dump, documents, picture, differences, survey, explain)
-CANNOT_WRITE, INTERRUPTED, NOBODY_READS = 3, 130, 141
+NOT_READ, CANNOT_WRITE, INTERRUPTED, NOBODY_READS = 1, 3, 130, 141
 
 DESCRIPTION = "Tells what stands in hunk files of AmigaDOS, executables and object files."
 EPILOG = """All but diff and explain take files, folders with their subfolders, and - for standard input. `hunk SUBCOMMAND
@@ -41,9 +51,16 @@ Exit status:
   141  what reads the output has ended, as with | head"""
 
 
-def make_parser() -> argparse.ArgumentParser:
+class Parser(argparse.ArgumentParser):
+    """A parser that does not pass over what it can't print, as argparse does in some versions."""
+
+    def _print_message(self, message: str, file: Any = None) -> None:
+        (file or sys.stderr).write(message)
+
+
+def make_parser() -> Parser:
     form = argparse.RawDescriptionHelpFormatter
-    parser = argparse.ArgumentParser(prog="hunk", description=DESCRIPTION, epilog=EPILOG, formatter_class=form)
+    parser = Parser(prog="hunk", description=DESCRIPTION, epilog=EPILOG, formatter_class=form)
     parser.add_argument("--version", action="version", version=f"hunk {hunk.__version__}")
     made = parser.add_subparsers(title="subcommands", metavar="SUBCOMMAND", required=True)
     for it in SUBCOMMANDS:
@@ -53,25 +70,17 @@ def make_parser() -> argparse.ArgumentParser:
     return parser
 
 
-def give_up_output() -> None:
-    """Lets what is printed from now on, and what was not written yet, go nowhere."""
-    nowhere = os.open(os.devnull, os.O_WRONLY)
-    for stream in filter(None, (sys.stdout, sys.stderr)):
-        os.dup2(nowhere, stream.fileno())
-
-
 def run(words: Optional[Sequence[str]]) -> int:
     """Does what the words say, and answers the status. All that is printed is then written."""
-    if sys.stdout is None:
-        raise OSError(errno.EBADF, os.strerror(errno.EBADF))
-    if isinstance(sys.stdout, io.TextIOWrapper):
-        sys.stdout.reconfigure(encoding="utf-8", newline="\n")
     try:
         options = make_parser().parse_args(words)
         status = options.run(options)
     except SystemExit as ended:
         # Help was printed, or what is wrong with the words.
         status = ended.code
+    except MemoryError as error:
+        print(f"hunk: {inputs.explained(inputs.alone(error))}", file=sys.stderr)
+        status = NOT_READ
     sys.stdout.flush()
     return int(status)
 
@@ -79,16 +88,17 @@ def run(words: Optional[Sequence[str]]) -> int:
 def main(words: Optional[Sequence[str]] = None) -> int:
     """Runs the command with these words, or those of the command line. Answers its status."""
     try:
+        streams.prepare()
         return run(words)
     except KeyboardInterrupt:
         with contextlib.suppress(OSError):
             sys.stdout.flush()
-        give_up_output()
+        streams.give_up_output()
         return INTERRUPTED
     except BrokenPipeError:
-        give_up_output()
+        streams.give_up_output()
         return NOBODY_READS
     except OSError as error:
         print(f"hunk: writing failed: {error.strerror or error}", file=sys.stderr)
-        give_up_output()
+        streams.give_up_output()
         return CANNOT_WRITE

@@ -5,13 +5,13 @@ from __future__ import annotations
 import argparse
 import collections
 import os
-from typing import Any, Hashable, Iterator, List, NamedTuple, Sequence, Tuple
+from typing import Any, Hashable, Iterator, NamedTuple, Sequence, Tuple
 
 import hunk
 from hunk.command import inputs, show
 from hunk.command.documents import taking
 from hunk.command.layout import Layout, Place
-from hunk.command.words import counted, flag_words, hunk_text, kind_word, text_of
+from hunk.command.words import counted, flag_words, hunk_text, kind_word, printed, text_of
 
 NAME = "diff"
 HELP = "what differs between two files: hunks, blocks, symbols, relocations, content"
@@ -156,17 +156,26 @@ def compare(a: hunk.File, b: hunk.File, is_listed: bool) -> Iterator[str]:
         yield f"rest: {told}"
 
 
-def run(options: argparse.Namespace) -> int:
-    names = map(os.fsencode, (options.first, options.second))
+def compare_files(names: Sequence[bytes], options: argparse.Namespace) -> int:
+    """Prints what differs between the files of these two names, and answers the status."""
     a, b = [inputs.opened(inputs.Found(name, True), options.wide) for name in names]
     if a is None or b is None:
         return TROUBLE
     if a.data == b.data:
         return SAME
-    told: List[str] = []
+    is_told = False
     for line in compare(a, b, options.items):
-        told.append(line)
+        is_told = True
         print(line)
-    if not told:
+    if not is_told:
         print(f"in the file: {bytes_text(a.data, b.data)}")
     return DIFFER
+
+
+def run(options: argparse.Namespace) -> int:
+    names = [os.fsencode(it) for it in (options.first, options.second)]
+    try:
+        return compare_files(names, options)
+    except MemoryError as error:
+        inputs.say_refused(" and ".join(map(printed, names)), error)
+        return TROUBLE

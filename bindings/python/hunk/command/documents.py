@@ -3,10 +3,12 @@
 from __future__ import annotations
 
 import argparse
+import errno
 import json
+import os
 import pkgutil
 import sys
-from typing import Any, Callable, Dict, Iterator, Sequence
+from typing import Any, Callable, Dict, Iterable, Iterator, List, Sequence
 
 import hunk
 from hunk.command import inputs
@@ -21,6 +23,8 @@ that is spelled otherwise (--wide) places are those of the plain spelling. Of a 
 --partial writes what stands before the fault, with its `refusal`."""
 
 Document = Dict[str, Any]
+# The bytes that are kept free while a document is made, and how much of its text is written at once.
+SPARE, PIECE = 1 << 22, 1 << 16
 
 
 class PrintSchema(argparse.Action):
@@ -118,14 +122,32 @@ def of_file(name: str, file: hunk.File) -> Document:
 # ---- Writing them.
 
 
-def write(name: str, file: hunk.File, line_end: str) -> None:
-    """Writes a document hunk by hunk, as all of them may be more than memory holds."""
+def texts_of(name: str, file: hunk.File, line_end: str) -> Iterator[str]:
+    """The text of a document, hunk by hunk, as what it is made of takes more memory than the text."""
     text, made = json.JSONEncoder().encode, json.dumps(of_file(name, file))[:-1] + ', "hunks": ['
     for it in of_hunks(file):
-        sys.stdout.write(made + line_end + text(it))
+        yield made + line_end + text(it)
         made = ","
     # An object file may have no hunks.
-    sys.stdout.write(("" if made == "," else made) + line_end + "]}")
+    yield ("" if made == "," else made) + line_end + "]}"
+
+
+def whole_texts(name: str, file: hunk.File, line_end: str) -> List[str]:
+    """All of a document. Where memory is refused, nothing of it is written yet; else some is left to write it with."""
+    spare = bytearray(SPARE)
+    made = [*texts_of(name, file, line_end)]
+    del spare
+    return made
+
+
+def write(texts: Iterable[str]) -> None:
+    """Writes texts, a little at a time. What is begun and can't go on is no JSON, so nothing may follow."""
+    try:
+        for text in texts:
+            for start in range(0, len(text), PIECE):
+                sys.stdout.write(text[start : start + PIECE])
+    except MemoryError:
+        raise OSError(errno.ENOMEM, os.strerror(errno.ENOMEM)) from None
 
 
 def run(options: argparse.Namespace) -> int:
@@ -134,9 +156,8 @@ def run(options: argparse.Namespace) -> int:
 
     def write_next(name: str, file: hunk.File) -> None:
         nonlocal written
-        sys.stdout.write(",\n" if written and is_list else "")
-        write(name, file, "" if options.lines else "\n")
-        sys.stdout.write("" if is_list else "\n")
+        texts = whole_texts(name, file, "" if options.lines else "\n")
+        write([",\n" if written and is_list else "", *texts, "" if is_list else "\n"])
         written += 1
 
     if is_list:

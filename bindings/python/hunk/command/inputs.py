@@ -152,6 +152,12 @@ def say(name: str, text: str) -> None:
     print(f"hunk: {name}: {text}", file=sys.stderr)
 
 
+def alone(error: Failure) -> Failure:
+    """The failure without where it came from, which would hold the memory of all that was being done there."""
+    error.__traceback__ = error.__context__ = None
+    return error
+
+
 def explained(error: Failure) -> str:
     """What the failure is, and its class as docs/reasons.tsv has it."""
     if isinstance(error, hunk.HunkError):
@@ -182,6 +188,11 @@ def tell_spelling(name: str, spelling: hunk.Spelling) -> None:
         say(name, ", ".join(parts))
 
 
+def say_refused(name: str, error: Failure, data: Optional[bytes] = None, wide: bool = False) -> None:
+    """Says why a file, of which these bytes were read, is not accepted."""
+    say(name, explained(alone(error)) + hint(error, data, wide))
+
+
 def opened(found: Found, wide: bool, partial: bool = False) -> Optional[hunk.File]:
     """What stands in a file, or with `partial` before its fault; None where it can't be read or is refused, which is told."""
     name, data = words.printed(found.name), None
@@ -189,7 +200,7 @@ def opened(found: Found, wide: bool, partial: bool = False) -> Optional[hunk.Fil
         data = read_bytes(found)
         file = hunk.read(data, wide, partial)
     except (hunk.HunkError, OSError, NoFile, MemoryError) as error:
-        say(name, explained(error) + hint(error, data, wide))
+        say_refused(name, error, data, wide)
         return None
     tell_spelling(name, file.spelling)
     return file
@@ -198,9 +209,14 @@ def opened(found: Found, wide: bool, partial: bool = False) -> Optional[hunk.Fil
 def each(options: argparse.Namespace, act: Callable[[str, hunk.File], None]) -> int:
     """Does something with each file that is accepted, by its printed name. The status: 1 where one was not, else 0."""
     status = 0
-    for name in options.names:
-        for found in found_at(os.fsencode(name)):
-            status |= not act_on(found, options, act)
+    for name in map(os.fsencode, options.names):
+        try:
+            for found in found_at(name):
+                status |= not act_on(found, options, act)
+        except MemoryError as error:
+            # A folder may have more names than memory holds.
+            say_refused(words.printed(name), error)
+            status = 1
     return status
 
 
@@ -213,7 +229,7 @@ def act_on(found: Found, options: argparse.Namespace, act: Callable[[str, hunk.F
     try:
         act(name, file)
     except (hunk.HunkError, MemoryError) as error:
-        failure = error
+        failure = alone(error)
     if failure:
-        say(name, explained(failure) + hint(failure, file.data, options.wide))
+        say_refused(name, failure, file.data, options.wide)
     return not failure

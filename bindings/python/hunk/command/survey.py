@@ -5,19 +5,21 @@ from __future__ import annotations
 import argparse
 import collections
 import contextlib
+import functools
 import heapq
 import itertools
 import os
-import signal
 import sys
 import time
-from typing import Any, Generator, Iterable, Iterator, List, Optional
+from typing import Generator, Iterable, Iterator, List, Optional
 
 from hunk.command import inputs, words
 from hunk.command.inputs import Found
 from hunk.command.judging import CLASSES, Row, judge
-from hunk.command.reasons import NOT_JUDGED
-from hunk.command.table import Table, TableError
+from hunk.command.reasons import MEANINGS, NOT_JUDGED, OUT_OF_MEMORY
+from hunk.command.resumed import TableError
+from hunk.command.table import Table
+from hunk.command.workers import MOST, Part, Workers
 
 NAME = "survey"
 HELP = "sort folders of unknown files by what they are: a row a file"
@@ -51,9 +53,10 @@ def add_arguments(parser: argparse.ArgumentParser) -> None:
     parser.add_argument("--json", action="store_true", help="write each row as an object of JSON")
     parser.add_argument("--sha256", action="store_true", help="tell the sum of each file, and which have the same bytes")
     parser.add_argument("--resume", metavar="TABLE",
-                        help="write the rows to this file, and pass over what has one there: so an interrupted run goes on")
-    parser.add_argument("--jobs", metavar="N", type=words.count,
-                        help="how many processes judge files [default: one, and after a second one for each processor]")
+                        help="write the rows to this file, and pass over what has one there: so an interrupted run goes on. "
+                        "It is new or empty, or one that --resume began: its first line names the fields")
+    parser.add_argument("--jobs", metavar="N", type=words.count, help="how many processes judge files, at most 61 "
+                        "[default: one, and after a second one for each processor]")
 
 
 def processors() -> int:
@@ -85,76 +88,51 @@ def chunks(found: Iterator[Found]) -> Iterator[List[Found]]:
         yield chunk
 
 
-def judge_chunk(chunk: List[Found], has_sum: bool) -> List[Row]:
-    return [judge(it, has_sum) for it in chunk]
-
-
-def leave_interrupts() -> None:
-    """In a process that judges: the one that started it ends it."""
-    signal.signal(signal.SIGINT, signal.SIG_IGN)
-
-
-@contextlib.contextmanager
-def pool_of(jobs: int) -> Iterator[Optional[Any]]:
-    """Processes that judge files; None where the system has no processes to give."""
-    try:
-        import multiprocessing
-        from concurrent.futures import ProcessPoolExecutor
-
-        # Elsewhere a process reads anew what this one was started by.
-        context = multiprocessing.get_context("fork" if sys.platform == "linux" else None)
-        pool = ProcessPoolExecutor(jobs, context, leave_interrupts)
-    except (ImportError, NotImplementedError, OSError):
-        yield None
-        return
-    with pool:
-        yield pool
-
-
-def judge_alone(found: Iterator[Found], has_sum: bool, seconds: float) -> Iterator[List[Row]]:
+def judge_alone(found: Iterable[Found], has_sum: bool, seconds: float = float("inf")) -> Iterator[List[Row]]:
     """The rows of the files of so many seconds."""
     begun = time.monotonic()
     for it in found:
-        yield judge_chunk([it], has_sum)
+        yield [judge(it, has_sum)]
         if time.monotonic() - begun > seconds:
             return
 
 
-class Judged:
-    """The rows of a chunk that another process judges. Where that was ended, they are judged here."""
-
-    def __init__(self, pool: Any, chunk: List[Found], has_sum: bool) -> None:
-        self.chunk, self.has_sum, self.answer = chunk, has_sum, None
-        # A pool that has lost a process takes nothing more. And other processes have no standard input.
-        with contextlib.suppress(RuntimeError):
-            if all(it.name != inputs.STANDARD_INPUT for it in chunk):
-                self.answer = pool.submit(judge_chunk, chunk, has_sum)
-
-    def rows(self) -> List[Row]:
-        with contextlib.suppress(RuntimeError):
-            if self.answer:
-                return list(self.answer.result())
-        return judge_chunk(self.chunk, self.has_sum)
-
-    def cancel(self) -> None:
-        if self.answer:
-            self.answer.cancel()
+def judge_chunk(chunk: List[Found], has_sum: bool) -> List[Row]:
+    return [judge(it, has_sum) for it in chunk]
 
 
-def judge_by(pool: Any, found: Iterator[Found], has_sum: bool, ahead: int) -> Iterator[List[Row]]:
+def judge_by(workers: Workers, found: Iterator[Found], has_sum: bool, ahead: int) -> Iterator[List[Row]]:
     """The rows of files that processes judge, of which so many chunks are waited for."""
-    waiting: collections.deque[Judged] = collections.deque()
-    try:
-        for chunk in chunks(found):
-            waiting.append(Judged(pool, chunk, has_sum))
-            # What is judged here may be waited for, after what came before it.
-            while waiting and (waiting[-1].answer is None or len(waiting) >= ahead):
-                yield waiting.popleft().rows()
-        while waiting:
-            yield waiting.popleft().rows()
-    finally:
-        for it in waiting:
-            it.cancel()
+    waiting: collections.deque[Part] = collections.deque()
+
+    def done(most: int) -> Iterator[List[Row]]:
+        """The rows of the first chunks: of those that are judged, and of others until at most so many wait."""
+        while waiting and (waiting[0].answer is not None or len(waiting) > most):
+            if waiting[0].worker:
+                workers.receive()
+                continue
+            part = waiting.popleft()
+            # What no process has judged is judged here.
+            yield from judge_alone(part.given, has_sum) if part.answer is None else [part.answer]
+
+    for chunk in chunks(found):
+        waiting.append(Part(chunk))
+        # Other processes have no standard input. It may be waited for, after what comes before it.
+        is_ours = any(it.name == inputs.STANDARD_INPUT for it in chunk)
+        while not is_ours and not workers.give(waiting[-1]):
+            is_ours = not workers.are_there()
+            workers.receive()
+            yield from done(ahead)
+        yield from done(0 if is_ours else ahead)
+    yield from done(0)
+
+
+def workers_for(jobs: int, has_sum: bool) -> Optional[Workers]:
+    """Processes that judge files; None where one is enough, or the system knows none."""
+    if jobs > 1:
+        with contextlib.suppress(ImportError, NotImplementedError, OSError, MemoryError):
+            return Workers(jobs, functools.partial(judge_chunk, has_sum=has_sum))
+    return None
 
 
 def rows_of(found: Iterator[Found], has_sum: bool, jobs: Optional[int]) -> Generator[List[Row], None, None]:
@@ -165,12 +143,12 @@ def rows_of(found: Iterator[Found], has_sum: bool, jobs: Optional[int]) -> Gener
     first = next(found, None)
     if first is None:
         return
-    found = itertools.chain([first], found)
-    with pool_of(jobs) if jobs > 1 else contextlib.nullcontext() as pool:
-        if pool is None:
-            yield from judge_alone(found, has_sum, float("inf"))
-        else:
-            yield from judge_by(pool, found, has_sum, CHUNKS_AHEAD * jobs)
+    found, workers = itertools.chain([first], found), workers_for(jobs, has_sum)
+    if workers is None:
+        yield from judge_alone(found, has_sum)
+        return
+    with workers:
+        yield from judge_by(workers, found, has_sum, CHUNKS_AHEAD * min(jobs, MOST))
 
 
 # ---- What is told meanwhile.
@@ -202,8 +180,9 @@ def summary(table: Table) -> str:
 def run(options: argparse.Namespace) -> int:
     try:
         table = Table(options.resume, options.json, options.sha256)
-    except (TableError, OSError) as error:
-        print(f"hunk: {options.resume}: {getattr(error, 'strerror', None) or error}", file=sys.stderr)
+    except (TableError, OSError, MemoryError) as error:
+        why = getattr(error, "strerror", None) or str(error) or MEANINGS[OUT_OF_MEMORY]
+        print(f"hunk: {words.printed(os.fsencode(options.resume))}: {why}", file=sys.stderr)
         return 2
     progress = Progress(sys.stderr.isatty() and (options.resume is not None or not sys.stdout.isatty()))
     with table:

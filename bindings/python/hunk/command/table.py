@@ -10,15 +10,11 @@ import os
 import sys
 from typing import Any, Dict, List, Optional, Set
 
-from hunk.command import words
-from hunk.command.judging import CLASSES, Row
+from hunk.command import resumed, words
+from hunk.command.judging import Row
 
 KEYS = ("class", "reason", "byte", "rest", "name")
 SUM_KEYS = (*KEYS[:4], "sha256", "first", "name")
-
-
-class TableError(Exception):
-    """Says that a file has no rows that this run can go on with."""
 
 
 class Table:
@@ -34,46 +30,30 @@ class Table:
         self._names: Set[str] = set()
         self._first: Dict[str, str] = {}
         self._file: Optional[io.FileIO] = None
+        self._is_begun = False
         if path is not None:
-            self._file = open(path, "ab", buffering=0)
             with contextlib.ExitStack() as undone:
-                undone.callback(self._file.close)
-                self._file.truncate(self._take_rows(path))
+                file = undone.enter_context(resumed.opened(path))
+                end = resumed.take_rows(file, self.keys, is_json, self._take)
+                file.truncate(end)
                 undone.pop_all()
+            self._file, self._is_begun = file, end > 0
 
     def __enter__(self) -> Table:
+        if self._file and not self._is_begun:
+            self._write_to(self._file, resumed.head_of(self.keys, self.is_json))
         return self
 
     def __exit__(self, *_: Any) -> None:
         if self._file:
             self._file.close()
 
-    # ---- Reading.
+    # ---- What is done.
 
-    def _take_rows(self, path: str) -> int:
-        """Takes the rows that are there for done. Answers where the last of them ends."""
-        end = 0
-        with open(path, "rb") as file:
-            for number, line in enumerate(file, 1):
-                if not line.endswith(b"\n"):
-                    break
-                try:
-                    row = self._row_of(line[:-1].decode())
-                except (ValueError, KeyError):
-                    raise TableError(f"line {number} is no row of this form of survey") from None
-                self._count(row)
-                self._names.add(row["name"])
-                end += len(line)
-        return end
-
-    def _row_of(self, line: str) -> Dict[str, Any]:
-        """The fields of a line by their keys."""
-        row = json.loads(line) if self.is_json else dict(zip(self.keys, line.split("\t")))
-        if not isinstance(row, dict) or tuple(row) != self.keys or row["class"] not in CLASSES:
-            raise ValueError(line)
-        if not self.is_json and line.count("\t") != len(self.keys) - 1:
-            raise ValueError(line)
-        return row
+    def _take(self, row: Dict[str, Any]) -> None:
+        """Takes a row that is there for done."""
+        self._count(row)
+        self._names.add(row["name"])
 
     def _count(self, row: Dict[str, Any]) -> None:
         """Notes a row that is written."""
@@ -109,6 +89,10 @@ class Table:
         if self._file is None:
             sys.stdout.write(text)
             return
-        data = memoryview(text.encode())
-        while data:
-            data = data[self._file.write(data) or 0 :]
+        self._write_to(self._file, text.encode())
+
+    @staticmethod
+    def _write_to(file: io.FileIO, data: bytes) -> None:
+        left = memoryview(data)
+        while left:
+            left = left[file.write(left) or 0 :]

@@ -61,7 +61,9 @@ def address(text: str) -> int:
 
 
 def count(text: str) -> int:
-    """A number of the command line that is 0 or more, in decimal digits."""
-    if not (text.isascii() and text.isdigit()):
-        raise argparse.ArgumentTypeError(f"{text!r} is no number")
-    return int(text)
+    """A number of the command line of at most 64 bits, in decimal digits."""
+    digits = (text.lstrip("0") or text[-1:]) if text.isascii() and text.isdigit() else ""
+    # What has more digits is not looked at: Python may refuse to.
+    if not (digits and len(digits) <= 20 and int(digits) < 1 << 64):
+        raise argparse.ArgumentTypeError(f"{text!r} is no number of 64 bits in decimal digits")
+    return int(digits)
