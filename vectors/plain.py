@@ -20,9 +20,10 @@ class Units:
         self.out, self.places = bytearray(), []
 
     def give(self, some, taken):
-        """Gives out bytes for a unit of so many bytes of the input."""
+        """Gives out bytes for a unit of so many bytes of the input. What is put in comes first, at the place of the next byte."""
         self.out += some
-        self.places += [self.at] * len(some)
+        put_in = len(some) - taken
+        self.places += [self.at + max(0, i - put_in) for i in range(len(some))]
         self.at += taken
 
     def look(self, size):
@@ -146,8 +147,8 @@ def give_object(units):
 
 
 def plain(data):
-    """The plain spelling, and the place in the input of each of its bytes: of the unit that it is given out for. After these
-    there is the place where the input ends."""
+    """The plain spelling, and the place in the input of each of its bytes; one that is put in has that of the next which is not.
+    After these there is the place where the input ends."""
     units = Units(data)
     try:
         first = units.look(4)

@@ -1,5 +1,16 @@
 /** Hunk files of AmigaDOS: the calls of hunk.h, which says what each answers when. Counts, and places in a file,
- * are numbers, and exact up to 2^53. All of them count from 0. No types of a browser or of node are needed. */
+ * are numbers, and exact up to 2^53. All of them count from 0. No types of a browser or of node are needed.
+ *
+ * What calls throw:
+ * - HunkError, where they refuse the bytes of a file.
+ * - TypeError, where an argument is of another kind than its type says. So are bytes whose memory is gone, an Input that was
+ *   freed or is of another Hunk, and a view of other elements than bytes, as a Uint16Array.
+ * - RangeError, where a number is out of its range. An address, a base and the number of a reason are whole and below 2^32; a
+ *   budget, a length and a place are whole and at most 2^53, and so is `most`, or Infinity. The number of a row is below the
+ *   length of its rows.
+ * - RangeError, too, where the engine has no more memory for the module.
+ *
+ * A TypeError or RangeError of an argument begins with its name. It comes before anything is done, and nothing stays taken. */
 
 export const ABI: number;
 export const BUDGET: number;
@@ -31,11 +42,11 @@ export const FAULTS: Readonly<Record<"BadTarget" | "OutsideHunk", number>>;
 /** The memory that a hunk asks for, by the number in its row of the table. */
 export const MEMORIES: readonly ["any", "chip", "fast", "attributes"];
 
-/** The name of a block's type, as "CODE"; of one that is in no table "ADVISORY" and its number. */
+/** The name of a block's type, as "CODE"; of one that is in no table "ADVISORY" and its number. A type is below 2^29. */
 export function kindName(kind: number): string;
-/** The name of an EXT entry's type, as "REF32". */
+/** The name of an EXT entry's type, as "REF32". A type is at most 255. */
 export function entryKindName(kind: number): string;
-/** The names of the flags that are set, as ["chip"]. */
+/** The names of the flags that are set, as ["chip"]; of flags from 0 to 7. */
 export function flagNames(flags: number): string[];
 /** The name of a finding's fault, as "BadTarget". */
 export function faultName(fault: number): string;
@@ -45,7 +56,9 @@ export function faultName(fault: number): string;
 export class Rows<Row> implements Iterable<Row> {
   private constructor();
   readonly length: number;
+  /** Row i, from 0 to `length` - 1: any other number throws. */
   at(i: number): Row;
+  /** One field of row i. A name that is no field of these rows throws. */
   get(i: number, name: keyof Row & string): number;
   /** The same rows in memory of their own, which stay when an Input is freed. */
   copy(): Rows<Row>;
@@ -57,14 +70,14 @@ export class Input {
   private constructor();
   readonly length: number;
   /** A view of them, made anew by each look. One that was kept is invalid, with a length of 0, once the module's memory has
-   * grown, as a call or another Input may make it; no call takes it then for an empty file, but throws. */
+   * grown, as a call or another Input may make it; no call takes it then for an empty file, but throws a TypeError. */
   readonly bytes: Uint8Array;
-  /** Gives the memory back. The Input and its rows end by that: to use them throws. A view of it that was kept shows then what
-   * later calls write there. */
+  /** Gives the memory back. The Input and its rows end by that: to use them throws a TypeError. A view of it that was kept shows
+   * then what later calls write there; calls take it no more, unless another Input is there. */
   free(): void;
 }
 
-/** A file, or a part of one. */
+/** A file, or a part of one. A view of an Input is taken where it is, also by a call that makes the memory grow. */
 export type Bytes = Uint8Array | Input;
 
 /** Says that a call refused its bytes. */
@@ -148,7 +161,7 @@ export interface Loaded extends FileAnswer { memory: Uint8Array }
  * the END that the input leaves out. */
 export interface Spelling { bytes: number; shortBlocks: number; ends: number }
 
-/** The bytes of a row's name, each as a character. */
+/** The bytes of a row's name, each as a character. A name that is not in these bytes throws a RangeError. */
 export function nameOf(bytes: Bytes, row: Named): string;
 
 /** A load file that comes piece by piece; `Hunk.begin` makes one. The pieces are those after the header. */
@@ -156,6 +169,7 @@ export class Loader {
   private constructor();
   /** 65,536 bytes for the next piece: what the caller puts there is fed without a copy. */
   readonly buffer: Uint8Array;
+  /** How many bytes it took: all of them, unless the file is whole. A fault throws a HunkError, and each later call the same. */
   feed(bytes: Uint8Array): number;
   want(): { bytes: number; place: number; hunks: number };
   end(): { hunks: number; bytes: number; size: number };
@@ -176,20 +190,23 @@ export function takesMemory64(): boolean;
 
 export class Hunk {
   private constructor();
+  /** What is no module of this library rejects with a TypeError, and bytes that are no WebAssembly with what the engine says. */
   static open(source: Source | Promise<Source>): Promise<Hunk>;
   abi(): number;
   /** So many bytes in the module's memory, for the caller to fill. What is there is not cleared. */
   alloc(length: number): Input;
   /** A copy of the bytes in the module's memory, for more than one call. */
-  put(bytes: Uint8Array): Input;
+  put(bytes: Bytes): Input;
   reason(number: number): string;
   reasonText(number: number): string;
   table(bytes: Bytes, budget?: number): Table;
+  /** `bases` is a list with an address for each hunk; what is behind the last hunk's is not used. */
   load(bytes: Bytes, bases: ArrayLike<number>, budget?: number): Loaded;
   /** `size`: the bytes of the hunks together. The memory is written, and where the call throws it is as it was. An Input, or a
    * view of one, is written without a copy; it has to be another one than the file's. */
   loadAt(bytes: Bytes, bases: ArrayLike<number>, start: number, memory: Bytes): FileAnswer & { size: number };
   loadPacked(bytes: Bytes, base: number, budget?: number): Loaded;
+  /** Of fewer bases than the table has rows it throws a RangeError. */
   begin(table: Table, bases: ArrayLike<number>): Loader;
   check(bytes: Bytes, most?: number): Listed<Finding>;
   units(bytes: Bytes, most?: number): Listed<Unit>;

@@ -5,8 +5,10 @@
 //     const { memory } = hunk.loadPacked(bytes, 0x21000);
 //
 // `open` of the package does the same with a module of its own. A file is a Uint8Array or an Input, and is never changed. What a
-// call refuses it throws as a HunkError. hunk.d.ts has each call with its types; hunk.h says what is answered when.
+// call refuses it throws as a HunkError; an argument that is none is a TypeError or RangeError, before anything is done.
+// hunk.d.ts has each call with its types; hunk.h says what is answered when.
 
+import { bytesOf, callable, longs, MOST_BYTES, MOST_LONG, refuseKind, whole } from "./arguments.js";
 import { Loader } from "./loader.js";
 import { Input, Memory, words } from "./memory.js";
 import { copyOf, LAYOUTS, Rows } from "./rows.js";
@@ -45,24 +47,38 @@ export class HunkError extends Error {
 
 /** The bytes of a name, as a text in which each character is a byte. */
 export function nameOf(bytes, row) {
-  const file = bytes instanceof Input ? bytes.bytes : bytes;
-  const end = row.name + row.nameBytes;
-  if (end > file.length) throw new RangeError("the name is not in these bytes: of another file, or an Input's old view");
+  const file = bytes instanceof Input ? bytes.bytes : bytesOf("bytes", bytes, "a Uint8Array or an Input");
+  if (row === null || typeof row !== "object") refuseKind("row", "a row with a name", row);
+  const { name, nameBytes } = row;
+  const end = whole("row.name", name, MOST_BYTES) + whole("row.nameBytes", nameBytes, MOST_BYTES);
+  if (end > file.length) throw new RangeError(`row: its name is not in these ${file.length} bytes, but in those of another file`);
   let text = "";
-  for (let i = row.name; i < end; i++) text += String.fromCharCode(file[i]);
+  for (let i = name; i < end; i++) text += String.fromCharCode(file[i]);
   return text;
+}
+
+const SOURCE = "a module, its bytes or what fetch answers";
+
+/** A module of these bytes. */
+async function compiledOf(bytes) {
+  try {
+    return await WebAssembly.compile(bytes);
+  } catch (error) {
+    if (error instanceof TypeError) refuseKind("source", SOURCE, bytes);
+    throw error;
+  }
 }
 
 /** The module of a source, compiled while it comes where an answer of fetch says what it is. */
 async function compiled(source) {
   if (source === undefined || source === null) throw new TypeError("Hunk.open takes a module: `open` of the package has its own");
   if (typeof source.arrayBuffer !== "function") {
-    return source instanceof WebAssembly.Module ? source : WebAssembly.compile(source);
+    return source instanceof WebAssembly.Module ? source : compiledOf(source);
   }
   if (source.ok === false) throw new Error(`${source.url} has status ${source.status}`);
   const isNamed = source.headers?.get("content-type")?.startsWith("application/wasm");
   if (isNamed && WebAssembly.compileStreaming) return WebAssembly.compileStreaming(source);
-  return WebAssembly.compile(await source.arrayBuffer());
+  return compiledOf(await source.arrayBuffer());
 }
 
 function putBases(lease, bases) {
@@ -80,6 +96,7 @@ export class Hunk {
   #memory;
 
   constructor(module, instance) {
+    if (typeof instance.exports.hunk_abi !== "function") throw new TypeError("source: this module has no calls of hunk.h");
     this.#module = module;
     this.#memory = new Memory(instance);
     if (this.abi() !== ABI) throw new TypeError(`this module has interface ${this.abi()}, and hunk.js ${ABI}`);
@@ -103,12 +120,14 @@ export class Hunk {
 
   /** A copy of the bytes in the module's memory, for more than one call. */
   put(bytes) {
-    const input = this.alloc(bytes.length);
-    input.bytes.set(bytes);
+    const found = this.#memory.find("bytes", bytes);
+    const input = this.alloc(found.length);
+    input.bytes.set(found.view ?? this.#memory.bytes(found.at, found.length));
     return input;
   }
 
   #text(name, number) {
+    whole("number", number, MOST_LONG);
     const memory = this.#memory;
     return memory.within((lease) => {
       const { count } = memory.call(name, number, 0n, 0n);
@@ -140,8 +159,9 @@ export class Hunk {
 
   /** What `use` answers, given the memory of a lease and the file as calls take it. */
   #with(bytes, use) {
+    const found = this.#memory.find("bytes", bytes);
     return this.#memory.within((lease) => {
-      const [file] = lease.places(bytes);
+      const file = lease.place(found);
       return use(lease, words(file), file);
     });
   }
@@ -156,15 +176,16 @@ export class Hunk {
       if (asked.number !== NO_ROOM) this.#answer(asked);
       if (asked.number !== NO_ROOM || count > most) return { answer: asked, rows: new Rows(layout, copyOf(new Uint8Array())) };
       const length = count * layout.size;
-      const home = bytes instanceof Input ? bytes.home(length) : null;
-      const at = home?.at ?? lease.take(length);
+      const at = lease.take(length);
       const answer = this.#answer(memory.call(name, ...file, ...rest, BigInt(at), BigInt(count)));
-      return { answer, rows: new Rows(layout, home ?? copyOf(memory.bytes(at, length))) };
+      const home = bytes instanceof Input ? bytes.home(lease, at, length) : copyOf(memory.bytes(at, length));
+      return { answer, rows: new Rows(layout, home) };
     });
   }
 
   /** The table of a load file: a row for each hunk. */
   table(bytes, budget = BUDGET) {
+    whole("budget", budget, MOST_BYTES);
     const { answer, rows } = this.#rows("hunk_table", LAYOUTS.row, bytes, Infinity, BigInt(budget));
     return { header: answer.place, size: answer.count, rows };
   }
@@ -176,6 +197,7 @@ export class Hunk {
   }
 
   #load(name, bytes, budget, of) {
+    whole("budget", budget, MOST_BYTES);
     const memory = this.#memory;
     return this.#with(bytes, (lease, file) => {
       const length = this.#size(file, budget);
@@ -188,33 +210,39 @@ export class Hunk {
 
   /** Loads a load file, each hunk for an address of its own. */
   load(bytes, bases, budget = BUDGET) {
-    return this.#load("hunk_load", bytes, budget, (lease) => putBases(lease, bases));
+    const list = longs("bases", bases);
+    return this.#load("hunk_load", bytes, budget, (lease) => putBases(lease, list));
   }
 
   /** Loads each hunk of a load file for its own address, and to there: `memory` begins at the address `start`. Where that is an
    * Input, nothing is copied. */
   loadAt(bytes, bases, start, memory) {
+    const list = longs("bases", bases);
+    const first = whole("start", start, MOST_LONG) | 0;
+    const [given, to] = [this.#memory.find("bytes", bytes), this.#memory.find("memory", memory)];
     return this.#memory.within((lease) => {
-      const [file, room] = lease.places(bytes, memory);
-      if (overlap(file, room)) throw new TypeError("the memory overlaps the file");
-      const listed = putBases(lease, bases);
-      const answer = this.#answer(this.#memory.call("hunk_load_at", ...words(file), ...listed, start | 0, ...words(room)));
-      if (room.isCopy) memory.set(this.#memory.bytes(room.at, room.length));
+      const [file, room] = [lease.place(given), lease.place(to)];
+      if (overlap(file, room)) throw new TypeError("memory: it overlaps the file");
+      const listed = putBases(lease, list);
+      const answer = this.#answer(this.#memory.call("hunk_load_at", ...words(file), ...listed, first, ...words(room)));
+      to.view?.set(this.#memory.bytes(room.at, room.length));
       return { hunks: answer.hunk, bytes: answer.place, size: answer.count };
     });
   }
 
   /** Loads a load file for the addresses from `base` on. */
   loadPacked(bytes, base, budget = BUDGET) {
-    return this.#load("hunk_load_packed", bytes, budget, () => [base | 0]);
+    const first = whole("base", base, MOST_LONG) | 0;
+    return this.#load("hunk_load_packed", bytes, budget, () => [first]);
   }
 
   /** A loader for the file that has this table, each hunk for the address that is its base. */
   begin(table, bases) {
-    return new Loader(this, new Memory(new WebAssembly.Instance(this.#module, {})), table, bases);
+    return new Loader(this, this.#module, table, bases);
   }
 
   #list(name, layout, bytes, most = Infinity) {
+    if (most !== Infinity) whole("most", most, MOST_BYTES);
     const { answer, rows } = this.#rows(name, layout, bytes, most);
     return { hunks: answer.hunk, bytes: answer.place, count: answer.count, rows };
   }
@@ -269,27 +297,41 @@ export class Hunk {
 
   /** The plain spelling of a load file that has short relocations, or leaves END out. Other bytes are as they are. */
   plain(bytes) {
-    return this.#with(bytes, (lease, file) => {
-      const length = this.#spelling(lease, file).bytes;
-      return this.#written("hunk_plain", lease, file, length).text;
-    });
+    return this.#with(bytes, (lease, file) => this.#plain(lease, file));
   }
 
-  /** The byte of the input at which a byte of its plain spelling stands. */
+  #plain(lease, file) {
+    const length = this.#spelling(lease, file).bytes;
+    return this.#written("hunk_plain", lease, file, length).text;
+  }
+
+  /** The byte of the input at which a byte of its plain spelling stands. One that is put in, as of an END that was left out, has
+    * the place of the next that is not; from the end of the plain spelling on it is the end of the input. */
   inputPlace(bytes, place) {
-    return this.#with(bytes, (_, file) => Number(this.#memory.exports.hunk_input_place(...file, BigInt(place))));
+    whole("place", place, MOST_BYTES);
+    return this.#with(bytes, (_, file) => this.#inputPlace(file, place));
+  }
+
+  #inputPlace(file, place) {
+    return Number(this.#memory.exports.hunk_input_place(...file, BigInt(place)));
   }
 
   /** What a call makes of the plain spelling of the bytes: wide(bytes, (plain) => hunk.check(plain)). A HunkError that it throws
    * has its place in the bytes themselves. */
   wide(bytes, call) {
-    const plain = this.plain(bytes);
-    try {
-      return call(plain);
-    } catch (error) {
-      if (error instanceof HunkError) throw this.error({ ...error, place: this.inputPlace(bytes, error.place) });
-      throw error;
-    }
+    callable("call", call);
+    const found = this.#memory.find("bytes", bytes);
+    return this.#memory.within((lease) => {
+      const file = words(lease.place(found));
+      const plain = this.#plain(lease, file);
+      try {
+        return call(plain);
+      } catch (error) {
+        if (!(error instanceof HunkError)) throw error;
+        this.#memory.check("bytes", found);
+        throw this.error({ ...error, place: this.#inputPlace(file, error.place) });
+      }
+    });
   }
 
   /** A file that is accepted: what stands before the fault of the bytes, which the text begins with, and what closes that. It is

@@ -1,5 +1,7 @@
 // The names of the format's numbers, as the tables of docs/FORMAT.md have them. The page of web/ shows these, too.
 
+import { MOST_LONG, whole } from "./arguments.js";
+
 /** The types of blocks. An advisory block may have any other number. */
 export const KINDS = Object.freeze({
   UNIT: 0x3e7,
@@ -59,14 +61,22 @@ const KIND_NAMES = byNumber(KINDS);
 const ENTRY_NAMES = byNumber(ENTRY_KINDS);
 const FAULT_NAMES = byNumber(FAULTS);
 
+/** The most that a block's type is, which has 29 bits, an entry's of 8 bits, and its flags, of 3. */
+const MOST_KIND = 2 ** 29 - 1;
+const MOST_ENTRY_KIND = 255;
+const MOST_FLAGS = 7;
+
 /** The name of a block's type, as "CODE"; of one that is in no table "ADVISORY" and its number, as the program prints it. */
-export const kindName = (kind) => KIND_NAMES.get(kind) ?? `ADVISORY ${kind}`;
+export const kindName = (kind) => KIND_NAMES.get(whole("kind", kind, MOST_KIND)) ?? `ADVISORY ${kind}`;
 
 /** The name of an EXT entry's type, as "REF32". */
-export const entryKindName = (kind) => ENTRY_NAMES.get(kind) ?? `type ${kind}`;
+export const entryKindName = (kind) => ENTRY_NAMES.get(whole("kind", kind, MOST_ENTRY_KIND)) ?? `type ${kind}`;
 
 /** The names of the flags that are set, as ["chip"]. */
-export const flagNames = (flags) => Object.keys(FLAGS).filter((name) => flags & FLAGS[name]).map((name) => name.toLowerCase());
+export function flagNames(flags) {
+  whole("flags", flags, MOST_FLAGS);
+  return Object.keys(FLAGS).filter((name) => flags & FLAGS[name]).map((name) => name.toLowerCase());
+}
 
 /** The name of a finding's fault, as "BadTarget". */
-export const faultName = (fault) => FAULT_NAMES.get(fault) ?? `fault ${fault}`;
+export const faultName = (fault) => FAULT_NAMES.get(whole("fault", fault, MOST_LONG)) ?? `fault ${fault}`;

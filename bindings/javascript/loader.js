@@ -1,7 +1,8 @@
 // A load file that comes piece by piece.
 
-import { Lease, words } from "./memory.js";
-import { LAYOUTS } from "./rows.js";
+import { bytesOf, longs, MOST_BYTES, refuseKind, whole } from "./arguments.js";
+import { Lease, Memory, words } from "./memory.js";
+import { LAYOUTS, Rows } from "./rows.js";
 
 const OK = 0;
 const PIECE = 65536;
@@ -14,9 +15,16 @@ function putPlaces(lease, rows, bases) {
   for (let i = 0; i < rows.length; i++) {
     view.setUint32(at + i * size + fields.word.at, rows.get(i, "word"), true);
     view.setUint32(at + i * size + fields.extra.at, rows.get(i, "extra"), true);
-    view.setUint32(at + i * size + fields.base.at, bases[i] >>> 0, true);
+    view.setUint32(at + i * size + fields.base.at, bases[i], true);
   }
   return at;
+}
+
+/** What Hunk.table answers. */
+function wantTable(table) {
+  if (!(table?.rows instanceof Rows) || !table.rows.isOf(LAYOUTS.row)) refuseKind("table", "what Hunk.table answers", table);
+  whole("table.header", table.header, MOST_BYTES);
+  whole("table.size", table.size, MOST_BYTES);
 }
 
 /** A loader, in an instance of its own, which has all its memory from the start. Hunk.begin makes one. */
@@ -27,12 +35,15 @@ export class Loader {
   #memory;
   #piece;
 
-  constructor(hunk, room, table, bases) {
-    if (bases.length < table.rows.length) throw new RangeError(`bases: ${table.rows.length} are needed`);
+  constructor(hunk, module, table, bases) {
+    wantTable(table);
+    const list = longs("bases", bases);
+    if (list.length < table.rows.length) throw new RangeError(`bases: ${table.rows.length} are needed`);
+    const room = new Memory(new WebAssembly.Instance(module, {}));
     this.#hunk = hunk;
     this.#room = room;
     const lease = new Lease(room);
-    const places = { at: putPlaces(lease, table.rows, bases), length: table.rows.length };
+    const places = { at: putPlaces(lease, table.rows, list), length: table.rows.length };
     const loader = lease.take(LAYOUTS.loader.size);
     this.#piece = lease.take(PIECE);
     this.#memory = { at: lease.take(table.size), length: table.size };
@@ -53,17 +64,26 @@ export class Loader {
 
   /** Takes the next bytes, and answers how many it took: all of them unless the file is whole. */
   feed(bytes) {
-    const isThere = this.#room.find(bytes).at !== undefined;
+    const given = this.#apart(bytesOf("bytes", bytes, "a Uint8Array"));
+    const { buffer } = this;
+    const isThere = given.buffer === buffer.buffer;
     let taken = 0;
-    while (taken < bytes.length) {
-      const piece = bytes.subarray(taken, taken + PIECE);
-      if (!isThere) this.buffer.set(piece);
+    while (taken < given.length) {
+      const piece = given.subarray(taken, taken + PIECE);
+      if (!isThere) buffer.set(piece);
       const at = isThere ? piece.byteOffset : this.#piece;
       const answer = this.#room.call("hunk_feed", ...this.#words, ...words({ at, length: piece.length }));
       taken += this.#answer(answer).count;
       if (answer.count < piece.length) break;
     }
     return taken;
+  }
+
+  /** Bytes that `feed` does not change while it reads them: a copy of those of the loader's memory outside of its `buffer`. */
+  #apart(bytes) {
+    const { buffer, byteOffset } = this.buffer;
+    const isOfBuffer = bytes.byteOffset >= byteOffset && bytes.byteOffset + bytes.length <= byteOffset + PIECE;
+    return bytes.buffer !== buffer || isOfBuffer ? bytes : new Uint8Array(bytes);
   }
 
   /** How many bytes may be asked of a pipe without reading past the file: 0 once it is whole. */

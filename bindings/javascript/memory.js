@@ -1,5 +1,6 @@
 // The memory of an instance, after the module's own data, in regions: what a call is given, and what it writes.
 
+import { bytesOf, MOST_BYTES, whole } from "./arguments.js";
 import { LAYOUTS, number } from "./rows.js";
 
 const PAGE = 65536;
@@ -11,6 +12,7 @@ export class Memory {
   #view;
   #answer;
   #free; // the regions that nobody has, [at, end], rising; the last may end where the memory does
+  #inputs = new Map(); // where each Input stands, and how many bytes it has
 
   /** It counts what makes views invalid: that the memory has grown, or an Input was freed. */
   epoch = { count: 0 };
@@ -47,12 +49,16 @@ export class Memory {
     this.#free.splice(from, Number(before) + Number(after), [first, last]);
   }
 
-  /** Makes the last region as long, and answers which it is. */
+  /** Makes the last region as long, and answers which it is. Where the memory can't grow all stays as it was. */
   #grow(bytes) {
     const size = this.#memory.buffer.byteLength;
     const last = this.#free.at(-1);
     const has = last?.[1] === size ? last[1] - last[0] : 0;
-    this.#addPages(Math.ceil((bytes - has) / PAGE));
+    try {
+      this.#addPages(Math.ceil((bytes - has) / PAGE));
+    } catch (cause) {
+      throw new RangeError(`the module's memory can't grow from ${size} bytes by ${bytes - has}`, { cause });
+    }
     this.epoch.count += 1;
     if (has > 0) last[1] = this.#memory.buffer.byteLength;
     else this.#free.push([size, this.#memory.buffer.byteLength]);
@@ -78,14 +84,33 @@ export class Memory {
     return this.#view;
   }
 
-  /** Where bytes are to be found: at a place, if they are those of this memory. */
-  find(bytes) {
-    if (bytes instanceof Input) return { at: bytes.place(this), length: bytes.length };
-    if (!ArrayBuffer.isView(bytes) || bytes.BYTES_PER_ELEMENT !== 1) throw new TypeError("bytes are a Uint8Array or an Input");
-    if (bytes.buffer === this.#memory.buffer) return { at: bytes.byteOffset, length: bytes.length };
-    // A view whose buffer is gone has no bytes, and is no empty file: this throws.
-    if (bytes.length === 0) new Uint8Array(bytes.buffer);
-    return { bytes, length: bytes.length };
+  /** Where the bytes of an argument are to be found: at a place, if they are those of this memory, or in a view outside of it. So
+   * those of this memory are found once it has grown, too, which makes each view of them invalid. */
+  find(name, bytes) {
+    if (bytes instanceof Input) return { at: bytes.place(name, this), length: bytes.length };
+    const view = bytesOf(name, bytes, "a Uint8Array or an Input");
+    const { byteOffset, length } = view;
+    const found = view.buffer === this.#memory.buffer ? { at: byteOffset, length } : { view, length };
+    this.check(name, found);
+    return found;
+  }
+
+  /** Throws where what was found in this memory is of no Input: elsewhere, as where one was freed, calls write. */
+  check(name, found) {
+    const { at, length } = found;
+    if (at === undefined || length <= this.#inputs.get(at)) return;
+    for (const [first, bytes] of this.#inputs) if (first <= at && at + length <= first + bytes) return;
+    throw new TypeError(`${name}: this view of the module's memory is of no Input, or of one that was freed`);
+  }
+
+  /** Counts an Input in, and out once it is freed. */
+  hold(at, length) {
+    this.#inputs.set(at, length);
+  }
+
+  drop(at) {
+    this.#inputs.delete(at);
+    this.epoch.count += 1;
   }
 
   /** What `use` answers. What it takes by the lease that it gets is given back then. */
@@ -130,31 +155,39 @@ export class Lease {
     return at;
   }
 
-  /** Where bytes stand in the memory, of each {at, length, isCopy}. Those that are there stay; the others are copied, after all
-   * were found: views become invalid by that. */
-  places(...given) {
-    const found = given.map((bytes) => this.memory.find(bytes));
-    return found.map(({ at, bytes, length }) => ({ at: at ?? this.#put(bytes), length, isCopy: at === undefined }));
+  /** Where what was found stands in the memory: what is there stays, and a view of something else is copied. */
+  place({ at, view, length }) {
+    return { at: at ?? this.#put(view), length };
   }
 
-  #put(bytes) {
-    const at = this.take(bytes.length);
-    this.memory.bytes(at, bytes.length).set(bytes);
+  #put(view) {
+    const at = this.take(view.length);
+    this.memory.bytes(at, view.length).set(view);
     return at;
   }
 
+  /** Leaves a region to another lease, which gives it back. */
+  leave(at, lease) {
+    const i = this.#regions.findIndex(([it]) => it === at);
+    lease.#regions.push(...this.#regions.splice(i, 1));
+  }
+
   bytes(at, length) {
-    this.check();
+    this.check("rows");
     return this.memory.bytes(at, length);
   }
 
-  check() {
-    if (this.#isEnded) throw new TypeError("the Input was freed, and its rows with it");
+  /** `name`: of what is asked for. */
+  check(name) {
+    if (this.#isEnded) throw new TypeError(`${name}: the Input was freed, and its rows with it`);
   }
 
+  /** Gives all back, and answers whether that was still to be done. */
   end() {
-    if (!this.#isEnded) for (const [at, length] of this.#regions) this.memory.give(at, length);
+    const isFirst = !this.#isEnded;
+    for (const [at, length] of this.#regions.splice(0)) this.memory.give(at, length);
     this.#isEnded = true;
+    return isFirst;
   }
 }
 
@@ -162,36 +195,42 @@ export class Lease {
 export class Input {
   #lease;
   #at;
+  #length;
 
   constructor(memory, length) {
-    if (!Number.isSafeInteger(length) || length < 0) throw new RangeError(`an Input of ${length} bytes`);
+    whole("length", length, MOST_BYTES);
     this.#lease = new Lease(memory);
     this.#at = this.#lease.take(length);
-    this.length = length;
+    this.#length = length;
+    memory.hold(this.#at, length);
+  }
+
+  get length() {
+    return this.#length;
   }
 
   /** A view of them, made anew by each look: one that was kept is invalid, and empty, once the memory has grown. */
   get bytes() {
-    return this.#lease.bytes(this.#at, this.length);
+    this.#lease.check("bytes");
+    return this.#lease.memory.bytes(this.#at, this.#length);
   }
 
-  /** For the calls: where it stands. */
-  place(memory) {
-    if (memory !== this.#lease.memory) throw new TypeError("the Input is of another Hunk");
-    this.#lease.check();
+  /** For the calls: where it stands, as their argument of this name. */
+  place(name, memory) {
+    if (memory !== this.#lease.memory) throw new TypeError(`${name}: the Input is of another Hunk`);
+    this.#lease.check(name);
     return this.#at;
   }
 
-  /** For the calls: a home for rows that end with it. */
-  home(length) {
-    const lease = this.#lease;
-    const at = lease.take(length);
-    return { epoch: lease.memory.epoch, at, bytes: () => lease.bytes(at, length) };
+  /** For the calls: takes over rows that a lease has taken, which end with it. */
+  home(lease, at, length) {
+    const own = this.#lease;
+    lease.leave(at, own);
+    return { epoch: own.memory.epoch, bytes: () => own.bytes(at, length) };
   }
 
   /** Gives the memory back. Its rows end with it: to read them throws. */
   free() {
-    this.#lease.end();
-    this.#lease.memory.epoch.count += 1;
+    if (this.#lease.end()) this.#lease.memory.drop(this.#at);
   }
 }

@@ -1,5 +1,7 @@
 // The structs of hunk.h, and the rows of a table.
 
+import { isWhole, refuse, refuseKind } from "./arguments.js";
+
 // Each field with its bytes, in their order. tests/targets holds them to what a C compiler makes.
 const STRUCTS = {
   answer: "number 4 hunk 4 place 8 count 8",
@@ -50,14 +52,17 @@ export function number(view, at, bytes) {
 const NEVER = { count: 0 };
 export const copyOf = (bytes) => {
   const copy = bytes.slice();
-  return { epoch: NEVER, at: 0, bytes: () => copy };
+  return { epoch: NEVER, bytes: () => copy };
 };
+
+/** The fields of a layout that have a meaning, by their names. */
+const named = ({ fields }) => new Map(Object.entries(fields).filter(([name]) => name !== "reserved"));
 
 /** The rows of a table. A row is an object that is made when it is asked for: a file may have millions. Where they stand, their
  * home says: its `bytes()` throw once they are gone, and are asked again when its `epoch` has another count. */
 export class Rows {
   #layout;
-  #names;
+  #fields;
   #home;
   #epoch;
   #count;
@@ -65,7 +70,7 @@ export class Rows {
 
   constructor(layout, home) {
     this.#layout = layout;
-    this.#names = Object.keys(layout.fields).filter((name) => name !== "reserved");
+    this.#fields = named(layout);
     this.#home = home;
     this.#epoch = home.epoch;
     this.#renew();
@@ -78,18 +83,32 @@ export class Rows {
     this.#count = this.#epoch.count;
   }
 
+  /** Whether they are rows of this layout. */
+  isOf(layout) {
+    return layout === this.#layout;
+  }
+
+  /** Where row i begins in the view. */
+  #row(i) {
+    if (!isWhole(i, this.length - 1)) refuse("i", `the number of one of ${this.length} rows`, i);
+    if (this.#count !== this.#epoch.count) this.#renew();
+    return i * this.#layout.size;
+  }
+
   /** Row i, counted from 0. */
   at(i) {
+    const from = this.#row(i);
     const row = {};
-    for (const name of this.#names) row[name] = this.get(i, name);
+    for (const [name, { at, bytes }] of this.#fields) row[name] = number(this.#view, from + at, bytes);
     return row;
   }
 
   /** One field of row i, without the others. */
   get(i, name) {
-    if (this.#count !== this.#epoch.count) this.#renew();
-    const { at, bytes } = this.#layout.fields[name];
-    return number(this.#view, i * this.#layout.size + at, bytes);
+    const from = this.#row(i);
+    const field = this.#fields.get(name);
+    if (field === undefined) refuseKind("name", `one of ${[...this.#fields.keys()].join(", ")}`, name);
+    return number(this.#view, from + field.at, field.bytes);
   }
 
   /** The same rows in memory of their own, which stay when an Input is freed. */

@@ -4,6 +4,7 @@
 calls=$here/package
 project=$work/project
 symbol=$work/files/18-symbol
+suite=$top/vectors
 
 # prints WHAT LINES WORD..: that a command, in the folder of the project, prints these lines
 prints() {
@@ -31,6 +32,9 @@ runs() {
 $symbol 36 20 SYMBOL
 $symbol 56 4 END" node "$@" blocks.js "$symbol"
   prints "tests/targets/package/inputs.js in node $*" 'as promised' node "$@" inputs.js "$symbol"
+  prints "tests/targets/package/wrong.js in node $*" 'as promised' node "$@" wrong.js "$symbol"
+  prints "tests/targets/package/fuzz.js in node $*" 'as promised' \
+    node "$@" fuzz.js "$suite/load.tsv" "$suite/objects.tsv" "$suite/wide.tsv"
 }
 # types: that a program compiles, with no types of a browser or of node, by both ways in which packages are found
 types() {

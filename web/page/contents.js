@@ -40,6 +40,13 @@ export class Contents {
     return this.blocks.get(this.found[number], field);
   }
 
+  /** The bytes of a hunk in memory. One whose content does not stand before the fault has none. */
+  bytes(number) {
+    const { table } = this.file;
+    if (table) return table.rows.get(number, "bytes");
+    return number < this.count ? this.get(number, "memory") : 0;
+  }
+
   /** The name of the block; nothing where the blocks are too many to be listed. */
   name(number) {
     return number < this.count ? blockName(this.get(number, "kind")) : "";

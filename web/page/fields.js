@@ -70,7 +70,7 @@ export function placeIn(file, unit, hunk, offset) {
   const contents = file.contents();
   const number = contents.number(unit, hunk);
   if (number === undefined) return null;
-  const isInside = offset < (file.table ? file.table.rows.get(hunk, "bytes") : contents.get(number, "memory"));
+  const isInside = offset < contents.bytes(number);
   const address = file.isLoadable ? ` = ${hex((file.base + file.starts[hunk] + offset) >>> 0)}` : "";
   return {
     text: `hunk ${hunk} + ${hex(offset)}${address}${isInside ? "" : ", outside of it"}`,

@@ -151,7 +151,8 @@ function jump({ place, bytes = 4, memory: at }) {
 /** Shows an item of a list where it stands. */
 function pick(item) {
   const { place, bytes, hunk, offset } = item;
-  const isInside = file.table && offset < file.table.rows.get(hunk, "bytes");
+  // A hunk itself has no offset, and is no item of one.
+  const isInside = file.table && offset !== undefined && offset < file.table.rows.get(hunk, "bytes");
   jump({ place, bytes, memory: isInside ? file.starts[hunk] + offset : item.memory });
 }
 

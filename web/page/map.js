@@ -33,11 +33,6 @@ export class HunkMap {
     return Math.floor((hunk * this.count) / this.hunks);
   }
 
-  #bytes(hunk) {
-    const { table } = this.file;
-    return table ? table.rows.get(hunk, "bytes") : this.contents.get(hunk, "memory");
-  }
-
   /** The number of its kind of memory. In an object file the block's word names it: its flags are an advisory bit, and these. */
   #memory(hunk) {
     const { table } = this.file;
@@ -48,7 +43,7 @@ export class HunkMap {
   #bar(first, end) {
     const bar = { first, end, bytes: 0, kinds: [0, 0, 0], memories: [0, 0, 0, 0] };
     for (let i = bar.first; i < bar.end; i++) {
-      bar.bytes += this.#bytes(i);
+      bar.bytes += this.contents.bytes(i);
       bar.kinds[this.contents.get(i, "kind") - KINDS.CODE] += 1;
       bar.memories[this.#memory(i)] += 1;
     }
@@ -101,7 +96,7 @@ export class HunkMap {
   text(number) {
     const row = { unit: this.contents.get(number, "unit"), hunk: this.contents.get(number, "hunk") };
     const memory = memoryName(this.#memory(number));
-    const texts = [whereText(this.file, row), this.contents.name(number), counted(this.#bytes(number), "byte"), memory];
+    const texts = [whereText(this.file, row), this.contents.name(number), counted(this.contents.bytes(number), "byte"), memory];
     const [first, end] = rowsOfHunk(this.file.list("relocations").rows, row.unit, row.hunk);
     if (end > first) texts.push(counted(end - first, "relocation") + this.#targetsText(number));
     return texts.join(", ");

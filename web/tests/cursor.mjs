@@ -48,7 +48,7 @@ const MARKED = `const marked = (id, name) => [...document.querySelectorAll("#" +
     return parseInt(line.firstChild.textContent, 16) + [...line.children].indexOf(it) - 1;
   }).map((it) => it.toString(16)).join(" ");`;
 
-const pointed = (page, id, byte, type = "pointermove") =>
+export const pointed = (page, id, byte, type = "pointermove") =>
   page.in(`${POINT} point(values[2], values[0], values[1]); return line(values[0])`, id, byte, type);
 
 async function holdLines(page, hold, name, id, lines) {

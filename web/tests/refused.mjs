@@ -1,6 +1,8 @@
 // Files that are refused: what is shown of their table and blocks before the fault, where the fault is drawn, and the reading of
 // the plain spelling beside them. What is wanted was written by hand, from the longwords of each file.
 
+import { pointed } from "./cursor.mjs";
+
 const digits = (text) => text.replace(/\s+/g, "");
 
 /** Two hunks of 8 bytes: CODE with a symbol, and its END; and DATA, before its relocation of hunk 2. */
@@ -17,6 +19,8 @@ const OBJECT = digits(`
   000003e7 00000001 61000000 000003e9 00000001 4e714e75 000003ec 00000001 00000002 00000004 00000000
   000003ef 01000001 5f610000 00000002 81000001 5f620000 00000001 00000000 00000000 000003f2
   000003e8 00000001 62000000 000003f5 00000000`);
+/** The same, but for the target: hunk 1, of which no content stands before the fault. */
+const NAMED = `${OBJECT.slice(0, 2 * 32)}00000001${OBJECT.slice(2 * 36)}`;
 /** A unit of a BSS, and the word of a second unit. */
 const UNITS = digits("000003e7 00000000 000003eb 00000001 000003f2 000003e7 00000005");
 /** CODE of 8 bytes, a short block of offset 0, and no END. */
@@ -120,6 +124,9 @@ class Refused {
     await this.same("its lists", "Units 1,Blocks 5,Relocations 1,External names 2,References 1", TABS);
     const blocks = "0000000c 0.0 CODE,00000018 0.0 RELOC32,0000002c 0.0 EXT,00000050 0.0 END,00000054 0.1 NAME";
     await this.same("its blocks", blocks, ROWS, "blocks", 3);
+    await this.show("a hunk without content", NAMED, verdict, `${fault} ${before}`);
+    const target = "00000020 | unit 0, hunk 0, RELOC32: target | 00000001 | hunk 1 | → hunk 1 + 00000000, outside of it";
+    this.hold("a hunk without content, what leads to it", target, await pointed(this.page, "file", 0x20));
     const second = "The fault is in the UNIT, which begins at byte 20 (00000014).";
     const shown = "Before it stand 20 bytes, which are shown: 1 unit, 2 blocks.";
     const refused = "Begins as an object file: refused at byte 28 (0000001c), Truncated (26).";

@@ -123,6 +123,9 @@ impl<'a> Plain<'a> {
 
     /// The byte of the input at which this byte of the plain spelling stands.
     ///
+    /// One that is put in, as of an END that was left out, has the place of the next that is not. From the end of the plain
+    /// spelling on it is the end of the input.
+    ///
     /// ```
     /// # let longs = [0x3F3_u32, 0, 2, 0, 1, 2, 1, 0x3E9, 2, 0x4EF9_0000, 0x0000_4E71, 0x3EC, 1, 1, 2, 0, 0x3F0, 1,
     /// #     0x6D61_696E, 0, 0, 0x3F2, 0x3EA, 1, 0x1234_5678, 0x3F2];

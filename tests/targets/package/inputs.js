@@ -2,26 +2,9 @@
 // one symbol. It prints what is not so, and ends with status 1; else `as promised`.
 import { readFile } from "node:fs/promises";
 import { FLAGS, flagNames, Hunk, HunkError, KINDS, kindName, nameOf, open, takesMemory64 } from "hunk-files";
+import { beside, fill, finish, hold, refuses, thrown } from "./held.js";
 
-let failed = 0;
-function hold(what, isSo) {
-  if (isSo) return;
-  failed += 1;
-  console.log(`not so: ${what}`);
-}
-
-/** What a call throws; nothing where it does not. */
-function thrown(call) {
-  try {
-    call();
-    return null;
-  } catch (error) {
-    return error;
-  }
-}
-const refuses = (kind, call) => thrown(call) instanceof kind;
 const text = (listed) => JSON.stringify([...listed.rows]);
-const beside = (name) => readFile(new URL(`./node_modules/hunk-files/${name}`, import.meta.url));
 
 /** The module that `open` takes. */
 async function picked() {
@@ -58,11 +41,29 @@ function holdGrowth(hunk, bytes) {
   const more = hunk.alloc(1 << 24);
   hold("a view from before is empty", view.length === 0 && input.bytes.length === bytes.length);
   hold("no call takes it for an empty file", refuses(TypeError, () => hunk.check(view)));
-  hold("no name is read in it", refuses(RangeError, () => nameOf(view, rows.at(0))));
+  hold("no name is read in it", refuses(TypeError, () => nameOf(view, rows.at(0))));
   hold("rows and names go on", nameOf(input, rows.at(0)) === "_m" && rows.get(0, "value") === 0);
   hold("calls take the Input", text(hunk.blocks(input)) === text(hunk.blocks(bytes)));
+  const copy = hunk.put(more.bytes.fill(7));
+  hold("bytes of the memory are copied when it grows", copy.bytes.every((it) => it === 7) && copy.length === 1 << 24);
+  copy.free();
   more.free();
   input.free();
+}
+
+/** A list of bases that makes the memory grow as it is read, and a view that it makes invalid by that. */
+function holdLists(hunk, bytes) {
+  const input = hunk.put(bytes);
+  const view = input.bytes;
+  const taken = [input];
+  const grow = () => taken.push(fill(hunk), hunk.alloc(1));
+  const bases = { length: 1, get 0() { return grow() && 0x21000; } };
+  const { memory } = hunk.load(bytes, bases);
+  hold("a list that makes the memory grow", Buffer.compare(memory, hunk.loadPacked(bytes, 0x21000).memory) === 0);
+  hold("a list is read once", taken.length === 3);
+  hold("no view from before is taken", view.length === 0 && refuses(TypeError, () => hunk.load(view, [0])));
+  hold("nor one that the list makes invalid", refuses(TypeError, () => hunk.load(input.bytes, bases)));
+  for (const it of taken) it.free();
 }
 
 function holdFree(hunk, bytes) {
@@ -83,6 +84,11 @@ function holdFree(hunk, bytes) {
     it.free();
     return byteLength;
   };
+  const again = hunk.put(bytes);
+  input.free();
+  hold("who frees once more frees nobody else's", text(hunk.blocks(again.bytes)) === before);
+  const gone = () => hunk.wide(again, () => again.free() ?? hunk.check(new Uint8Array()));
+  hold("nor is a place looked up in what was freed", refuses(TypeError, gone));
   const was = size();
   for (let i = 0; i < 2000; i++) {
     const [one, other] = [hunk.put(bytes), hunk.alloc(1000 + i)];
@@ -105,8 +111,12 @@ function holdMemory(hunk, bytes) {
   hunk.loadAt(file, [0x1020], 0x1000, ram.bytes);
   hold("and a view of it", ram.bytes[32] === 0x4e);
   hold("not over the file", refuses(TypeError, () => hunk.loadAt(file, [0], 0, file)));
-  file.free();
+  hold("a length stays", refuses(TypeError, () => (ram.length = 1000)) && ram.bytes.length === 64);
+  const view = ram.bytes;
   ram.free();
+  hold("nor where an Input was freed", refuses(TypeError, () => hunk.loadAt(file, [0x1010], 0x1000, view)));
+  hold("nor to all of the memory", refuses(TypeError, () => hunk.loadAt(bytes, [0], 0, new Uint8Array(view.buffer))));
+  file.free();
 }
 
 function holdLoader(hunk, bytes) {
@@ -120,14 +130,30 @@ function holdLoader(hunk, bytes) {
   hold("its memory is a view", loader.end().hunks === 1 && Buffer.compare(view, memory) === 0 && memory.length > 0);
 }
 
+/** A hunk of 64 bytes, with a longword of content, and a relocation of the one at byte 32. */
+const RELOCATED = "000003f3 00000000 00000001 00000000 00000000 00000010 000003e9 00000001 4e714e75 " +
+  "000003ec 00000001 00000000 00000020 00000000 000003f2";
+
+/** What is fed of the loader's memory, where it loads to. */
+function holdOwn(hunk) {
+  const bytes = Buffer.from(RELOCATED.replaceAll(" ", ""), "hex");
+  const table = hunk.table(bytes);
+  const loader = hunk.begin(table, [0x21000]);
+  const rest = bytes.subarray(table.header);
+  loader.memory().set(rest);
+  hold("what is fed is read before it is loaded over", loader.feed(loader.memory().subarray(0, rest.length)) === rest.length);
+}
+
 const bytes = await readFile(process.argv[2]);
 const module = await beside("hunk32.wasm");
 await holdModules(module);
 for (const hunk of [await open(), await Hunk.open(module)]) {
   holdGrowth(hunk, bytes);
+  holdLists(hunk, bytes);
   holdFree(hunk, bytes);
   holdMemory(hunk, bytes);
   holdLoader(hunk, bytes);
+  holdOwn(hunk);
   const other = (await open()).put(bytes);
   hold("an Input is of its Hunk", refuses(TypeError, () => hunk.check(other)));
   hold("an Input has a length", refuses(RangeError, () => hunk.alloc(-1)) && refuses(RangeError, () => hunk.alloc(1.5)));
@@ -139,5 +165,4 @@ for (const hunk of [await open(), await Hunk.open(module)]) {
 }
 hold("names of kinds", kindName(0x3e9) === "CODE" && KINDS.CODE === 0x3e9 && kindName(1012) === "ADVISORY 1012");
 hold("names of flags", flagNames(FLAGS.ADVISORY | FLAGS.FAST).join() === "advisory,fast");
-if (failed === 0) console.log("as promised");
-process.exit(failed > 0 ? 1 : 0);
+finish();

@@ -17,6 +17,11 @@ async function lists(hunk: Hunk, bytes: Uint8Array): Promise<string[]> {
   rows.get(place, "nothing");
   // @ts-expect-error: a file is no text
   hunk.check("file");
+  // @ts-expect-error: an address is no text
+  hunk.loadPacked(bytes, "21000");
+  // @ts-expect-error: a budget is a number
+  hunk.table(bytes, 5n);
+  hunk.put(input).free();
   // @ts-expect-error: a type of block that is not there
   names.push(String(KINDS.NOTHING));
   input.free();
