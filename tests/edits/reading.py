@@ -2,6 +2,7 @@
 
 from built import ROOT
 from edit import WANTED, Edit
+from helpers import unsaid
 
 
 def edits_of(crate):
@@ -56,5 +57,7 @@ def faults(crate, edits):
             found.append(f"{edit.name}: has no control")
         elif not edit.functions():
             found.append(f"{edit.name}: changes no function, and names none")
+        elif edit.has("new"):
+            found += unsaid(edit)
     found += [f"{crate}/{name}: has no control" for name in sorted(tried - set(names))]
     return found
