@@ -73,7 +73,7 @@ impl<'a> Longs<'a> {
 }
 
 /// The longwords of a list that are still to come. Contracts see them as the list of their numbers.
-#[derive(Debug, Drop)]
+#[derive(Drop)]
 pub struct LongsIter<'a> {
     rest: &'a [u8],
 }

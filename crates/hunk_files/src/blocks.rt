@@ -1,9 +1,10 @@
 //! The blocks of a hunk, of files of both kinds, read where they lie.
-ghost use Rattle.std.specs.Prelude.{◌≡◌, ◌+◌, ◌*◌, [], IfErr, IfOk, length};
+ghost use Rattle.std.specs.Prelude.{◌≡◌, ◌≤◌, ◌+◌, ◌*◌, ◌++◌, [], ◌∷◌, ◌⊎◌, IfErr, IfOk, OnOk, length};
 ghost use Rattle.std.specs.Iterator.{item_count};
 ghost use Rattle.hunk_words.specs.declared.reason.Reason.TheVariants as reasons;
 ghost use Rattle.hunk_words.specs.Longs.{bytes_of};
 ghost use Rattle.hunk_words.specs.Prints.{Prints};
+ghost use Rattle.hunk_blocks.specs.Begins.{LacksItemAt};
 ghost use Rattle.hunk_blocks.specs.Parts.{block_text};
 ghost use Rattle.hunk_files.specs.Hunks.{HunkAt, block_texts};
 ghost use Rattle.hunk_files.specs.InPlace.{GivesPart};
@@ -107,7 +108,6 @@ impl<'a> Iterator for BlockViews<'a> {
 /// # Errors
 ///
 /// `OutOfMemory` at the last longword of the group, entry or block for which no memory was found.
-#[tactic(auto, using(crate::proofs::keeping::BlockPlaces::item_lacks))]
 pub(crate) fn keep_blocks<'a>(
     alloc: Global,
     blocks: &mut BlockViews<'a>,
@@ -121,12 +121,34 @@ pub(crate) fn keep_blocks<'a>(
 {
     let mut kept = Vec::new(alloc);
     'keeping: while let Some(view) = blocks.next() {
-        let block = Block::keep(alloc, view)?;
-        if append(&mut kept, block).is_err() {
-            return Err(out_of_memory(blocks.at));
-        }
+        keep_block(alloc, &mut kept, view, blocks.at)?;
     }
     Ok(kept)
+}
+
+/// Appends the block, which ends at byte `end`, to those that are kept.
+///
+/// # Errors
+///
+/// `OutOfMemory` at the last longword of the block, or of the group or entry, for which no memory
+/// was found.
+fn keep_block<'a>(
+    alloc: Global,
+    kept: &mut Vec<Block<'a>>,
+    view: BlockView<'a>,
+    end: usize,
+) -> Result<(), FileFault>
+    requires { 4 ≤ end }
+    ensures appends { OnOk result (kept.new.items ≡ kept.old.items ++ view.entry.value ∷ []) }
+    ensures memory { IfErr result (λ fault. fault.reason ≡ reasons.OutOfMemory) }
+    ensures place { IfErr result (λ fault.
+        LacksItemAt view.entry fault.place ⊎ (fault.place + 4 ≡ end)) }
+{
+    let block = Block::keep(alloc, view)?;
+    if append(kept, block).is_err() {
+        return Err(out_of_memory(end));
+    }
+    Ok(())
 }
 
 /// Prints the blocks, one after the other.

@@ -1,6 +1,9 @@
 //! Positions in an object file.
 ghost use Rattle.std.specs.Prelude.{◌≡◌, ◌≤◌, ◌^◌, Some, None, IfOk, IfErr, OnOk};
-ghost use Rattle.hunk_grammar.specs.Standings.{is_content, standing_of_kind};
+ghost use Rattle.hunk_words.specs.Bits.{kind};
+ghost use Rattle.hunk_grammar.specs.declared.mode.Mode.TheVariants as modes;
+ghost use Rattle.hunk_grammar.specs.Modes.{refuse_alone_word};
+ghost use Rattle.hunk_grammar.specs.Standings.{first_of, is_content, standing_of_kind};
 ghost use Rattle.hunk_grammar.specs.ObjectRoles.{has_content, refuse_object, refuse_object_word, refuse_unit};
 ghost use Rattle.hunk_grammar.specs.ObjectPositions as steps;
 ghost use Rattle.hunk_grammar.specs.ObjectPositions.{place_next, refuse_place, role_at};
@@ -12,7 +15,7 @@ use crate::refusal::refuse_place;
 use hunk_words::{BlockWord, Kind, NAME_LIMIT, Reason, UNIT_WORD};
 
 /// Where a block word stands.
-#[derive(Clone, Copy, Debug, PartialEq, Eq)]
+#[derive(Clone, Copy)]
 pub enum WordPlace {
     /// At the start of the file, where the first unit begins.
     BeforeUnits,
@@ -23,7 +26,7 @@ pub enum WordPlace {
 }
 
 /// What the next longword of an object file is for.
-#[derive(Clone, Copy, Debug, PartialEq, Eq)]
+#[derive(Clone, Copy)]
 pub enum ObjectPosition {
     /// The word of a block or of a unit.
     Word(WordPlace),
@@ -79,18 +82,26 @@ impl WordPlace {
     }
 
     /// Why the word that stands here is refused, where it is.
-    #[tactic(auto, using(crate::proofs::ObjectWords::word_split))]
     #[inline(always)]
     fn refuse(self, word: u32) -> Option<Reason>
         ensures { result ≡ refuse_object_word self word }
     {
         if word == UNIT_WORD {
-            return self.refuse_unit();
+            self.refuse_unit()
+        } else {
+            self.refuse_block_word(BlockWord::of(word))
         }
-        let block = BlockWord::of(word);
-        match Mode::Object.refuse(block) {
+    }
+
+    /// Why the word of a block is refused: wherever the block stands, or else for its place.
+    #[inline(always)]
+    fn refuse_block_word(self, word: BlockWord) -> Option<Reason>
+        ensures { result ≡ first_of (refuse_alone_word modes.Object word)
+            (refuse_place self (standing_of_kind (kind word))) }
+    {
+        match Mode::Object.refuse(word) {
             Some(reason) => Some(reason),
-            None => self.refuse_block(block.kind()),
+            None => self.refuse_block(word.kind()),
         }
     }
 

@@ -15,7 +15,7 @@ use hunk_words::{BlockWord, Kind, NAME_LIMIT, Reason, SizeWord};
 ///
 /// Source: The AmigaDOS Manual, `dos/doshunks.h`. Each rule that `docs/FORMAT.md` marks "own" is
 /// this project's own choice.
-#[derive(Clone, Copy, Debug, PartialEq, Eq)]
+#[derive(Clone, Copy)]
 pub enum Phase {
     /// The word of the first block: the hunk opens here.
     FirstBlock,

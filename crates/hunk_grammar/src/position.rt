@@ -1,7 +1,7 @@
 //! Positions in a load file.
 ghost use Rattle.std.specs.Prelude.{◌≡◌, ◌≤◌, ◌<◌, ◌^◌, false};
 ghost use Rattle.hunk_grammar.specs.Positions as positions;
-ghost use Rattle.hunk_grammar.specs.Positions.{step, run, pass, least_longs, is_done, is_after_header};
+ghost use Rattle.hunk_grammar.specs.Positions.{step, run, pass, least_in, least_longs, is_done, is_after_header};
 ghost use Rattle.hunk_grammar.specs.Positions.{is_between_hunks};
 
 use crate::phase::Phase;
@@ -20,7 +20,7 @@ pub const TABLE_SIZE_AT: usize = 2;
 pub const TABLE_AT: usize = 5;
 
 /// The hunk that is open, without its size.
-#[derive(Clone, Copy, Debug, PartialEq, Eq)]
+#[derive(Clone, Copy)]
 pub struct OpenHunk {
     /// The number of hunks of the file.
     pub hunks: u32,
@@ -34,7 +34,7 @@ pub struct OpenHunk {
 ///
 /// `hunks` is the number of hunks of the file. `owed` is how many entries of the table follow the
 /// one that the next longword is of.
-#[derive(Clone, Copy, Debug, PartialEq, Eq)]
+#[derive(Clone, Copy)]
 pub enum Position {
     /// The first longword, which says what kind of file it is.
     FirstLong,
@@ -165,31 +165,36 @@ impl Position {
                 word: _,
                 owed,
             } => u64::from(owed) + 1,
-            Position::Body(hunk, phase) => {
-                let hunks = 3 * u64::from(hunk.ahead);
-                // An END is to come, and before it a block of content with its size.
-                let blocks = 3 - 2 * u64::from(hunk.has_content) + hunks;
-                match phase {
-                    Phase::FirstBlock | Phase::BlockWord => blocks,
-                    Phase::NameCount
-                    | Phase::LongCount
-                    | Phase::GroupCount
-                    | Phase::EntryWord
-                    | Phase::ExtWord => blocks + 1,
-                    Phase::ContentSize | Phase::BssSize => hunks + 2,
-                    Phase::Content { longs: _, owed } => u64::from(owed) + 2 + hunks,
-                    Phase::Payload { owed } => u64::from(owed) + 1 + blocks,
-                    Phase::Offset { target: _, owed }
-                    | Phase::Symbol { owed }
-                    | Phase::ExtRest { owed } => u64::from(owed) + 2 + blocks,
-                    Phase::Target { owed } | Phase::ExtFront { owed } => {
-                        u64::from(owed) + 3 + blocks
-                    }
-                    Phase::ExtCount => blocks + 2,
-                }
-            }
+            Position::Body(hunk, phase) => least_in_body(hunk, phase),
             Position::Done => 0,
         }
+    }
+}
+
+/// The least number of longwords from this phase up to the end of the file, with this hunk open.
+#[inline(always)]
+fn least_in_body(hunk: OpenHunk, phase: Phase) -> u64
+    ensures value { result ≡ least_in hunk phase }
+    ensures positive { 0 < result }
+    ensures bound { result < 2 ^ 35 }
+{
+    let hunks = 3 * u64::from(hunk.ahead);
+    // An END is to come, and before it a block of content with its size.
+    let blocks = 3 - 2 * u64::from(hunk.has_content) + hunks;
+    match phase {
+        Phase::FirstBlock | Phase::BlockWord => blocks,
+        Phase::NameCount
+        | Phase::LongCount
+        | Phase::GroupCount
+        | Phase::EntryWord
+        | Phase::ExtWord => blocks + 1,
+        Phase::ContentSize | Phase::BssSize => hunks + 2,
+        Phase::Content { longs: _, owed } => u64::from(owed) + 2 + hunks,
+        Phase::Payload { owed } => u64::from(owed) + 1 + blocks,
+        Phase::Offset { target: _, owed } | Phase::Symbol { owed } | Phase::ExtRest { owed } =>
+            u64::from(owed) + 2 + blocks,
+        Phase::Target { owed } | Phase::ExtFront { owed } => u64::from(owed) + 3 + blocks,
+        Phase::ExtCount => blocks + 2,
     }
 }
 

@@ -1,12 +1,13 @@
 //! The tests of the longwords of a load file.
 ghost use Rattle.std.specs.Prelude.{◌≡◌, ◌+◌, ◌*◌, nat_lt, Some, None};
-ghost use Rattle.hunk_grammar.specs.Roles.{refuse};
-ghost use Rattle.hunk_grammar.specs.Positions.{role_at};
+ghost use Rattle.hunk_grammar.specs.Roles.{refuse, refuse_part, refuse_word};
+ghost use Rattle.hunk_grammar.specs.Positions.{place, role_at};
+ghost use Rattle.hunk_grammar.specs.PhaseSteps.{part_at};
 ghost use Rattle.hunk_grammar.specs.Standings.{refuse_standing, standing_of_kind};
 
 use crate::mode::Mode;
 use crate::phase::Phase;
-use crate::position::Position;
+use crate::position::{OpenHunk, Position};
 use hunk_words::{
     BlockWord, HEADER_WORD, Kind, LIBRARY_WORD, MOST_HUNKS, NAME_LIMIT, Reason, SizeWord, UNIT_WORD,
 };
@@ -18,7 +19,6 @@ impl Position {
     /// The header is that of The AmigaDOS Manual and `dos/doshunks.h`. To refuse resident names,
     /// another first hunk than 0, another last hunk than the table size minus 1, and more hunks
     /// than `MOST_HUNKS` is this project's own choice.
-    #[tactic(auto, using(crate::proofs::BlockWords::word_split))]
     #[inline(always)]
     pub fn refuse(self, longs: u32, word: u32) -> Option<Reason>
         ensures { result ≡ refuse (role_at longs self) word }
@@ -37,28 +37,41 @@ impl Position {
             Position::LastHunk { hunks } => {
                 (u64::from(word) + 1 != u64::from(hunks)).then_some(Reason::LastHunk)
             }
-            Position::Body(hunk, phase) => match phase {
-                Phase::FirstBlock | Phase::BlockWord => {
-                    // Wherever its block stands, or else for its place in the hunk.
-                    let block = BlockWord::of(word);
-                    match Mode::Load.refuse(block) {
-                        Some(reason) => Some(reason),
-                        None => refuse_place(block.kind(), hunk.has_content),
-                    }
-                }
-                Phase::NameCount => (word >= NAME_LIMIT).then_some(Reason::NameWord),
-                Phase::ContentSize | Phase::BssSize => {
-                    (SizeWord { word, extra: 0 }.longs() > longs).then_some(Reason::ContentTooLong)
-                }
-                Phase::GroupCount => (word != 0 && longs == 0).then_some(Reason::NothingToRelocate),
-                Phase::Target { owed: _ } => (word >= hunk.hunks).then_some(Reason::BadTarget),
-                Phase::Offset { target: _, owed: _ } => {
-                    is_outside(word, longs).then_some(Reason::BadOffset)
-                }
-                _ => None,
-            },
+            Position::Body(hunk, phase) => refuse_in_body(hunk, phase, longs, word),
             _ => None,
         }
+    }
+}
+
+/// Why a longword of the body is refused.
+#[inline(always)]
+fn refuse_in_body(hunk: OpenHunk, phase: Phase, longs: u32, word: u32) -> Option<Reason>
+    ensures { result ≡ refuse_part (place longs hunk) (part_at phase) word }
+{
+    match phase {
+        Phase::FirstBlock | Phase::BlockWord => refuse_block_word(word, hunk.has_content),
+        Phase::NameCount => (word >= NAME_LIMIT).then_some(Reason::NameWord),
+        Phase::ContentSize | Phase::BssSize => {
+            (SizeWord { word, extra: 0 }.longs() > longs).then_some(Reason::ContentTooLong)
+        }
+        Phase::GroupCount => (word != 0 && longs == 0).then_some(Reason::NothingToRelocate),
+        Phase::Target { owed: _ } => (word >= hunk.hunks).then_some(Reason::BadTarget),
+        Phase::Offset { target: _, owed: _ } => {
+            is_outside(word, longs).then_some(Reason::BadOffset)
+        }
+        _ => None,
+    }
+}
+
+/// Why a block word is refused: wherever its block stands, or else for its place in the hunk.
+#[inline(always)]
+fn refuse_block_word(word: u32, has_content: bool) -> Option<Reason>
+    ensures { result ≡ refuse_word has_content word }
+{
+    let block = BlockWord::of(word);
+    match Mode::Load.refuse(block) {
+        Some(reason) => Some(reason),
+        None => refuse_place(block.kind(), has_content),
     }
 }
 

@@ -13,7 +13,7 @@ use hunk_grammar::{Position, TABLE_AT, TABLE_SIZE_AT};
 use hunk_words::{LoadFault, Reason, SizeWord, word_at};
 
 /// The position, and the bytes that the size words so far declare.
-#[derive(Clone, Copy, Debug, PartialEq, Eq)]
+#[derive(Clone, Copy)]
 pub(crate) struct HeaderState {
     pub(crate) position: Position,
     pub(crate) total: u64,

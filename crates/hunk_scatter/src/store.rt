@@ -19,7 +19,7 @@ use hunk_grammar::{OpenHunk, Phase, Position, by_kind, by_phase, is_outside};
 use hunk_words::{BlockWord, MOST_HUNKS, Reason, word_at};
 
 /// The position, the open hunk, and the byte of the store where its segment begins.
-#[derive(Clone, Copy, Debug, PartialEq, Eq)]
+#[derive(Clone, Copy)]
 pub struct BodyState {
     /// The byte of the store where the segment of the open hunk begins.
     pub start: u64,

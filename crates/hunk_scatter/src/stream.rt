@@ -25,7 +25,7 @@ use std::error::Error;
 use std::fmt;
 
 /// Where a loader stands between two pieces.
-#[derive(Clone, Copy, Debug, PartialEq, Eq)]
+#[derive(Clone, Copy)]
 pub struct Standing {
     /// The open hunk, and what the next longword is for.
     pub state: BodyState,

@@ -20,13 +20,14 @@ use crate::spot::{Given, ShortPart, Spot, long_word};
 use crate::units::expand;
 use hunk_grammar::{Phase, Position};
 use hunk_words::Pending;
+use std::fmt;
 use std::marker::Model;
 
 /// Makes the bytes of the plain spelling from those of a wide one.
 ///
 /// Contracts see what it holds: the bytes that are ready to be given out, what the next bytes are
 /// for, and which of these have come.
-#[derive(Debug, Drop)]
+#[derive(Drop)]
 pub struct Expander {
     ready: Ready,
     spot: Spot,
@@ -44,6 +45,12 @@ impl Model for Expander {
 
     ghost invariant = { λ s. (s.begun.count ≤ unit s.spot - 1)
         × ((s.ready ≡ []) ⊎ (s.begun.count ≡ 0)) };
+}
+
+impl fmt::Debug for Expander {
+    fn fmt<F: fmt::Write>(&self, f: &mut fmt::Formatter<F>) -> fmt::Result {
+        f.debug_struct("Expander").finish_non_exhaustive()
+    }
 }
 
 impl Expander {

@@ -7,7 +7,7 @@ ghost use Rattle.hunk_wide.specs.Longwords.{after_straight, straight_longs};
 use hunk_grammar::{ObjectPosition, OpenHunk, Phase, Position, WordPlace};
 
 /// What the next longword of a file is for.
-#[derive(Clone, Copy, Debug, PartialEq, Eq)]
+#[derive(Clone, Copy)]
 pub enum FilePosition {
     /// In a load file, or where a file begins.
     Load(Position),

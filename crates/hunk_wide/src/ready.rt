@@ -5,7 +5,7 @@ ghost use Rattle.std.specs.Prelude.{min};
 use std::marker::Model;
 
 /// Up to eight bytes that are ready to be given out. Contracts see them.
-#[derive(Debug, Drop)]
+#[derive(Drop)]
 pub(crate) struct Ready {
     bytes: [u8; 8],
     from: usize,

@@ -13,7 +13,7 @@ use hunk_words::{BlockWord, HEADER_WORD, Kind, UNIT_WORD};
 /// What a word of 16 bits of a short block is for.
 ///
 /// `owed` is how many more offsets follow the next, or follow the first after a target.
-#[derive(Clone, Copy, Debug, PartialEq, Eq)]
+#[derive(Clone, Copy)]
 pub enum ShortPart {
     /// The number of offsets of a group, or the 0 that ends the block.
     Count,
@@ -24,7 +24,7 @@ pub enum ShortPart {
 }
 
 /// What the next bytes are for.
-#[derive(Clone, Copy, Debug, PartialEq, Eq)]
+#[derive(Clone, Copy)]
 pub enum Spot {
     /// From here on all bytes pass as they are.
     Passing,
@@ -49,7 +49,7 @@ pub enum Spot {
 }
 
 /// What the plain spelling has for a longword.
-#[derive(Clone, Copy, Debug, PartialEq, Eq)]
+#[derive(Clone, Copy)]
 pub enum Given {
     /// The same longword.
     Same,

@@ -1,5 +1,5 @@
 -- How what is printed follows what was printed.
-use Rattle.std.proofs.Common.{◌≡◌, ℕ, ◌+◌, ◌≤◌, Bool, true, false, List, [], ◌++◌, Option, length, refl, sym, ap, subst, ◌∙◌, append_assoc, append-nil, length-append, arith}
+use Rattle.std.proofs.Common.{◌≡◌, ℕ, ◌+◌, Bool, true, false, List, [], ◌++◌, Option, length, refl, sym, ap, subst, ◌∙◌, append_assoc, append-nil, length-append, arith}
 use Rattle.std.specs.{Prelude.{Result, Ok, Err, IfErr, IsErr, OnErr, OnOk, is_err}, Io.KnownBytes.Appends}
 use Rattle.std.proofs.lemmas.List.{take_all}
 use Rattle.hunk_words.specs.{Carriers.{Outlet, Writing, saturated}, declared.long_writer.WriteFault.WriteFault}
@@ -29,14 +29,6 @@ module _ {W : Type 0} (outlet : W → Outlet) (first : Writing W) where
         subst (Puts (outlet first.sink).taken (outlet out.sink).taken first.written out.written) (sym is)
             (puts_part (outlet first.sink).taken (outlet out.sink).taken first.written out.written text bytes puts),
       )
-
-  -- what is held is a part of what was printed
-  pub held_most : (out : Writing W) (text held : List ℕ) → Sends outlet first out text held → length held ≤ length text
-  held_most out text held sends = go out.stopped sends.sends
-    where
-      go : (stopped : Bool) → SendsBy stopped (outlet first.sink) (outlet out.sink) first.written out.written text held → length held ≤ length text
-      go false ((front, split, rose, gone), same) = omega (arith, ap length split, length-append front held)
-      go true (few, puts) = few
 
   -- what is held is put
   module _ {T : Type 0} (old new : Writing W) (r : Result T WriteFault) (text held : List ℕ) (sends : Sends outlet first old text held)

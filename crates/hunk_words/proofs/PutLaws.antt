@@ -1,6 +1,6 @@
 -- How puts follow one another.
 use Rattle.std.proofs.Common.{◌≡◌, ℕ, ◌+◌, ◌-◌, ◌≤◌, List, ◌++◌, Option, length, take, drop, sym, ap, ◌∙◌, append_assoc, length-append, arith}
-use Rattle.std.proofs.{Math.Seq.{take-append-add, take-append_seam}, KnownBytes.{Appends-nil, Appends-trans}}
+use Rattle.std.proofs.{Math.Seq.{take-append-add, take-append_seam}, KnownBytes.{Appends-trans}}
 use Rattle.std.proofs.lemmas.{List.{take-append-drop, take_rest, take-append-le, take_all}, Grind.common_steps}
 use Rattle.std.specs.Io.KnownBytes.{Appends}
 use Rattle.hunk_words.specs.Puts.{Puts, PutsBefore}
@@ -16,10 +16,7 @@ puts_more a b c start mid now bytes rest n (front, split, counted, gone) fits ro
   Appends-trans a b c front (take n rest) gone pushed,
 )
 
--- nothing was put, or the first part of what was to go
-pub puts_none : (a b : Option (List ℕ)) (m : ℕ) (bytes : List ℕ) → a ≡ b → Puts a b m m bytes
-puts_none a b m bytes e = record { count = 0; fits = omega arith; rose = omega arith; gone = rw (← e) (Appends-nil a) }
-
+-- the first part of what was to go was put
 pub puts_front : (a b : Option (List ℕ)) (m n : ℕ) (bytes rest : List ℕ) → PutsBefore a b m n bytes rest → Puts a b m n bytes
 puts_front a b m n bytes rest (front, split, rose, gone) =
     record {

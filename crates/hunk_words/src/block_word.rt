@@ -1,7 +1,7 @@
 //! Block words.
 ghost use Rattle.std.specs.Prelude.{◌≡◌, ◌<◌, ◌≤◌, IfSome, length};
 ghost use Rattle.std.specs.Option.{option_copied};
-ghost use Rattle.hunk_words.specs.Bits.{flags, has_both_bits, is_advisory, is_chip, is_fast, is_relocation, kind};
+ghost use Rattle.hunk_words.specs.Bits.{flags, has_both_bits, is_advisory, is_chip, is_fast, is_relocation, kind, kind_of_number};
 ghost use Rattle.hunk_words.specs.KindNames.{name_of_kind};
 
 use std::marker::Model;
@@ -138,6 +138,39 @@ impl Kind {
                 | Kind::AbsReloc16
         )
     }
+
+    /// The kind of the type with this number.
+    #[inline(always)]
+    fn of_number(number: u32) -> Kind
+        ensures { result ≡ kind_of_number number }
+    {
+        match number {
+            UNIT_WORD => Kind::Unit,
+            0x3E8 => Kind::Name,
+            0x3E9 => Kind::Code,
+            0x3EA => Kind::Data,
+            0x3EB => Kind::Bss,
+            0x3EC => Kind::Reloc32,
+            0x3ED => Kind::Reloc16,
+            0x3EE => Kind::Reloc8,
+            0x3EF => Kind::Ext,
+            0x3F0 => Kind::Symbol,
+            0x3F1 => Kind::Debug,
+            0x3F2 => Kind::End,
+            HEADER_WORD => Kind::Header,
+            0x3F5 => Kind::Overlay,
+            0x3F6 => Kind::Break,
+            0x3F7 => Kind::Drel32,
+            0x3F8 => Kind::Drel16,
+            0x3F9 => Kind::Drel8,
+            LIBRARY_WORD => Kind::Lib,
+            0x3FB => Kind::Index,
+            0x3FC => Kind::Reloc32Short,
+            0x3FD => Kind::RelReloc32,
+            0x3FE => Kind::AbsReloc16,
+            other => Kind::Unknown(other),
+        }
+    }
 }
 
 /// The first longword of a block: three flags and a type. Contracts see it as the longword.
@@ -224,31 +257,6 @@ impl BlockWord {
     pub fn kind(self) -> Kind
         ensures { result ≡ kind self }
     {
-        match self.word & Self::TYPE {
-            UNIT_WORD => Kind::Unit,
-            0x3E8 => Kind::Name,
-            0x3E9 => Kind::Code,
-            0x3EA => Kind::Data,
-            0x3EB => Kind::Bss,
-            0x3EC => Kind::Reloc32,
-            0x3ED => Kind::Reloc16,
-            0x3EE => Kind::Reloc8,
-            0x3EF => Kind::Ext,
-            0x3F0 => Kind::Symbol,
-            0x3F1 => Kind::Debug,
-            0x3F2 => Kind::End,
-            HEADER_WORD => Kind::Header,
-            0x3F5 => Kind::Overlay,
-            0x3F6 => Kind::Break,
-            0x3F7 => Kind::Drel32,
-            0x3F8 => Kind::Drel16,
-            0x3F9 => Kind::Drel8,
-            LIBRARY_WORD => Kind::Lib,
-            0x3FB => Kind::Index,
-            0x3FC => Kind::Reloc32Short,
-            0x3FD => Kind::RelReloc32,
-            0x3FE => Kind::AbsReloc16,
-            other => Kind::Unknown(other),
-        }
+        Kind::of_number(self.word & Self::TYPE)
     }
 }

@@ -5,7 +5,7 @@ ghost use Rattle.std.specs.Borrow.{ftrue};
 use std::marker::Model;
 
 /// The bytes so far, for clauses alone, which read them as `bytes`.
-#[derive(Debug, Drop)]
+#[derive(Drop)]
 pub struct History {
     pub ghost bytes: { List ℕ },
 }

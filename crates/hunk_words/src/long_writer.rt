@@ -106,7 +106,6 @@ impl<W: Sink> LongWriter<W> {
     ///
     /// A `WriteFault` where the sink failed, now or before: just the first `written` bytes of all
     /// that was ever put have gone out. Each later put writes nothing, and answers the same.
-    #[tactic(auto, using(crate::proofs::PutLaws::puts_none, crate::proofs::PutLaws::puts_front))]
     pub fn put_bytes(&mut self, bytes: &[u8]) -> Result<(), WriteFault>
         ensures { PutsText W.outlet self.old self.new bytes.now result }
     {

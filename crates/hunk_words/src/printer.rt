@@ -95,7 +95,6 @@ impl<'a, W: Sink, const ROOM: usize> PagePrinter<'a, W, ROOM> {
     }
 
     /// Prints the bytes. The writer gets none as long as all that was printed has room on the page.
-    #[tactic(auto, using(crate::proofs::PrintLaws::holds_more, crate::proofs::PrintLaws::held_most))]
     #[inline(always)]
     pub fn print(&mut self, bytes: &[u8])
         ensures prints { Prints self.old self.new bytes.now }
@@ -109,7 +108,6 @@ impl<'a, W: Sink, const ROOM: usize> PagePrinter<'a, W, ROOM> {
 
     /// Prints the line, which is put together where it is held. What is held is sent on before where
     /// fewer than `LINE` bytes of the page are left.
-    #[tactic(auto, using(crate::proofs::PrintLaws::holds_more, crate::proofs::PrintLaws::held_most))]
     #[inline(always)]
     pub fn print_line<L: PageLine>(&mut self, line: &L)
         requires { LINE ≤ ROOM }

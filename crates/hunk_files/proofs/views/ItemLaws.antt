@@ -4,7 +4,7 @@ use Rattle.std.specs.List.{flat_map}
 use Rattle.hunk_words.specs.Longs.{longs}
 use Rattle.hunk_blocks.specs.{Parts.block_text, Placed.Placed, Values.BlockValue}
 use Rattle.hunk_files.specs.{Hunks.{HunkAt, IsRead, block_texts}, InPlace.GivesPart}
-use Rattle.hunk_files.specs.Items.{ItemValue, UnitItem, HunkItem, ItemsAt, blocks_items, end_of_blocks, hunks_items, item_text, items_at, units_items}
+use Rattle.hunk_files.specs.Items.{ItemValue, UnitItem, HunkItem, BlockItem, ItemsAt, blocks_items, end_of_blocks, hunks_items, item_text, items_at, units_items}
 use Rattle.hunk_files.specs.ObjectFile.{ObjectFileValue, ObjectHunk, UnitValue, unit_header}
 use Rattle.hunk_files.specs.ObjectViews.{HunksAt, UnitsAt, hunk_at, hunks_at, unit_at, units_at}
 use Rattle.hunk_files.specs.{UnitCuts.ends_unit, Units.UnitAt}
@@ -18,6 +18,16 @@ abbrev pub left_at : List ℕ → ℕ → ℕ → ℕ → ℕ → List ItemValue
 left_at bytes unit units hunks at =
     let here = hunks_at bytes at in
     hunks_items unit hunks here.value ++ units_items units (units_at bytes (end_of block_texts here)).value
+
+-- ---- Where a block of the open hunk is given
+
+module _ (old new : Placed (List BlockValue)) (block : Placed BlockValue) (gives : GivesPart block_text old (Some block) new) where
+  pub same_end : end_of_blocks old ≡ end_of_blocks new
+  same_end = sym (end_stays block_text old new block gives)
+
+  pub gives_block : (bytes : List ℕ) (unit hunk units hunks : ℕ) → GivesPart item_text (items_at bytes unit hunk units hunks old) (Some (record { place = block.place; value = BlockItem unit hunk block.value })) (items_at bytes unit hunk units hunks new)
+  gives_block bytes unit hunk units hunks =
+      (λ i. record { place = (gives.0 i).place; value = blocks_items unit hunk (gives.0 i).value ++ left_at bytes unit units hunks (same_end i) }, gives.1)
 
 -- ---- Where no block of the open hunk is left
 

@@ -104,8 +104,7 @@ fn step_at(position: Position, longs: u32, word: u32) -> Result<Position, Reason
     Ok(position.step(word))
 }
 
-/// Steps from the position. The phases and the kinds of block words are distinguished here, once
-/// for all that is asked of them.
+/// Steps from the position. The phases are distinguished here, once for all that is asked of them.
 #[inline(always)]
 fn step_from(position: Position, longs: u32, word: u32) -> Result<Position, Reason>
     ensures steps { IfOk result (λ after. after ≡ step position word) }
@@ -120,9 +119,15 @@ fn step_from(position: Position, longs: u32, word: u32) -> Result<Position, Reas
             step_at(Position::Body(hunk, $phase), longs, word)
         };
     }
-    by_phase!(
-        phase,
-        by_kind!(BlockWord::of(word).kind(), step_at(position, longs, word)),
-        at
-    )
+    by_phase!(phase, step_word(position, longs, word), at)
+}
+
+/// The same at a block word, whose kinds are distinguished here.
+#[inline(always)]
+fn step_word(position: Position, longs: u32, word: u32) -> Result<Position, Reason>
+    ensures steps { IfOk result (λ after. after ≡ step position word) }
+    ensures passes { OnOk result (refuse (role_at longs position) word ≡ None) }
+    ensures refusal { IfErr result (λ reason. refuse (role_at longs position) word ≡ Some reason) }
+{
+    by_kind!(BlockWord::of(word).kind(), step_at(position, longs, word))
 }

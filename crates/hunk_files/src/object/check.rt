@@ -75,7 +75,7 @@ impl<T: Takes<Finding>> Takes<PlacedFinding> for WithoutPlaces<'_, T> {
 
 /// Where offsets stand: the unit and the hunk, how many hunks the unit has, and how many bytes the
 /// hunk has.
-#[derive(Clone, Copy, Debug)]
+#[derive(Clone, Copy)]
 pub(crate) struct HunkContext {
     unit: u64,
     hunk: u64,

@@ -1,5 +1,5 @@
 use Rattle.std.specs.Prelude.{IfErr}
-use Rattle.std.proofs.Common.{rules, ◌≢◌, ◌∙◌, refl, sym, inl, inr}
+use Rattle.std.proofs.Common.{◌≢◌, ◌∙◌, refl, sym, inl, inr}
 use Rattle.std.proofs.lemmas.{List.length-drop, Result.err_from_is_err_and}
 use Rattle.hunk_words.specs.Longs.{longs}
 use Rattle.hunk_grammar.specs.{declared.file_kind.Sniff.Sniff, declared.file_kind.Sniff.TheVariants.{Load, Object}}
@@ -15,7 +15,8 @@ returns-in_ok-file-in-Object-clause-file c =
 
 pub returns-in_err-file-in-Object-clause-none : goal.returns-in_err-file-in-Object-clause-none
 returns-in_err-file-in-Object-clause-none c =
-    let none : IfErr c.from_residual.result (λ fault. AreObjectFile c.args.bytes.now → ⊥) = search rules in
+    let p = err_from_is_err_and c.from_residual.result c.from_residual.ensures.1 in
+    let none : IfErr c.from_residual.result (λ fault. AreObjectFile c.args.bytes.now → ⊥) = rw p.1 (λ file. c.in_err-file-in-Object.ensures.none file.value file.is_object_file file.text_is) in
     no_object c.args.bytes.now c.from_residual.result (sym c.sniff.ensures ∙ c.in-Object.is) none
 
 pub returns-in_ok-file-in-Load : goal.returns-in_ok-file-in-Load
@@ -39,11 +40,11 @@ returns-in_err-file-in-Load c =
     let err = c.in_err-file-in-Load.ensures in
     let refused : IfErr result (λ r. IsLoadRefusal bytes r.fault) = rw (p.1, p.2) (err.fault, err.own_reasons) in
     let part : IfErr result (λ r. IsPartAt Load bytes r.fault.place r.part) = rw (p.1, p.2) err.part in
-    let none : IfErr result (λ fault. BeginsWithLoadFile bytes → ⊥) = search rules in
+    let none : IfErr result (λ fault. BeginsWithLoadFile bytes → ⊥) = rw p.1 err.none in
     record {
-      file = search rules;
+      file = rw p.1 tt;
       none = no_load bytes result announced none;
       refused = not_object (λ (kind : Sniff). IfErr result (λ r. IsRefusal kind bytes r.fault)) (sniffed (longs bytes)) announced refused refused refused;
       part = not_object (λ (kind : Sniff). IfErr result (λ r. IsPartAt kind bytes r.fault.place r.part)) (sniffed (longs bytes)) announced part part part;
-      memory = search rules;
+      memory = rw (p.1, p.2) err.memory;
     }

@@ -3,7 +3,7 @@ use Rattle.hunk_words.specs.Longs.{longs}
 use Rattle.hunk_blocks.specs.{Parts.block_text, Placed.Placed, Values.BlockValue}
 use Rattle.hunk_files.specs.{InPlace.GivesPart, Items.{ItemValue, ItemsAt, end_of_blocks, item_text, items_at}}
 use Rattle.hunk_files.specs.declared.items.Items.TheInside.{Inside}
-use Rattle.hunk_files.proofs.views.ItemLaws.{after_header, after_hunk, gives_hunk, gives_unit, hunk_here, none_left, none_open, open_ends, unit_here}
+use Rattle.hunk_files.proofs.views.ItemLaws.{after_header, after_hunk, gives_block, gives_hunk, gives_unit, hunk_here, none_left, none_open, open_ends, same_end, unit_here}
 use Rattle.hunk_files.specs.{UnitCuts.ends_unit, Hunks.HunkAt, ObjectFile.ObjectHunk, ObjectViews.hunk_at}
 use Rattle.hunk_files.proofs.{views.ObjectViewLaws.{hunk_at_is, tested}, views.PartsInTurn.part_less}
 use Rattle.hunk_files.proofs.items.ItemsIterator.next.Goals as goal
@@ -25,6 +25,22 @@ module _ (s : Inside) (is : ItemsAt s.bytes.now s.units s.hunks (end_of_blocks s
 
     later : ItemsAt s.bytes.now s.units (s.hunks + 1) (end_of_blocks blocks)
     later = after_hunk s.bytes.now at s.units s.hunks (left s is new at none same) (tested s.bytes.now at ends test goes_on) view blocks view_is seen
+
+pub invariant_of-self : goal.invariant_of-self
+invariant_of-self c =
+    let s = c.self.inside in
+    subst (ItemsAt s.bytes.now s.units s.hunks) (same_end s.blocks c.next.new.self c.in-Some.view c.in-Some.ensures.steps) c.self.invariant
+
+pub returns-in-Some-clause-steps : goal.returns-in-Some-clause-steps
+returns-in-Some-clause-steps c =
+    let s = c.self.inside in
+    let gives = gives_block s.blocks c.next.new.self c.in-Some.view c.in-Some.ensures.steps s.bytes.now s.unit s.hunk s.units s.hunks in
+    (sym c.self.view_is ∙ gives.0, gives.1)
+
+pub returns-in-Some-clause-goes : goal.returns-in-Some-clause-goes
+returns-in-Some-clause-goes c =
+    let less = part_less item_text _ (λ s. tt) c.args.self.now _ _ (returns-in-Some-clause-steps c) in
+    record { on = λ h. less.on h; keeps = less.keeps; rests = λ h. tt }
 
 pub at-view-requires : goal.at-view-requires
 at-view-requires c = here c.self.inside c.self.invariant c.next.new.self c.place-at.result c.in_default.ensures.steps c.place-at.ensures c.ends_unit.result c.ends_unit.ensures c.if-not-ends_unit.true
