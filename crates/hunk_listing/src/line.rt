@@ -96,6 +96,47 @@ impl Line {
     }
 }
 
+/// Prints a line of a number between two texts, which have at most 76 bytes together.
+///
+/// The texts are arguments, so that the proof is the same whatever they say.
+pub(crate) fn print_number<W: Sink, const ROOM: usize>(
+    page: &mut PagePrinter<'_, W, ROOM>,
+    before: &[u8],
+    number: u64,
+    after: &[u8],
+)
+    requires { length before.now + length after.now ≤ 76 }
+    ensures { Prints page.old page.new (before.now ++ decimal number ++ after.now) }
+{
+    let mut line = Line::new();
+    line.put(before);
+    line.put_decimal(number);
+    line.put(after);
+    line.print(page);
+}
+
+/// The same of two numbers, with a text between them. The texts have at most 56 bytes together.
+pub(crate) fn print_numbers<W: Sink, const ROOM: usize>(
+    page: &mut PagePrinter<'_, W, ROOM>,
+    before: &[u8],
+    first: u64,
+    between: &[u8],
+    second: u64,
+    after: &[u8],
+)
+    requires { length before.now + length between.now + length after.now ≤ 56 }
+    ensures { Prints page.old page.new
+        (before.now ++ decimal first ++ between.now ++ decimal second ++ after.now) }
+{
+    let mut line = Line::new();
+    line.put(before);
+    line.put_decimal(first);
+    line.put(between);
+    line.put_decimal(second);
+    line.put(after);
+    line.print(page);
+}
+
 /// The two digits of each byte in turn: half the steps of a digit at a time.
 static PAIRS: [u8; 512] = *b"\
     000102030405060708090a0b0c0d0e0f\

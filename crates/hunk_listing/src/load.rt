@@ -7,7 +7,7 @@ ghost use Rattle.hunk_listing.specs.FileLines.{hunk_line, hunk_lines, load_head,
 ghost use Rattle.hunk_listing.specs.FileLines.{load_listing, memory_text, rest_line};
 
 use crate::block::print_block;
-use crate::line::Line;
+use crate::line::{print_number, print_numbers};
 use crate::put::{put, put_decimal, put_hexadecimal};
 use hunk_files::{LoadHunkView, LoadView};
 use hunk_words::{Memory, PageLine, PagePrinter, Printer, Sink, SizeWord};
@@ -43,13 +43,8 @@ pub(crate) fn print_load_line<W: Sink, const ROOM: usize>(
 )
     ensures { Prints page.old page.new (load_line hunks bytes) }
 {
-    let mut line = Line::new();
-    line.put(b"load file ");
-    line.put_decimal(u64::from(hunks));
-    line.put(b" hunks ");
-    line.put_decimal(bytes);
-    line.put(b" bytes\n");
-    line.print(page);
+    let hunks = u64::from(hunks);
+    print_numbers(page, b"load file ", hunks, b" hunks ", bytes, b" bytes\n");
 }
 
 /// Prints the lines of the hunk.
@@ -112,9 +107,5 @@ fn put_memory(room: &mut [u8], at: usize, memory: Memory) -> usize
 pub(crate) fn print_rest<W: Sink, const ROOM: usize>(page: &mut PagePrinter<'_, W, ROOM>, rest: u64)
     ensures { Prints page.old page.new (rest_line rest) }
 {
-    let mut line = Line::new();
-    line.put(b"rest ");
-    line.put_decimal(rest);
-    line.put(b" bytes\n");
-    line.print(page);
+    print_number(page, b"rest ", rest, b" bytes\n");
 }

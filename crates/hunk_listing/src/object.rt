@@ -6,7 +6,7 @@ ghost use Rattle.hunk_files.specs.ItemViews.{item_seen};
 ghost use Rattle.hunk_listing.specs.FileLines.{item_lines, object_hunk_line, object_line, object_listing, unit_line};
 
 use crate::block::print_block;
-use crate::line::Line;
+use crate::line::print_number;
 use crate::put::{put, put_decimal};
 use crate::text::print_name;
 use hunk_blocks::Payload;
@@ -39,11 +39,7 @@ fn print_item<W: Sink>(page: &mut Printer<'_, W>, item: &Item<'_>)
 fn print_object_line<W: Sink>(page: &mut Printer<'_, W>, units: u64)
     ensures { Prints page.old page.new (object_line units) }
 {
-    let mut line = Line::new();
-    line.put(b"object file ");
-    line.put_decimal(units);
-    line.put(b" units\n");
-    line.print(page);
+    print_number(page, b"object file ", units, b" units\n");
 }
 
 #[tactic(auto, unfolding(crate::specs::FileLines::unit_line))]

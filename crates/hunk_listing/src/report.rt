@@ -9,7 +9,7 @@ ghost use Rattle.hunk_listing.specs.ReportLines.{finding_front, finding_line, fi
 ghost use Rattle.hunk_listing.specs.ReportLines.{object_report, totals_line};
 ghost use Rattle.hunk_listing.specs.Reporting.{Reports, reports_none, reports_more};
 
-use crate::line::Line;
+use crate::line::{Line, print_numbers};
 use crate::load::{print_load_line, print_rest};
 use hunk_files::{Finding, FindingKind, LoadView, ObjectView, Takes};
 use hunk_words::{PagePrinter, Printer, Sink};
@@ -174,11 +174,12 @@ fn finding_end(fault: FindingKind) -> &'static str
 fn print_totals<W: Sink>(page: &mut Printer<'_, W>, units: u64, count: u64)
     ensures { Prints page.old page.new (totals_line units count) }
 {
-    let mut line = Line::new();
-    line.put(b"object file ");
-    line.put_decimal(units);
-    line.put(b" units ");
-    line.put_decimal(count);
-    line.put(b" findings\n");
-    line.print(page);
+    print_numbers(
+        page,
+        b"object file ",
+        units,
+        b" units ",
+        count,
+        b" findings\n",
+    );
 }
