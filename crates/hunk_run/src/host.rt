@@ -1,6 +1,6 @@
 //! The files of the system.
 ghost use Rattle.std.specs.Prelude.{◌≡◌, ◌≤◌, ◌||◌, IfOk, IsTrue, None, OnErr, OnOk, false, is_some};
-ghost use Rattle.std.specs.Prelude.{length};
+ghost use Rattle.std.specs.Prelude.{is_err, length};
 ghost use Rattle.std.specs.Fs.{file_type, IsFile};
 ghost use Rattle.hunk_run.specs.Stores.{Makes, written_to};
 
@@ -56,6 +56,16 @@ impl<'a, T: Files> Host<'a, T> {
             answer: None,
             failed: false,
         }
+    }
+
+    /// Opens the file of this name, and keeps in mind whether that has failed.
+    fn open_file(&mut self, name: &str) -> io::Result<T::File>
+        ensures failed { self.new.failed ≡ (self.old.failed || is_err result) }
+        ensures made { self.new.made ≡ self.old.made }
+    {
+        let file = fs::open(self.rt, name);
+        self.note(file.is_err());
+        file
     }
 
     /// Makes the file of this name, where none is made yet.
@@ -114,9 +124,7 @@ impl<T: Files + Input> Store for Host<'_, T> {
     ghost failed = { λ s. s.failed };
 
     fn open(&mut self, name: &str) -> io::Result<T::File> {
-        let file = fs::open(self.rt, name);
-        self.note(file.is_err());
-        file
+        self.open_file(name)
     }
 
     fn is_regular(&self, name: &str) -> bool {

@@ -28,7 +28,7 @@ use std::io::Read;
 pub(crate) const FOUND: u8 = 1;
 
 /// What is printed of an input.
-#[derive(Clone, Copy, Debug)]
+#[derive(Clone, Copy)]
 pub(crate) enum Listing {
     /// The hunks and blocks.
     Show,
@@ -39,7 +39,7 @@ pub(crate) enum Listing {
 }
 
 /// How an input is written.
-#[derive(Clone, Copy, Debug)]
+#[derive(Clone, Copy)]
 pub(crate) struct Form {
     /// Whether it is hexadecimal text.
     pub hex: bool,

@@ -1,7 +1,9 @@
 //! What a run says on standard error.
-ghost use Rattle.std.specs.Prelude.{◌≡◌, Some};
-ghost use Rattle.std.specs.Fmt.{DisplaysOnOk};
-ghost use Rattle.hunk_run.specs.Notes.{ended_with, fault_note, note_text, output_failed, shown_name, note_with, untouched_end};
+ghost use Rattle.std.specs.Prelude.{◌≡◌, ℕ, Bool, List, Option, Some};
+ghost use Rattle.std.specs.Fmt.{DisplaysOnOk, WritesOnOk};
+ghost use Rattle.hunk_commands.specs.declared.fault.RunFault.TheVariants.{Read, Write};
+ghost use Rattle.hunk_run.specs.Notes.{ended_with, fault_note, note_text, output_failed, said_with, shown_name};
+ghost use Rattle.hunk_run.specs.Notes.{note_with, untouched_end, verdict_line};
 ghost use Rattle.hunk_run.specs.declared.note.Note.TheVariants.{LeftOut};
 
 use crate::escaped::{Escaped, EscapedLines};
@@ -64,7 +66,7 @@ pub enum Note {
 }
 
 /// How a run ends.
-#[derive(Debug, Drop)]
+#[derive(Drop)]
 pub struct Ended {
     /// The exit status.
     pub status: u8,
@@ -232,36 +234,79 @@ fn write_fault<W: fmt::Write>(
 {
     let input = Named(name, "standard input");
     let end = Untouched { file: untouched };
-    match (fault, cause) {
-        (RunFault::Memory, _) => write!(f, "hunkinfo: out of memory{end}\n"),
-        (RunFault::HexText, _) => write!(f, "hunkinfo: {input}: {NO_HEX_TEXT}{end}\n"),
-        (RunFault::Refused(refusal), _) => {
+    match fault {
+        RunFault::Memory => write!(f, "hunkinfo: out of memory{end}\n"),
+        RunFault::HexText => write!(f, "hunkinfo: {input}: {NO_HEX_TEXT}{end}\n"),
+        RunFault::Refused(refusal) => {
             let verdict = Verdict {
                 refusal,
                 part: None,
             };
-            write!(f, "hunkinfo: {input}: {verdict}{end}\n")
+            write_verdict(f, input, verdict, "", end)
         }
-        (RunFault::RefusedIn(refusal), _) => {
+        RunFault::RefusedIn(refusal) => {
             let verdict = Verdict {
                 refusal: refusal.fault,
                 part: Some(refusal.part),
             };
-            let hint = hint(refusal, wide);
-            write!(f, "hunkinfo: {input}: {verdict}{hint}{end}\n")
+            write_verdict(f, input, verdict, hint(refusal, wide), end)
         }
-        (RunFault::Read { .. }, Some(error)) => write!(f, "hunkinfo: {input}: {error}{end}\n"),
-        (RunFault::Read { .. }, None) => write!(f, "hunkinfo: {input}: reading failed{end}\n"),
-        (RunFault::Write { written }, Some(error)) => {
-            let output = Named(name, "standard output");
-            write!(
-                f,
-                "hunkinfo: {output}: {error}: the first {written} bytes of it are written\n"
-            )
-        }
-        (RunFault::Write { .. }, None) => {
-            let output = Named(name, "standard output");
-            write!(f, "hunkinfo: {output}: writing failed\n")
-        }
+        RunFault::Read { .. } => write_reading(f, name, cause, untouched),
+        RunFault::Write { written } => write_writing(f, name, cause, written),
+    }
+}
+
+/// Writes what is said of a refused input, with a hint.
+fn write_verdict<W: fmt::Write>(
+    f: &mut fmt::Formatter<W>,
+    input: Named<'_>,
+    verdict: Verdict,
+    hint: &str,
+    end: Untouched<'_>,
+) -> fmt::Result
+    ensures { WritesOnOk W.write_str_gives f.old result
+        (said_with (shown_name input.entry.0.now input.entry.1.now) (verdict_line verdict) hint.now
+        end.entry.file.now) f.new }
+{
+    write!(f, "hunkinfo: {input}: {verdict}{hint}{end}\n")
+}
+
+/// Writes that an input was not read: what the system says, where it is known.
+fn write_reading<W: fmt::Write>(
+    f: &mut fmt::Formatter<W>,
+    name: &Option<FileName>,
+    cause: &Option<io::Error>,
+    untouched: &Option<FileName>,
+) -> fmt::Result
+    ensures { (place : ℕ) → (wide : Bool) → DisplaysOnOk W.write_str_gives f.old result
+        (fault_note (Read place) name.now cause.now untouched.now wide) f.new }
+{
+    let name = Named(name, "standard input");
+    let end = Untouched { file: untouched };
+    match cause {
+        Some(error) => write!(f, "hunkinfo: {name}: {error}{end}\n"),
+        None => write!(f, "hunkinfo: {name}: reading failed{end}\n"),
+    }
+}
+
+/// Writes that an output was not written: what the system says and how much was written, where
+/// that is known.
+fn write_writing<W: fmt::Write>(
+    f: &mut fmt::Formatter<W>,
+    name: &Option<FileName>,
+    cause: &Option<io::Error>,
+    written: u64,
+) -> fmt::Result
+    ensures { (untouched : Option (List ℕ)) → (wide : Bool)
+        → DisplaysOnOk W.write_str_gives f.old result
+        (fault_note (Write written) name.now cause.now untouched wide) f.new }
+{
+    let name = Named(name, "standard output");
+    match cause {
+        Some(error) => write!(
+            f,
+            "hunkinfo: {name}: {error}: the first {written} bytes of it are written\n"
+        ),
+        None => write!(f, "hunkinfo: {name}: writing failed\n"),
     }
 }

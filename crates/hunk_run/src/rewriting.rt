@@ -28,7 +28,7 @@ use std::io;
 use std::marker::Brand;
 
 /// How a file is rewritten.
-#[derive(Clone, Copy, Debug)]
+#[derive(Clone, Copy)]
 pub(crate) struct Way {
     /// Whether what a loader does not need is left out.
     pub strip: bool,

@@ -9,7 +9,7 @@ use std::fmt;
 
 /// How much of an input is spelled otherwise than its plain spelling. It is displayed as a line, as
 /// `hunkinfo: prog: 2 blocks of short relocations, 1 END put in`.
-#[derive(Debug, Drop)]
+#[derive(Drop)]
 pub struct Spelled {
     /// The name of the input; `None` is standard input.
     pub name: Option<FileName>,

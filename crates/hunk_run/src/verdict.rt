@@ -10,7 +10,7 @@ use std::fmt;
 ///
 /// It is displayed as its class, unless the file is not judged, its part and what its reason means:
 /// `damaged in hunk 3: a relocated longword runs past the end of its hunk`.
-#[derive(Clone, Copy, Debug, PartialEq, Eq)]
+#[derive(Clone, Copy)]
 pub(crate) struct Verdict {
     /// The refusal.
     pub refusal: Fault,
