@@ -5,7 +5,7 @@
 # the other in a line which command makes it; what is named has to be there.
 # [DESTDIR=..] [PREFIX=..] packaging/install.sh uninstall: takes all of it away, with the folders that it made, where these are
 # empty then.
-# What is built is what `rt run` in crates/hunkinfo and `rt lib` in crates/hunk_c have made, or where TARGET is
+# What is built is what `./build` and `./build library` have made, or where TARGET is
 # aarch64-unknown-linux-gnu, armv7 or riscv64 what `ports/build` has for it; PROGRAM and LIBRARY name other files, which have to
 # be there. Without a C compiler for that machine (CC, with options or without) libhunk.so is left out, which a line says.
 set -eu
@@ -72,8 +72,8 @@ case ${TARGET:-} in
     LIBRARY=${LIBRARY:-crates/hunk_c/out/libhunk_c.a}
     PROGRAM=${PROGRAM:-crates/hunkinfo/out/hunkinfo}
     CC=${CC:-cc}
-    library_by='(cd crates/hunk_c && rt lib)'
-    program_by='(cd crates/hunkinfo && rt run < stdin)'
+    library_by='./build library'
+    program_by=./build
     ;;
   aarch64-unknown-linux-gnu | armv7 | riscv64)
     LIBRARY=${LIBRARY:-ports/out/$TARGET/libhunk.a}
