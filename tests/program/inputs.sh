@@ -10,19 +10,13 @@ bytes() {
 }
 
 # A load file of one hunk, whose code is 4E754E71, and one of two longwords; the text of the first; an object file in which
-# nothing is found, and one with a relocation whose target is no hunk and whose offset is after the hunk. Then worked examples:
-# 18, the first with a symbol; 14, an object file with a reference and a definition; and 14 with the offset 5 in the place of 2.
+# nothing is found; and the first with a symbol.
 first='000003F3 00000000 00000001 00000000 00000000 00000001 000003E9 00000001 4E754E71 000003F2'
 bytes "$first" > first
 bytes '000003F3 00000000 00000001 00000000 00000000 00000002 000003E9 00000002 4E714E71 4E714E75 000003F2' > second
 printf '%s\n' "$first" > text
 bytes '000003E7 00000000 000003E9 00000001 4E754E71 000003F2' > clean.o
-bytes '000003E7 00000000 000003E9 00000001 00000000 000003EC 00000001 00000001 00000002 00000000 000003F2' > amiss.o
 bytes "${first% *} 000003F0 00000001 5F6D0000 00000000 00000000 000003F2" > symbol
-unit='000003E7 00000001 61000000 000003E9 00000002 4EB90000 00004E75 000003EF 81000001 5F660000 00000001'
-definition='01000001 5F6D0000 00000000 00000000 000003F2'
-bytes "$unit 00000002 $definition" > reference.o
-bytes "$unit 00000005 $definition" > outside.o
 head -c 39 first > short
 cat first - > followed << END
 what follows
@@ -41,4 +35,3 @@ try_help="
 For more information, try '--help'."
 too_large='standard output: File too large (os error 27)'
 no_space='standard output: No space left on device (os error 28)'
-beyond='the target of a relocation is no hunk of the file'

@@ -5,73 +5,19 @@
 
 cp first before
 echo 'an old file that is longer than the one that takes its place, and is not there any more' > out
-runs second rewrite first out; wants 'rewrite' 0 << END
-wrote 40 bytes
-END
-same 'OUT of rewrite' out before
-same 'IN of rewrite' first before
-echo 'an old file' > out
-runs second rewrite --strip first out; wants 'rewrite --strip, a longword at a time' 0 << END
-wrote 40 bytes
-END
-same 'OUT of rewrite --strip' out before
-runs second rewrite symbol out; wants 'rewrite of a file with a symbol' 0 << END
-wrote 60 bytes
-END
-same 'OUT with a symbol' out symbol
 symbols='left out: 20 bytes of NAME, SYMBOL, DEBUG and ADVISORY blocks'
-runs second rewrite --strip symbol out; wants 'rewrite --strip of a file with a symbol' 0 "symbol: $symbols" << END
-wrote 40 bytes
-END
-same 'OUT without the symbol' out before
 runs second rewrite /dev/stdin out; wants 'rewrite of standard input' 0 << END
 wrote 44 bytes
 END
 same 'OUT of standard input' out second
-cp followed twice
-runs second rewrite twice twice
-wants 'rewrite of a file over itself, read before it is opened' 0 'twice: left out: 13 bytes after the load file' << END
-wrote 40 bytes
-rest 13 bytes left out
-END
-same 'a file over itself' twice before
-runs second rewrite followed out
-wants 'rewrite of a file with more after it' 0 'followed: left out: 13 bytes after the load file' << END
-wrote 40 bytes
-rest 13 bytes left out
-END
-same 'OUT without what follows' out before
-cat symbol tail > both
-runs second rewrite --strip both out
-wants 'rewrite --strip of a file with more after it' 0 "both: $symbols, 13 bytes after the load file" << END
-wrote 40 bytes
-rest 13 bytes left out
-END
-same 'OUT without the symbol and what follows' out before
 echo 'an old file' > out
 cp out old
-runs second rewrite short out; wants 'rewrite of a file that is cut' 1 "short: $cut; out was not touched" << END
-refused at byte 36: Truncated (26)
-END
-same 'OUT where IN is refused' out old
-runs second rewrite missing out; wants 'rewrite of a file that is not there' 3 "missing: $not_there; out was not touched" << END
-reading failed at byte 0
-END
-same 'OUT where IN is not there' out old
 runs second rewrite folder out; wants 'rewrite of a folder' 3 'folder: Is a directory (os error 21); out was not touched' << END
 reading failed at byte 0
 END
 same 'OUT where IN is a folder' out old
-rm out
-runs second rewrite short out
-[ ! -e out ]; status=$?
-wants 'no OUT where IN is refused' 0 "short: $cut; out was not touched" < printed
 runs second rewrite first /dev/full
 wants 'a full disk' 3 '/dev/full: No space left on device (os error 28): the first 0 bytes of it are written' << END
-writing failed after 0 bytes
-END
-runs second rewrite first missing/out
-wants 'an OUT that cannot be made' 3 "missing/out: $not_there: the first 0 bytes of it are written" << END
 writing failed after 0 bytes
 END
 # A pipe has nothing to keep, which is no failure; nor has a terminal or /dev/null.

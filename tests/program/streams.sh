@@ -13,6 +13,24 @@ for blocks in 1 159 160 161 319 320; do
   head -c $((512 * blocks)) text-of-long > front
   wants "a text of three pages to $blocks blocks" 3 "$too_large" < front
 done
+# The lines of 8,000 relocations.
+{
+  bytes '000003F3 00000000 00000001 00000000 00000000 00000001 000003E9 00000001 00000000 000003EC 00001F40 00000000'
+  head -c 32000 /dev/zero
+  bytes '00000000 000003F2'
+} > many
+{
+  printf '%s\n' 'load file 1 hunks 4 bytes' 'hunk 0 4 bytes any' '  CODE 4 bytes' '  RELOC32 8000'
+  yes '    0 0x00000000' | head -n 8000
+  echo '  END'
+} > list-of-many
+runs first show many; wants 'a listing of two pages' 0 < list-of-many
+for blocks in 159 160 161; do
+  (trap '' XFSZ; ulimit -f $blocks; exec "$program" show many > printed 2> complained)
+  status=$?
+  head -c $((512 * blocks)) list-of-many > front
+  wants "a listing of two pages to $blocks blocks" 3 "$too_large" < front
+done
 
 # ---- streams that fail
 

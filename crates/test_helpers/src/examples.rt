@@ -46,9 +46,6 @@ pub const RELOCATED_BY_NO_HUNK: &str = "3F3 0 1 0 0 2 / 3E9 2 0 0 / 3EC 1 1 4 0 
 /// Example 12: a relocation in a hunk of no bytes.
 pub const NOTHING_TO_RELOCATE: &str = "3F3 0 1 0 0 0 / 3EB 0 / 3EC 1 0 0 0 / 3F2";
 
-/// Example 12: a RELOC32 block of no relocation.
-pub const NO_RELOCATION: &str = "3F3 0 1 0 0 0 / 3EB 0 / 3EC 0 / 3F2";
-
 /// Example 13: an object file with a DREL32 block.
 pub const OBJECT_WITH_DREL32: &str = "3E7 1 61000000 / 3E9 1 0 / 3F7 1 0 0 0 / 3F2";
 
@@ -160,11 +157,6 @@ pub const RELATIVE_OBJECT: &str = "3E7 1 61000000 / 3E9 2 0 0 / 3FD 1 0 4 0 / 3F
 
 /// The front of a header of as many hunks as there can be, up to its table.
 pub const MOST_HUNKS: &str = "3F3 0 10000 0 FFFF";
-
-/// A load file of four hunks, at 36, 100, 112 and 128, the first with a relocation at 56 and a symbol at 76.
-pub const FOUR_HUNKS: &str = "3F3 0 4 0 3 3 1 1 1 / \
-    3E9 3 0 0 0 / 3EC 1 1 8 0 / 3F0 1 5F6D0000 0 0 / 3F2 / \
-    3EB 1 / 3F2 / 3EA 1 12345678 / 3F2 / 3EB 1 / 3F2";
 
 /// A load file of five hunks, one with relocations and symbols, one of six blocks.
 pub const FIVE_HUNKS: &str = "3F3 0 5 0 4 2 C0000001 10004 0 0 1 / \

@@ -10,9 +10,7 @@ pub mod large;
 mod sources;
 mod writers;
 
-pub use crate::changes::{
-    CHANGES, Change, before_end, changed, changed_in, ends_within_debug, with_long,
-};
+pub use crate::changes::{before_end, changed, ends_within_debug, with_long};
 pub use crate::granting::answers_one_by_one;
 pub use crate::growths::{
     Held, all_but, all_memory, answers_growth_by_growth, largest_piece, left_beside, memory_ends,

@@ -1,4 +1,4 @@
-//! Tests of hunk_commands, hunk_command_line, hunk_run and hunk_examples, by their public calls.
+//! Tests of hunk_command_line, hunk_run and hunk_examples, by their public calls.
 #![tactic(auto)]
 
 #[cfg(test)]

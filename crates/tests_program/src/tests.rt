@@ -3,6 +3,5 @@
 mod asserts;
 mod callers;
 mod command_line;
-mod commands;
 mod line;
 mod runs;

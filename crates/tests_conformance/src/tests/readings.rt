@@ -193,42 +193,21 @@ fn fault_of(answer: Answer) -> Option<LoadFault> {
     Some(LoadFault { place, reason })
 }
 
-/// Whether a load may answer this fault, or none, just if that is the one.
-fn fits_only(
-    bytes: &[u8],
-    decoded: Option<LoadFault>,
-    loaded: Option<LoadFault>,
-    want: Option<LoadFault>,
-) -> bool {
-    fits(bytes, decoded, loaded) == (want == loaded)
-}
-
-/// Sees that of no fault, the decoder's, and the budget at each byte just those fit that are this one.
-fn expect_fits(rt: &impl Abort, bytes: &[u8], decoded: Option<LoadFault>, want: Option<LoadFault>) {
-    assert!(rt; fits(bytes, decoded, want));
-    assert!(rt; fits_only(bytes, decoded, None, want));
-    assert!(rt; fits_only(bytes, decoded, decoded, want));
-    for place in 0..bytes.len() as u64 {
-        let budget = fault_of(Some((place, Reason::Budget)));
-        assert!(rt; fits_only(bytes, decoded, budget, want), "{place}");
-    }
-}
-
-/// Sees that the decoder answers what the row says, that nothing but the row's answer of a load fits that, and that
-/// `load` answers it.
+/// Sees that the decoder answers what the row says, that a load has to answer what it says for one, and that it does,
+/// wherever the file is cut.
 fn expect(rt: &impl Abort, alloc: Global, (text, decodes, loads): &Case) -> Result<(), Fail> {
     let bytes = spelled(alloc, text)?;
     let decoded = LoadFile::decode(alloc, &bytes).err();
     assert_equal_at(rt, decoded, fault_of(*decodes), text);
-    expect_fits(rt, &bytes, decoded, fault_of(*loads));
+    assert_equal_at(rt, wanted(&bytes, decoded), fault_of(*loads), text);
     for cut in 0..bytes.len() {
         assert!(rt; agrees(alloc, &bytes, cut)?, "{text} cut at {cut}");
     }
     Ok(())
 }
 
-/// A load that never answers `Budget`, answers it before a fault of the header, or takes a block word for a size and
-/// answers it there, does not agree with the suite.
+/// A load that never answers `Budget`, answers it before a fault of the header, or takes a block word for a size, does not
+/// agree with these.
 #[test]
 fn budget_of_the_rows(rt: HostRuntime) -> Result<(), Fail> {
     for row in PASSED {
@@ -236,31 +215,6 @@ fn budget_of_the_rows(rt: HostRuntime) -> Result<(), Fail> {
     }
     for row in NOT_PASSED {
         expect(&rt, rt.alloc(), row)?;
-    }
-    Ok(())
-}
-
-/// Sees that the budget is passed in the fronts of the file that have all of the row at this place, and there.
-fn expect_passes(rt: &impl Abort, bytes: &[u8], place: u64) {
-    for n in 0..=bytes.len() {
-        let want = if n as u64 / 4 > place / 4 {
-            Some(place)
-        } else {
-            None
-        };
-        assert_equal_at(rt, budget_passes_at(&bytes[..n]), want, n);
-    }
-}
-
-/// A row of which a byte is missing does not pass the budget.
-#[test]
-fn budget_of_whole_rows(rt: HostRuntime) -> Result<(), Fail> {
-    for (text, _, loads) in PASSED {
-        let bytes = spelled(rt.alloc(), text)?;
-        let Some((place, _)) = *loads else {
-            panic!(&rt; "{text}");
-        };
-        expect_passes(&rt, &bytes, place);
     }
     Ok(())
 }

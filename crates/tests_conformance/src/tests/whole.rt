@@ -3,6 +3,7 @@
 use crate::tests::asserts::{assert_equal, assert_equal_at};
 use crate::tests::expect_text;
 use crate::tests::readings::agrees;
+use crate::tests::writes::is_written;
 use hunk_files::LoadFile;
 use hunk_vectors::{LOAD_TEXTS, VECTORS, Vector, Want, bytes};
 use std::alloc::Global;
@@ -23,8 +24,11 @@ fn answer(alloc: Global, bytes: &[u8]) -> Want {
     }
 }
 
+/// The example that has bytes after the file, and how many these are.
+const FOLLOWED: (u32, usize) = (10, 7);
+
 /// Sees that the file of this number in the table has this text and these bytes, that the decoder answers what the
-/// table says, and that a load agrees with it.
+/// table says, that a load agrees with it, and that an accepted file is written again.
 fn expect(
     rt: &impl Abort,
     alloc: Global,
@@ -39,6 +43,11 @@ fn expect(
     expect_text(rt, vector.text, text, bytes);
     assert_equal_at(rt, answer(alloc, bytes), vector.want, i);
     assert!(rt; agrees(alloc, bytes, bytes.len())?, "{i}");
+    if let Want::Accepted { .. } = vector.want {
+        let (row, count) = FOLLOWED;
+        let after = if vector.row == row { count } else { 0 };
+        assert!(rt; is_written(alloc, bytes, after), "{i}");
+    }
     Ok(())
 }
 

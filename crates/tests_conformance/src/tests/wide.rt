@@ -1,36 +1,15 @@
-//! Wide spellings beside the plain ones, which were worked out by hand.
+//! Wide spellings, read as the plain ones in each way.
 
-mod loads;
-mod many;
-mod objects;
-mod rows;
 mod suite;
 
 use crate::tests::asserts::assert_equal_at;
 use hunk_wide::{Expander, Plain, spelling_of, write_plain};
-use hunk_words::{Failed, FromSlice, Source};
+use hunk_words::{Failed, Source};
 use std::alloc::{AllocError, Global};
 use std::fmt::Debug;
 use std::process::Abort;
 use std::test::Fail;
 use test_helpers::{Fed, Then};
-
-/// The bytes that the text spells: by a number of 2 digits one, by one of 4 digits two, and by others a longword. `/`
-/// only separates.
-fn digits(alloc: Global, text: &str) -> Result<Vec<u8>, AllocError> {
-    let mut bytes = Vec::new(alloc);
-    for number in text.split(' ') {
-        if let Ok(long) = u32::from_str_radix(number, 16) {
-            let first = match number.len() {
-                2 => 3,
-                4 => 2,
-                _ => 0,
-            };
-            bytes.extend_from_slice(&long.to_be_bytes()[first..])?;
-        }
-    }
-    Ok(bytes)
-}
 
 /// What a pull into the first bytes of the buffer answers. Proofs of its callers are short, since it promises little.
 fn pulled<R: Source>(source: &mut R, buf: &mut [u8], size: usize) -> Result<usize, Failed> {
@@ -118,7 +97,7 @@ fn expect_written<C: Copy + Debug + Drop>(
     Ok(())
 }
 
-/// Sees that these bytes have that plain spelling: held whole, in pieces of 1 and of 7 bytes, pushed, and written.
+/// Sees that these bytes have that plain spelling: in pieces of 1 and of 7 bytes, pushed, and written.
 ///
 /// One more pull than there are bytes to come sees the end.
 fn expect_plain<C: Copy + Debug + Drop>(
@@ -129,8 +108,6 @@ fn expect_plain<C: Copy + Debug + Drop>(
     case: C,
 ) -> Result<(), Fail> {
     let pulls = plain.len().saturating_add(1);
-    let whole = read_by(alloc, Plain::new(FromSlice::new(wide)), pulls, 64)?;
-    assert_equal_at(rt, whole.as_slice(), plain, (case, "whole"));
     for (most, size) in [(1, 64), (7, 3)] {
         let pieces = Plain::new(Fed::new(wide, most, Then::Ends));
         let got = read_by(alloc, pieces, pulls, size)?;

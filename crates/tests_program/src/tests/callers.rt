@@ -9,19 +9,13 @@ use crate::tests::line::line_of;
 use hunk_command_line::{Order, OrderFault, order};
 use hunk_examples::{
     Symbol, describe, has_header, list_symbols, load_pieces, load_program, place_in_rom, show_file,
-    strip, survey, write_program,
+    strip, write_program,
 };
-use hunk_vectors::{OBJECTS, ObjectVector, ObjectWant, VECTORS, Vector, Want};
 use hunk_words::{FromWrite, Reason};
 use std::alloc::{AllocError, Global};
 use std::process::Abort;
 use std::test::Fail;
 use test_helpers::{examples, spelled};
-
-/// The load files of the suite.
-fn load_files() -> &'static [Vector] {
-    &VECTORS
-}
 
 /// Sees that a call fails, with an error of this text.
 fn expect_error<T: Drop>(
@@ -166,64 +160,6 @@ fn writes_a_program(rt: HostRuntime) -> Result<(), Fail> {
 fn refuses_half_a_longword(rt: HostRuntime) -> Result<(), Fail> {
     let sink = FromWrite::new(Vec::new(rt.alloc()));
     assert!(rt; write_program(&[0x4E, 0x75], sink).is_err());
-    Ok(())
-}
-
-/// How many load files are accepted, and how many bytes they declare. Their texts are added.
-fn add_load_files(
-    vectors: &[Vector],
-    texts: &mut Vec<&'static str>,
-) -> Result<(u64, u64), AllocError> {
-    let (mut programs, mut bytes) = (0u64, 0u64);
-    for vector in vectors {
-        texts.push(vector.text)?;
-        if let Want::Accepted {
-            hunks: _,
-            bytes: declared,
-        } = vector.want
-        {
-            programs = programs.saturating_add(1);
-            bytes = bytes.saturating_add(declared);
-        }
-    }
-    Ok((programs, bytes))
-}
-
-/// How many object files are accepted, and how much is found in them. Their texts are added.
-fn add_object_files(
-    vectors: &[ObjectVector],
-    texts: &mut Vec<&'static str>,
-) -> Result<(u64, u64), AllocError> {
-    let (mut objects, mut findings) = (0u64, 0u64);
-    for vector in vectors {
-        texts.push(vector.text)?;
-        if let ObjectWant::Accepted {
-            units: _,
-            findings: found,
-        } = vector.want
-        {
-            objects = objects.saturating_add(1);
-            findings = findings.saturating_add(found);
-        }
-    }
-    Ok((objects, findings))
-}
-
-/// The conformance suite, whose load files have one symbol together.
-#[test]
-fn surveys_the_suite(rt: HostRuntime) -> Result<(), Fail> {
-    let mut texts = Vec::new(rt.alloc());
-    let programs = add_load_files(load_files(), &mut texts)?;
-    let objects = add_object_files(&OBJECTS, &mut texts)?;
-    let found = survey(rt.alloc(), texts.as_slice())?;
-    assert_equal(&rt, (found.programs, found.segment_bytes), programs);
-    assert_equal(&rt, found.symbols, 1);
-    assert_equal(&rt, (found.objects, found.findings), objects);
-    let files = found
-        .programs
-        .saturating_add(found.objects)
-        .saturating_add(found.refused);
-    assert_equal(&rt, files, texts.len() as u64);
     Ok(())
 }
 

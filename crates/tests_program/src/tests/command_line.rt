@@ -1,4 +1,4 @@
-//! Which words are which orders, and what is said of the others.
+//! What tells of an order and of none. Which words are which is in `tests/program/cases/words.tsv`.
 
-mod command_lines;
+mod faults;
 mod memory;

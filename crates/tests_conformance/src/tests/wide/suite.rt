@@ -1,7 +1,7 @@
-//! The wide spellings of the suite.
+//! The wide spellings of the suite, and what follows one.
 
 use crate::tests::asserts::{assert_equal, assert_equal_at};
-use crate::tests::wide::read_by;
+use crate::tests::wide::{expect_plain, read_by};
 use hunk_files::ObjectFile;
 use hunk_scatter::{Image, Limits, Packed, load};
 use hunk_vectors::{PLAIN_TEXTS, WIDE, WIDE_TEXTS, WideWant, plain_bytes, wide_bytes};
@@ -10,7 +10,7 @@ use hunk_words::{FromSlice, LoadFault, Source};
 use std::alloc::{AllocError, Global};
 use std::process::Abort;
 use std::test::Fail;
-use test_helpers::{Fed, Then};
+use test_helpers::{Fed, Then, spelled};
 
 const LIMITS: Limits = Limits {
     budget: 100_000,
@@ -55,7 +55,7 @@ fn expect_loads(
     Ok(())
 }
 
-/// All of the plain spelling, which has at most twice the bytes and four.
+/// All of the plain spelling of what is held whole. It has at most twice the bytes and four.
 fn plain_of(alloc: Global, wide: &[u8]) -> Result<Vec<u8>, Fail> {
     let pulls = wide.len().saturating_mul(2).saturating_add(5);
     read_by(alloc, Plain::new(FromSlice::new(wide)), pulls, 64)
@@ -77,9 +77,10 @@ fn expect(rt: &impl Abort, alloc: Global, i: usize, wide: &[u8], plain: &[u8]) -
     let Some(row) = WIDE.get(i) else {
         panic!(rt; "no {i}");
     };
+    let got = plain_of(alloc, wide)?;
+    expect_plain(rt, alloc, wide, &got, i)?;
     match row.want {
         WideWant::Accepted => {
-            let got = plain_of(alloc, wide)?;
             assert_equal_at(rt, got.get(..plain.len()), Some(plain), i);
             if !wide.starts_with(UNIT) {
                 expect_loads(rt, alloc, wide, plain, i)?;
@@ -115,4 +116,27 @@ fn load_files(rt: HostRuntime) -> Result<(), Fail> {
 #[test]
 fn object_files(rt: HostRuntime) -> Result<(), Fail> {
     expect_kind(&rt, rt.alloc(), true)
+}
+
+/// A short block of two offsets, filled up.
+const SHORT: &str = "3F3 0 1 0 0 2 / 3E9 2 0 0 / 3FC 20000 4 0 / 3F2";
+
+/// Whether a load by a source of pieces succeeds, and what that source has left.
+fn left_after(alloc: Global, wide: &[u8], most: usize) -> (bool, &[u8]) {
+    let mut plain = Plain::new(Fed::new(wide, most, Then::Ends));
+    let is_loaded = load(alloc, &mut plain, LIMITS, &START).is_ok();
+    (is_loaded, plain.into_inner().rest())
+}
+
+/// Of the source no byte after the file is taken.
+#[test]
+fn what_follows(rt: HostRuntime) -> Result<(), Fail> {
+    let after = [0, 0, 3, 0xFC, 0];
+    let mut bytes = spelled(rt.alloc(), SHORT)?;
+    bytes.extend_from_slice(&after)?;
+    for most in [1, 3, 256] {
+        let got = left_after(rt.alloc(), &bytes, most);
+        assert_equal_at(&rt, got, (true, after.as_slice()), most);
+    }
+    Ok(())
 }

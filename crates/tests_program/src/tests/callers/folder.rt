@@ -1,7 +1,7 @@
-//! A survey of a folder, with files.
+//! Surveys of a folder, with files, and of texts.
 
 use crate::tests::asserts::assert_equal;
-use hunk_examples::{Collection, survey_folder};
+use hunk_examples::{Collection, survey, survey_folder};
 use std::fs;
 use std::process::Abort;
 use std::test::Fail;
@@ -62,5 +62,26 @@ fn surveys_a_folder(rt: HostRuntime) -> Result<(), Fail> {
         (1, 2, 1),
     );
     assert!(rt; !surveys_none(&rt, &folder)?);
+    Ok(())
+}
+
+/// Example 1, and the front of its header.
+const TEXTS: [&str; 2] = [
+    "000003F3 00000000 00000001 00000000 00000000 00000001 000003E9 00000001 4E754E71 000003F2",
+    "000003F3 00000000 00000001",
+];
+
+#[test]
+fn surveys_texts(rt: HostRuntime) -> Result<(), Fail> {
+    let found = survey(rt.alloc(), TEXTS.as_slice())?;
+    let want = Collection {
+        programs: 1,
+        segment_bytes: 4,
+        symbols: 0,
+        objects: 0,
+        findings: 0,
+        refused: 1,
+    };
+    assert_equal(&rt, found, want);
     Ok(())
 }

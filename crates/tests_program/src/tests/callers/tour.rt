@@ -1,10 +1,8 @@
-//! A little of each library, on the suite.
+//! A little of each library.
 
 use crate::tests::asserts::{assert_equal, assert_equal_at};
-use crate::tests::callers::load_files;
 use crate::tests::line::line_of;
 use hunk_examples::{Seen, tour};
-use hunk_vectors::{Vector, Want};
 use std::alloc::Global;
 use std::test::Fail;
 
@@ -32,27 +30,31 @@ fn of_one_hunk(rt: HostRuntime) -> Result<(), Fail> {
     Ok(())
 }
 
+/// Hexadecimal texts, and how many bytes a tour loads of the file that each spells: the limit, a longword more, a cut
+/// header and an object file.
+const TEXTS: &[(&str, Option<u64>)] = &[
+    (
+        "000003F3 00000000 00000001 00000000 00000000 00004000 000003EB 00004000 000003F2",
+        Some(0x0001_0000),
+    ),
+    (
+        "000003F3 00000000 00000001 00000000 00000000 00004001 000003EB 00004001 000003F2",
+        None,
+    ),
+    ("000003F3 00000000 00000001", None),
+    ("000003E7 00000000", None),
+];
+
 /// How many bytes a tour has loaded.
-fn loaded(alloc: Global, line: &[&str], text: &str) -> Option<u64> {
+fn loaded(alloc: Global, text: &str) -> Option<u64> {
+    let line = ["validate", "--hex"].as_slice();
     let seen = toured(alloc, line, text).ok()?;
     Some(seen.loaded)
 }
 
-/// How many bytes a tour has to load of a file of the suite, if it declares no more than the limit.
-fn declared(vector: &Vector) -> Option<u64> {
-    match vector.want {
-        Want::Accepted { hunks: _, bytes } if bytes <= 0x0001_0000 => Some(bytes),
-        _ => None,
-    }
-}
-
-/// Each load file of the suite that declares no more than the limit: its declared bytes are loaded.
 #[test]
-fn of_the_suite(rt: HostRuntime) -> Result<(), Fail> {
-    let line = ["validate", "--hex"].as_slice();
-    for vector in load_files() {
-        let got = loaded(rt.alloc(), line, vector.text);
-        assert_equal_at(&rt, got, declared(vector), vector.text);
+fn within_its_limits(rt: HostRuntime) {
+    for (text, want) in TEXTS {
+        assert_equal_at(&rt, loaded(rt.alloc(), text), *want, text);
     }
-    Ok(())
 }

@@ -21,10 +21,9 @@ pub(super) struct Given<'a> {
 /// A runtime of what is given, which keeps the names of the files that are created, each with a
 /// colon and what is written to it.
 ///
-/// A file is read as it was given, whatever is written to its name. The file `denied` can't be
-/// created, the file `full` takes 6 bytes, the file `lost` has lost at the end what it took, and
-/// the files `pipe` and `terminal` have nothing to keep. Each name is told to be a regular file, of
-/// no number.
+/// A file is read as it was given, whatever is written to its name. The file `full` takes 6 bytes, the
+/// file `lost` has lost at the end what it took, and the files `pipe` and `terminal` have nothing to
+/// keep. Each name is told to be a regular file, of no number.
 #[derive(Drop)]
 pub(super) struct Made<'a> {
     pub given: Given<'a>,
@@ -157,7 +156,7 @@ impl<'a> Files for Made<'a> {
 
     fn open_file(&self, how: &OpenOptions, path: &str) -> io::Result<Tape<'a>> {
         how.check()?;
-        if how.asks_write() && path != "denied" {
+        if how.asks_write() {
             return self.create(path);
         }
         for (name, bytes) in self.given.files {

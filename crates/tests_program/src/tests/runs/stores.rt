@@ -1,5 +1,6 @@
 //! Each command over files in memory: which of them it reads, and which it makes.
-use crate::tests::asserts::assert_equal_at;
+
+use crate::tests::asserts::{assert_equal_at, assert_output};
 use crate::tests::line::split;
 use crate::tests::runs::made::Kept;
 use crate::tests::runs::memory_store::{Held, MemoryStore};
@@ -15,26 +16,16 @@ use test_helpers::{examples, spelled};
 #[derive(Drop)]
 struct Outcome {
     status: u8,
-    text: String,
+    text: Vec<u8>,
     // The name of the file that was made, a colon, and what it took; nothing where none was made.
     made: Vec<u8>,
     // How many blocks of short relocations are told of.
     short_blocks: u64,
 }
 
-/// Runs these words, apart by spaces, where the file `a` and standard input have these bytes and
-/// the file `b` those of `OTHER`.
-fn ran<'x>(alloc: Global, line: &str, file: &'x [u8], input: &'x [u8]) -> Result<Outcome, Fail> {
-    ran_over(alloc, line, (file, true), input)
-}
-
-/// The same where the files are told to be regular, or not.
-fn ran_over<'x>(
-    alloc: Global,
-    line: &str,
-    (file, are_regular): (&'x [u8], bool),
-    input: &'x [u8],
-) -> Result<Outcome, Fail> {
+/// Runs these words, apart by spaces, where the file `a` has these bytes, the file `b` those of
+/// `OTHER`, and standard input is no hunk file. The files are told to be regular, or not.
+fn ran(alloc: Global, line: &str, file: &[u8], are_regular: bool) -> Result<Outcome, Fail> {
     let words = split(alloc, line)?;
     let store = MemoryStore {
         alloc,
@@ -49,7 +40,7 @@ fn ran_over<'x>(
             name: "a",
             bytes: file,
         },
-        input,
+        input: b"text",
         made: None,
     };
     let mut out = LongWriter::new(Kept::new(alloc, ANY));
@@ -62,7 +53,7 @@ fn ran_over<'x>(
     }
     Ok(Outcome {
         status: ended.status,
-        text: String::from_utf8(out.into_inner().bytes)?,
+        text: out.into_inner().bytes,
         made,
         short_blocks: match &ended.spelled {
             Some(spelled) => spelled.short_blocks,
@@ -71,71 +62,66 @@ fn ran_over<'x>(
     })
 }
 
-/// The words of a command, what it prints and its status.
-type Case = (&'static str, &'static str, u8);
+/// The words of a command, what it prints and its status, and the longwords of the file `c` that it
+/// makes, if it makes one.
+type Case = (&'static str, &'static str, u8, &'static str);
 
-/// Over example 1 in the file `a`, and no hunk file at standard input.
-const OF_FILES: &[Case] = &[
-    ("hunkinfo validate a", "load file 1 hunks 4 bytes\n", 0),
-    ("hunkinfo validate b", "load file 1 hunks 8 bytes\n", 0),
+/// Over example 18 in the file `a`.
+const RUNS: &[Case] = &[
+    ("hunkinfo validate a", "load file 1 hunks 4 bytes\n", 0, ""),
+    ("hunkinfo validate b", "load file 1 hunks 8 bytes\n", 0, ""),
     (
         "hunkinfo relocate --base 00001000 a",
         "hunk 0 base 0x00001000 4 bytes\n  4e754e71\n",
         0,
+        "",
     ),
-    ("hunkinfo show", "refused at byte 0: NotLoadFile (1)\n", 1),
-    ("hunkinfo validate missing", "reading failed at byte 0\n", 3),
+    (
+        "hunkinfo show",
+        "refused at byte 0: NotLoadFile (1)\n",
+        1,
+        "",
+    ),
+    (
+        "hunkinfo rewrite missing c",
+        "reading failed at byte 0\n",
+        3,
+        "",
+    ),
+    (
+        "hunkinfo rewrite a c",
+        "wrote 60 bytes\n",
+        0,
+        examples::WITH_A_SYMBOL,
+    ),
+    (
+        "hunkinfo rewrite --strip a c",
+        "wrote 40 bytes\n",
+        0,
+        examples::ONE_HUNK,
+    ),
 ];
 
 #[test]
-fn reads_the_file_of_its_name(rt: HostRuntime) -> Result<(), Fail> {
-    let file = spelled(rt.alloc(), examples::ONE_HUNK)?;
-    for (line, want, status) in OF_FILES {
-        let ran = ran(rt.alloc(), line, &file, b"text")?;
-        assert_equal_at(&rt, ran.text.as_str(), *want, line);
+fn reads_and_makes_the_files_of_their_names(rt: HostRuntime) -> Result<(), Fail> {
+    let file = spelled(rt.alloc(), examples::WITH_A_SYMBOL)?;
+    for (line, want, status, longs) in RUNS {
+        let ran = ran(rt.alloc(), line, &file, true)?;
+        assert_output(&rt, ran.text.as_slice(), want.as_bytes());
         assert_equal_at(&rt, ran.status, *status, line);
-        assert!(rt; ran.made.is_empty(), "at {line}");
+        let name = if longs.is_empty() { "" } else { "c:" };
+        let mut made = name.as_bytes().to_vec(rt.alloc())?;
+        made.extend_from_slice(&spelled(rt.alloc(), longs)?)?;
+        assert_equal_at(&rt, ran.made, made, line);
     }
     Ok(())
 }
 
-/// Sees that a rewriting prints this, and makes a file of this name, a colon and these bytes.
-fn expect_made(
-    rt: &impl Abort,
-    alloc: Global,
-    line: &str,
-    file: &[u8],
-    want: (&str, &str, &[u8]),
-) -> Result<(), Fail> {
-    let (text, name, bytes) = want;
-    let mut made = Vec::from_slice(alloc, name.as_bytes())?;
-    made.extend_from_slice(bytes)?;
-    let ran = ran(alloc, line, file, b"text")?;
-    assert_equal_at(rt, ran.text.as_str(), text, line);
-    assert_equal_at(rt, ran.made, made, line);
-    Ok(())
-}
-
-#[test]
-fn makes_the_file_of_its_name(rt: HostRuntime) -> Result<(), Fail> {
-    let alloc = rt.alloc();
-    let file = spelled(alloc, examples::WITH_A_SYMBOL)?;
-    let stripped = spelled(alloc, examples::ONE_HUNK)?;
-    let want = ("wrote 60 bytes\n", "b:", file.as_slice());
-    expect_made(&rt, alloc, "hunkinfo rewrite a b", &file, want)?;
-    let want = ("wrote 40 bytes\n", "c:", stripped.as_slice());
-    expect_made(&rt, alloc, "hunkinfo rewrite --strip a c", &file, want)?;
-    let want = ("refused at byte 4: Truncated (26)\n", "", b"".as_slice());
-    expect_made(&rt, alloc, "hunkinfo rewrite a c", b"\0\0\x03\xF3", want)
-}
-
-/// A hunk of one longword in plain spelling, with a relocation.
-const PLAIN: &str = "000003F3 00000000 00000001 00000000 00000000 00000001 \
-    000003E9 00000001 00000000 000003EC 00000001 00000000 00000000 00000000 000003F2";
+/// A hunk of one longword, with a relocation in plain spelling.
+const PLAIN: &str = "3F3 0 1 0 0 1 / 3E9 1 0 / 3EC 1 0 0 0 / 3F2";
 
 /// The same with a block of short relocations.
-const SHORT: &str = "000003F3 00000000 00000001 00000000 00000000 00000001 \
-    000003E9 00000001 00000000 000003FC 00010000 00000000 000003F2";
+const SHORT: &str = "3F3 0 1 0 0 1 / 3E9 1 0 / 3FC 10000 0 / 3F2";
 
 /// The words of a command, and what it prints of both.
 const WIDE: &[(&str, &str)] = &[
@@ -148,32 +134,24 @@ const WIDE: &[(&str, &str)] = &[
 ];
 
 /// Sees that each command comes to the same of a file that is told to be regular, or not.
-fn expect_wide(
-    rt: &impl Abort,
-    alloc: Global,
-    file: &[u8],
-    are_regular: bool,
-    short_blocks: u64,
-) -> Result<(), Fail> {
+fn expect_wide(rt: &impl Abort, alloc: Global, text: &str, short_blocks: u64) -> Result<(), Fail> {
+    let file = spelled(alloc, text)?;
     for (line, want) in WIDE {
-        let ran = ran_over(alloc, line, (file, are_regular), b"text")?;
-        assert_equal_at(rt, ran.text.as_str(), *want, line);
-        assert_equal_at(rt, ran.short_blocks, short_blocks, line);
-        assert_equal_at(rt, ran.status, 0, line);
+        for are_regular in [true, false] {
+            let ran = ran(alloc, line, &file, are_regular)?;
+            assert_output(rt, ran.text.as_slice(), want.as_bytes());
+            assert_equal_at(rt, (ran.status, ran.short_blocks), (0, short_blocks), line);
+        }
     }
     Ok(())
 }
 
 #[test]
 fn reads_a_plain_file_as_it_is(rt: HostRuntime) -> Result<(), Fail> {
-    let file = spelled(rt.alloc(), PLAIN)?;
-    expect_wide(&rt, rt.alloc(), &file, true, 0)?;
-    expect_wide(&rt, rt.alloc(), &file, false, 0)
+    expect_wide(&rt, rt.alloc(), PLAIN, 0)
 }
 
 #[test]
 fn reads_a_wide_file_again(rt: HostRuntime) -> Result<(), Fail> {
-    let file = spelled(rt.alloc(), SHORT)?;
-    expect_wide(&rt, rt.alloc(), &file, true, 1)?;
-    expect_wide(&rt, rt.alloc(), &file, false, 1)
+    expect_wide(&rt, rt.alloc(), SHORT, 1)
 }

@@ -1,4 +1,0 @@
-use Rattle.tests_libraries.proofs.tests.words.printing.pushes_of.Given as goal
-
-abbrev pub ghost-new : goal.ghost-new
-ghost-new a = a.out.now
