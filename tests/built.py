@@ -12,6 +12,11 @@ ROOT = pathlib.Path(__file__).resolve().parents[1]
 KIT = pathlib.Path(shutil.which("rt") or "rt").resolve().parents[1]
 
 
+def logic():
+    """The logic of the kit's prover, by which a proof counts: kits of other names have the same."""
+    return (KIT / "KIT-ID").read_text(encoding="utf-8").partition(" logic ")[2].strip()
+
+
 def lines_of_crates():
     """What crates.txt says of each crate before the colon, and what it uses."""
     lines = (ROOT / "crates.txt").read_text(encoding="utf-8").splitlines()

@@ -1,11 +1,10 @@
-"""An edit of a crate: the lines that it changes, the functions that these stand in, and the file that it is kept in."""
+"""An edit of a crate: the lines that it changes, the functions that these stand in, and the sum that it is known by."""
 
 import functools
 import hashlib
 
 from files import source
 from functions import function_at
-from kept import STORE
 from seen import read_for
 
 # What a wrong body and its control have to come to.
@@ -22,11 +21,11 @@ class Edit:
     def name(self):
         return f"{self.crate}/{self.bug}"
 
-    @property
-    def kept(self):
-        """The file that says that it was refused, and its control proved, over just what a check reads now."""
+    @functools.cached_property
+    def sum(self):
+        """The sum of all that its refusal, and the proof of its control, rest on: itself, and what a check of it reads now."""
         rests_on = (read_for(self.crate, self.functions()), self.bug, self.changes, self.named)
-        return STORE / hashlib.sha256(repr(rests_on).encode()).hexdigest()
+        return hashlib.sha256(repr(rests_on).encode()).hexdigest()[:32]
 
     def has(self, kind):
         return all(kind in change for change in self.changes)

@@ -4,29 +4,33 @@ import functools
 import hashlib
 
 from bodies import bodies_of, without_bodies
-from built import KIT, ROOT, below
+from built import ROOT, STATIC, USES, below, logic
 from files import files_of, source
 from functions import function_at
 
 OF_A_BODY = {"Answers.antt", "Invariants.antt", "Proof.antt"}
 
+# The modules that choose what is tried, and remember it. What a check is made of, and how it is judged, does not hang on them.
+CHOOSING = {"helpers.py", "kept.py", "reading.py", "recorded.py"}
+
 
 @functools.cache
 def read_for(crate, functions):
-    """The sums of what a check of these functions of the crate reads: the kit, these scripts, the crate, and what those below
-    promise."""
-    sums = [sum_of(it, it.read_bytes()) for it in [KIT / "KIT-ID", ROOT / "crates.txt", *scripts()]]
-    return repr((sums, [promised(name) for name in below(crate)], proved_with(crate, functions)))
+    """What a check of these functions of the crate reads: the logic of the prover, what crates.txt says of the crate and of those
+    below, and the sums of these scripts, of the crate, and of what those below promise."""
+    uses = [(name, USES[name], name in STATIC) for name in below(crate)]
+    sums = [sum_of(it, it.read_bytes()) for it in scripts()]
+    return repr((logic(), uses, sums, [promised(name) for name in below(crate)], proved_with(crate, functions)))
 
 
 def scripts():
-    """The script that tries edits, and all its modules: after a change of one of them every edit is tried anew."""
-    folder = ROOT / "tests/edits"
-    return [folder / "run", *sorted(folder.glob("*.py")), ROOT / "tests/built.py"]
+    """The modules that make checks and judge them: after a change of one of them every edit is tried anew."""
+    modules = (ROOT / "tests/edits").glob("*.py")
+    return [*sorted(it for it in modules if it.name not in CHOOSING), ROOT / "tests/built.py"]
 
 
 def sum_of(file, content):
-    return str(file.relative_to(ROOT)) if ROOT in file.parents else file.name, hashlib.sha256(content).hexdigest()
+    return str(file.relative_to(ROOT)), hashlib.sha256(content).hexdigest()
 
 
 @functools.cache

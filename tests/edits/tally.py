@@ -3,7 +3,8 @@
 import collections
 
 from edit import WANTED
-from kept import STORE
+from kept import forget, keep
+from recorded import contradicts
 
 
 class Tally:
@@ -12,19 +13,21 @@ class Tally:
     def __init__(self, edits, tells_goals):
         """Begins with nothing tried, and forgets what was kept of these edits."""
         self.count, self.bad, self.good = dict.fromkeys(WANTED, 0), 0, collections.defaultdict(dict)
-        self.kept, self.tells_goals = {edit: edit.kept for edit in edits}, tells_goals
-        STORE.mkdir(parents=True, exist_ok=True)
-        for file in self.kept.values():
-            file.unlink(missing_ok=True)
+        self.tells_goals, self.goals = tells_goals, dict.fromkeys(edits)
+        for edit in edits:
+            forget(edit)
 
     def add(self, kind, edit, came_to, why):
         """Counts the edit or its control by what came of it, and keeps the edit where both are as they have to be."""
         is_good = came_to == WANTED[kind]
+        if is_good and kind == "new" and contradicts(edit, why):
+            is_good, came_to = False, "refused otherwise than the record says"
         self.count[kind] += 1
         self.bad += not is_good
         self.good[edit].update({kind: why} if is_good else {})
         if all(it in self.good[edit] for it in WANTED if edit.has(it)):
-            self.kept[edit].write_text(self.good[edit].get("new", ""), encoding="utf-8")
+            self.goals[edit] = self.good[edit].get("new", "")
+            keep(edit, self.goals[edit])
         if not is_good or self.tells_goals and kind == "new":
             print(f"tests/edits: {'edit' if kind == 'new' else 'control of'} {edit.name}: {came_to}: {why}", flush=True)
 
