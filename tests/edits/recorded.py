@@ -6,6 +6,7 @@ the control is tried here."""
 
 import functools
 import hashlib
+import re
 import subprocess
 
 from built import ROOT
@@ -13,16 +14,18 @@ from kept import goals_kept
 
 RECORD = ROOT / "tests/edits/record"
 
+LINE = re.compile(r"(\S+) ([0-9a-f]{32})(?: (\S.*))?")
+
 # A run tries one in so many of the edits that need not be tried. After as many commits all were tried.
 ONE_OF = 10
 
 
 @functools.cache
 def lines():
-    """The sum and the goals of each edit of the record, by its name."""
-    text = RECORD.read_text(encoding="utf-8") if RECORD.exists() else ""
-    fields = ([*line.split(" ", 2), ""] for line in text.splitlines())
-    return {name: (rests_on, goals) for name, rests_on, goals, *_ in fields}
+    """The sum and the goals of each edit of the record, by its name. A line of another form says nothing, so its edit is tried."""
+    text = RECORD.read_text(encoding="utf-8", errors="replace") if RECORD.exists() else ""
+    found = filter(None, map(LINE.fullmatch, text.splitlines()))
+    return {it[1]: (it[2], it[3] or "") for it in found}
 
 
 def is_recorded(edit):
