@@ -68,13 +68,18 @@ def git(*words):
 
 
 def contradicts(edit, goals):
-    """Whether the record says that other goals refuse the edit, and none of these."""
-    return is_recorded(edit) and set(lines()[edit.name][1].split(", ")).isdisjoint(goals.split(", "))
+    """Whether the record has no goal that refuses the edit, where these do. That it has others says nothing: what a goal is called
+    also hangs on what else was tried in the same check."""
+    return is_recorded(edit) and bool(goals) and not lines()[edit.name][1]
 
 
 def write(edits, tried):
     """Writes the record anew: what came of those edits that were tried, if they were as they have to be, and of the others of
-    these what it had."""
+    these what it had. Prints which goals refuse an edit otherwise than it had."""
+    for edit in filter(is_recorded, tried):
+        before, now = lines()[edit.name][1], tried[edit]
+        if now not in (None, before):
+            print(f"tests/edits: {edit.name}: refused by {now}, where the record had {before}")
     had = {edit: lines().get(edit.name) for edit in edits}
     has = {edit: (edit.sum, tried[edit]) if edit in tried else had[edit] for edit in edits}
     texts = sorted(f"{edit.name} {' '.join(it)}".rstrip() for edit, it in has.items() if it and it[1] is not None)
