@@ -108,3 +108,11 @@ def call(words, folder, log, see, given=subprocess.DEVNULL):
                 log.flush()
             see(line and line.decode(errors="replace"))
         return ran.wait()
+
+
+if __name__ == "__main__":
+    try:
+        look_for_kit()
+    except Failed as error:
+        tell(f"check: {error}")
+        sys.exit(1)

@@ -29,8 +29,8 @@ fn shortfall(
 }
 
 /// Headers, where memory is asked for, and where they are cut: at the longword that completes the first row, at the
-/// one that completes the fifth, and for the store after the header. The last has 65,536 hunks: no row that was not read
-/// is given memory, of which there are 40,000 bytes at most.
+/// one that completes the fifth, and for the store after the header. The last has 65,536 hunks: no row that was not
+/// read is given memory, of which there are 40,000 bytes at most.
 const HEADERS: &[(&str, &[u64], u64)] = &[
     ("3F3 0 2 0 1 C0000010 10004 1", &[24, 32], 32),
     ("3F3 0 5 0 4 10 1 1 1 C0000001 10004", &[20, 40, 44], 44),

@@ -65,7 +65,8 @@ fn a_push_writes_once(rt: HostRuntime) -> Result<(), Fail> {
     Ok(())
 }
 
-/// Sees that a writer's second write fails the push, that this is the error which is kept, and that it is not made again.
+/// Sees that a writer's second write fails the push, that this is the error which is kept, and that it is not made
+/// again.
 fn expect_kept(rt: &impl Abort, takes_none: bool, kind: io::ErrorKind) {
     let mut sink = FromWrite::new(Stumbles::at(2, takes_none));
     assert_equal(rt, sink.push(b"ab".as_slice()), Ok(1));
