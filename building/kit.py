@@ -4,7 +4,6 @@ import contextlib
 import os
 import pathlib
 import re
-import select
 import signal
 import subprocess
 import sys
@@ -69,45 +68,40 @@ def look_for_kit():
 
 
 @contextlib.contextmanager
-def running(words, folder, **how):
-    """A call of the kit that is under way. What ends this ends it, too, and it ends all that it has started."""
-    with subprocess.Popen(["rt", *words], cwd=TOP / folder, **how) as ran:
-        try:
-            yield ran
-        except BaseException:
+def calls():
+    """Gives what calls the kit in a folder. What ends this ends those calls, too, and they end all that they have started."""
+    made = []
+
+    def call(words, folder, **how):
+        made.append(subprocess.Popen(["rt", *words], cwd=TOP / folder, **how))
+        return made[-1]
+
+    try:
+        yield call
+    except BaseException:
+        for ran in made:
             ran.terminate()
+        for ran in made:
             with contextlib.suppress(subprocess.TimeoutExpired):
                 ran.wait(10)
             ran.kill()
-            raise
+        raise
 
 
-def lines_of(pipe):
-    """The lines that come from a pipe, and None after each second in which there was none."""
-    rest = b""
-    while True:
-        if not select.select([pipe], [], [], 1)[0]:
-            yield None
-            continue
-        more = os.read(pipe.fileno(), 1 << 16)
-        *whole, rest = (rest + more).split(b"\n")
-        yield from whole
-        if not more:
-            break
-    if rest:
-        yield rest
+class Lines:
+    """The lines of a pipe, as they come."""
 
+    def __init__(self, pipe):
+        self.pipe, self.rest = pipe, b""
 
-def call(words, folder, log, see, given=subprocess.DEVNULL):
-    """Calls the kit, and gives its status. Each line that it prints goes to the log and to `see`, which gets None, too."""
-    log.write(f"$ cd {folder}; rt {' '.join(words)}\n".encode())
-    with running(words, folder, stdin=given, stdout=subprocess.PIPE, stderr=subprocess.STDOUT) as ran:
-        for line in lines_of(ran.stdout):
-            if line is not None:
-                log.write(line + b"\n")
-                log.flush()
-            see(line and line.decode(errors="replace"))
-        return ran.wait()
+    def fileno(self):
+        return self.pipe.fileno()
+
+    def read(self):
+        """The lines that have come since, and whether these are the last."""
+        more = os.read(self.fileno(), 1 << 16)
+        *whole, self.rest = (self.rest + more).split(b"\n")
+        return whole + [self.rest] * (bool(self.rest) and not more), not more
 
 
 if __name__ == "__main__":

@@ -42,21 +42,15 @@ class Line:
             tell(text)
 
 
-class Progress:
-    """The crates of a build, which are proved one after the other."""
+class Crate:
+    """What the kit has said of a crate so far."""
 
-    def __init__(self, crates, line):
-        self.crates, self.line, self.number = crates, line, 0
-
-    def begin(self, crate):
-        self.number += 1
-        self.crate, self.functions, self.proved = f"{self.number:2} of {self.crates}  {crate}", "", "was proved before"
+    def __init__(self, name):
+        self.name, self.functions, self.proved = name, "", "was proved before"
         self.unproved, self.wrong = [], ""
-        self.see(None)
 
     def see(self, said):
-        """Takes a line that the kit has printed, or None, as a second has passed."""
-        said = said or ""
+        """Takes a line that the kit has printed."""
         if counted := re.match(r"so far: (\d+ of \d+ functions)", said):
             self.functions = f": {counted[1]}"
         if said.startswith("rt: ") and "waiting for" in said:
@@ -67,14 +61,32 @@ class Progress:
             self.unproved.append(refused[1])
         if not self.wrong and ERROR.search(said):
             self.wrong = said.strip()
-        self.line.show(f"{self.crate}{self.functions}, {self.line.spent()} so far")
 
-    def end(self, status):
-        """Tells of a crate that is done, and gives what is wrong with it, or nothing."""
-        if not status:
-            self.line.leave(f"{self.crate}: {self.proved}, {self.line.spent()} so far")
-            return ""
-        self.line.leave(f"{self.crate}: not proved, {self.line.spent()} so far")
+    def reason(self, status):
+        """What is wrong with it."""
         more = len(self.unproved) - 3
         names = ", ".join(self.unproved[:3]) + (f" and {more} more" if more > 0 else "")
         return names or self.wrong or f"`rt` ended with status {status}"
+
+
+class Progress:
+    """The crates of a build, some of which are proved side by side."""
+
+    def __init__(self, crates, line):
+        self.crates, self.line, self.done, self.under_way = crates, line, 0, []
+
+    def begin(self, crate):
+        self.under_way.append(crate)
+        self.show()
+
+    def show(self):
+        """Shows what is under way now."""
+        names = ", ".join(f"{it.name}{it.functions}" for it in self.under_way)
+        self.line.show(f"{self.done:2} of {self.crates} done; {names}; {self.line.spent()} so far")
+
+    def end(self, crate, status):
+        """Tells of a crate that is done."""
+        self.under_way.remove(crate)
+        self.done += not status
+        said = "not proved" if status else crate.proved
+        self.line.leave(f"{self.done + bool(status):2} of {self.crates}  {crate.name}: {said}, {self.line.spent()} so far")

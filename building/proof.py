@@ -1,38 +1,98 @@
 """Builds that are proved: of the program, and of the library for C."""
 
 import os
+import pathlib
+import re
 import resource
+import select
 import subprocess
 
-from kit import LOG, TOP, Failed, call, put, tell
-from progress import Line, Progress, time_of
+from kit import LOG, TOP, Failed, Lines, calls, put, tell
+from progress import Crate, Line, Progress, time_of
 
 
 def in_turn(top):
-    """The crate and those that it stands on, each after all that it uses."""
+    """The crate and those that it stands on, each with those of them that it uses."""
     # This looks for the kit when it is imported, and that may lack until `look_for_kit` has seen it.
     from built import USES, below
 
-    return sorted((it for it in USES if it in below(top)), key=lambda it: len(below(it)))
+    crates = set(below(top))
+    return {it: crates & set(USES[it]) for it in sorted(crates, key=lambda it: (len(below(it)), it))}
+
+
+def processors():
+    """How many are used: as RT_JOBS says, or all for which 3 GB of memory are free."""
+    asked = os.environ.get("RT_JOBS", "")
+    if asked.isdecimal() and int(asked):
+        return int(asked)
+    free = re.search(r"MemAvailable: +(\d+) kB", pathlib.Path("/proc/meminfo").read_text(encoding="utf-8"))
+    return max(1, min(len(os.sched_getaffinity(0)), int(free[1]) // (3 << 20) if free else 1))
+
+
+class Build:
+    """Crates that are proved side by side, each after all that it uses. The topmost is built by this command of the kit."""
+
+    def __init__(self, top, verb, given, log):
+        self.left, self.log = in_turn(top), log
+        self.words = {it: ("lib", subprocess.DEVNULL) for it in self.left} | {top: (verb, given)}
+        self.progress = Progress(len(self.left), Line())
+        self.under_way = {}
+
+    def start(self, call, most):
+        """Begins with what may be proved now, at most so many at once, each by one processor: two for a crate would cost a third more
+        of their time, and save a quarter of the clock's."""
+        waits = {*self.left, *(crate.name for crate, _ in self.under_way.values())}
+        for name in [it for it, uses in self.left.items() if not uses & waits][: most - len(self.under_way)]:
+            del self.left[name]
+            word, given = self.words[name]
+            self.write(name, f"rt {word} --jobs 1".encode())
+            how = {"stdin": given, "stdout": subprocess.PIPE, "stderr": subprocess.STDOUT}
+            ran = call([word, "--jobs", "1"], f"crates/{name}", **how)
+            crate = Crate(name)
+            self.under_way[Lines(ran.stdout)] = crate, ran
+            self.progress.begin(crate)
+
+    def write(self, name, line):
+        self.log.write(name.encode() + b": " + line + b"\n")
+        self.log.flush()
+
+    def read(self, lines):
+        """Takes what the kit has printed of a crate."""
+        crate, ran = self.under_way[lines]
+        printed, is_end = lines.read()
+        for line in printed:
+            self.write(crate.name, line)
+            crate.see(line.decode(errors="replace"))
+        if is_end:
+            del self.under_way[lines]
+            self.end(crate, ran.wait())
+
+    def end(self, crate, status):
+        self.progress.end(crate, status)
+        if status:
+            where = f"{os.path.relpath(LOG)} has what the kit printed, in lines that begin with `{crate.name}: `"
+            raise Failed(f"{crate.name} is not proved: {crate.reason(status)}\nbuild: {where}")
+
+    def run(self):
+        most = processors()
+        with calls() as call:
+            while self.left or self.under_way:
+                self.start(call, most)
+                for lines in select.select(list(self.under_way), [], [], 1)[0]:
+                    self.read(lines)
+                if self.under_way:
+                    self.progress.show()
 
 
 def prove(top, verb, given=subprocess.DEVNULL):
-    """Proves the crates one after the other, so that it can be told which is at work, and gives what that took. The topmost is built
-    by this command of the kit."""
-    crates = in_turn(top)
-    line = Line()
-    progress = Progress(len(crates), line)
-    tell(f"{top} stands on {len(crates) - 1} crates. What the kit prints goes to {os.path.relpath(LOG)}")
+    """Proves the crates, and gives what that took."""
     LOG.parent.mkdir(exist_ok=True)
     with open(LOG, "wb") as log:
-        for crate in crates:
-            progress.begin(crate)
-            word, stdin = (verb, given) if crate == top else ("lib", subprocess.DEVNULL)
-            wrong = progress.end(call([word], f"crates/{crate}", log, progress.see, stdin))
-            if wrong:
-                raise Failed(f"{crate} is not proved: {wrong}\nbuild: {os.path.relpath(LOG)} has what the kit printed")
+        build = Build(top, verb, given, log)
+        tell(f"{top} stands on {len(build.left) - 1} crates. What the kit prints goes to {os.path.relpath(LOG)}")
+        build.run()
     used = resource.getrusage(resource.RUSAGE_CHILDREN)
-    return f"{line.spent()}, {time_of(used.ru_utime + used.ru_stime)} of processors"
+    return f"{build.progress.line.spent()}, {time_of(used.ru_utime + used.ru_stime)} of processors"
 
 
 def tell_of_build(what, took, built, use, part):

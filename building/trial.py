@@ -9,7 +9,7 @@ import subprocess
 import sys
 import tempfile
 
-from kit import LOG, TOP, Failed, put, running, tell
+from kit import LOG, TOP, Failed, calls, put, tell
 from progress import ERROR, Line
 
 EXAMPLE = "bindings/c/examples/sum.hex"
@@ -58,7 +58,8 @@ def run_unproved(words, given):
     """Calls `rt try`, and gives its status and what it wrote to standard output and standard error."""
     line = Line()
     tell("compiling hunkinfo without a proof, which takes about a minute")
-    with running(["try", "--", *words], "crates/hunkinfo", stdin=given, stdout=subprocess.PIPE, stderr=subprocess.PIPE) as ran:
+    with calls() as call:
+        ran = call(["try", "--", *words], "crates/hunkinfo", stdin=given, stdout=subprocess.PIPE, stderr=subprocess.PIPE)
         while True:
             try:
                 printed, said = ran.communicate(timeout=1)
