@@ -51,8 +51,8 @@ class Crate:
 
     def see(self, said):
         """Takes a line that the kit has printed."""
-        if counted := re.match(r"so far: (\d+ of \d+ functions)", said):
-            self.functions = f": {counted[1]}"
+        if counted := re.match(r"checked \S+, (\d+ of \d+)", said):
+            self.functions = f": {counted[1]} functions"
         if said.startswith("rt: ") and "waiting for" in said:
             self.functions = ": waits for another build on this machine"
         if proved := re.match(r"logic=proved functions=(\d+)", said):

@@ -45,9 +45,9 @@ class Build:
         for name in [it for it, uses in self.left.items() if not uses & waits][: most - len(self.under_way)]:
             del self.left[name]
             word, given = self.words[name]
-            self.write(name, f"rt {word} --jobs 1".encode())
-            how = {"stdin": given, "stdout": subprocess.PIPE, "stderr": subprocess.STDOUT}
-            ran = call([word, "--jobs", "1"], f"crates/{name}", **how)
+            words = [word, "--jobs", "1", "--progress"]
+            self.write(name, f"rt {' '.join(words)}".encode())
+            ran = call(words, f"crates/{name}", stdin=given, stdout=subprocess.PIPE, stderr=subprocess.STDOUT)
             crate = Crate(name)
             self.under_way[Lines(ran.stdout)] = crate, ran
             self.progress.begin(crate)
