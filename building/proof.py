@@ -34,7 +34,7 @@ class Build:
 
     def __init__(self, top, verb, given, log):
         self.left, self.log = in_turn(top), log
-        self.words = {it: ("lib", subprocess.DEVNULL) for it in self.left} | {top: (verb, given)}
+        self.built_by = {it: ("lib", subprocess.DEVNULL) for it in self.left} | {top: (verb, given)}
         self.progress = Progress(len(self.left), Line())
         self.under_way = {}
 
@@ -44,28 +44,35 @@ class Build:
         waits = {*self.left, *(crate.name for crate, _ in self.under_way.values())}
         for name in [it for it, uses in self.left.items() if not uses & waits][: most - len(self.under_way)]:
             del self.left[name]
-            word, given = self.words[name]
-            words = [word, "--jobs", "1", "--progress"]
-            self.write(name, f"rt {' '.join(words)}".encode())
-            ran = call(words, f"crates/{name}", stdin=given, stdout=subprocess.PIPE, stderr=subprocess.STDOUT)
             crate = Crate(name)
-            self.under_way[Lines(ran.stdout)] = crate, ran
+            # `rt check` alone tells of each function that it has proved.
+            self.run(call, crate, ["check", "--jobs", "1", "--progress"], subprocess.DEVNULL)
             self.progress.begin(crate)
+
+    def run(self, call, crate, words, given):
+        self.write(crate.name, f"rt {' '.join(words)}".encode())
+        ran = call(words, f"crates/{crate.name}", stdin=given, stdout=subprocess.PIPE, stderr=subprocess.STDOUT)
+        self.under_way[Lines(ran.stdout)] = crate, ran
 
     def write(self, name, line):
         self.log.write(name.encode() + b": " + line + b"\n")
         self.log.flush()
 
-    def read(self, lines):
-        """Takes what the kit has printed of a crate."""
+    def read(self, call, lines):
+        """Takes what the kit has printed of a crate. What was proved is built."""
         crate, ran = self.under_way[lines]
         printed, is_end = lines.read()
         for line in printed:
             self.write(crate.name, line)
             crate.see(line.decode(errors="replace"))
-        if is_end:
-            del self.under_way[lines]
-            self.end(crate, ran.wait())
+        if not is_end:
+            return
+        del self.under_way[lines]
+        status, (word, given) = ran.wait(), self.built_by.pop(crate.name, (None, None))
+        if word and not status:
+            self.run(call, crate, [word, "--jobs", "1"], given)
+        else:
+            self.end(crate, status)
 
     def end(self, crate, status):
         self.progress.end(crate, status)
@@ -73,13 +80,13 @@ class Build:
             where = f"{os.path.relpath(LOG)} has what the kit printed, in lines that begin with `{crate.name}: `"
             raise Failed(f"{crate.name} is not proved: {crate.reason(status)}\nbuild: {where}")
 
-    def run(self):
+    def all(self):
         most = processors()
         with calls() as call:
             while self.left or self.under_way:
                 self.start(call, most)
                 for lines in select.select(list(self.under_way), [], [], 1)[0]:
-                    self.read(lines)
+                    self.read(call, lines)
                 if self.under_way:
                     self.progress.show()
 
@@ -90,7 +97,7 @@ def prove(top, verb, given=subprocess.DEVNULL):
     with open(LOG, "wb") as log:
         build = Build(top, verb, given, log)
         tell(f"{top} stands on {len(build.left) - 1} crates. What the kit prints goes to {os.path.relpath(LOG)}")
-        build.run()
+        build.all()
     used = resource.getrusage(resource.RUSAGE_CHILDREN)
     return f"{build.progress.line.spent()}, {time_of(used.ru_utime + used.ru_stime)} of processors"
 
