@@ -1,0 +1,2 @@
+pub mod Suspicious
+pub mod Warnings

@@ -1,0 +1,6 @@
+//! What is suspicious in a load file, though the format allows it.
+#![tactic(auto)]
+
+mod warning;
+
+pub use crate::warning::{Warning, WarningKind};
