@@ -1,7 +1,7 @@
 //! What is suspicious in a load file, and where.
 
 /// What is suspicious.
-#[derive(Clone, Copy, Debug, PartialEq, Eq)]
+#[derive(Clone, Copy)]
 pub enum WarningKind {
     /// The offset of a relocation is odd: a 68000 stops in LoadSeg, by an address error.
     OddOffset,
@@ -23,7 +23,7 @@ pub enum WarningKind {
 
 /// Something suspicious in a load file, which the format allows. Fields that a kind has no use for
 /// are 0.
-#[derive(Clone, Copy, Debug, PartialEq, Eq)]
+#[derive(Clone, Copy)]
 pub struct Warning {
     /// The byte of the file at which the offset, the symbol or the content block stands.
     pub place: u64,
