@@ -1,2 +1,4 @@
+mod InTurn
 mod Least
 mod Rising
+mod Zeros

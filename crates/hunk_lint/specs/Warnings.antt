@@ -1,7 +1,7 @@
 -- What is suspicious in a load file, though the format allows it.
-use Rattle.std.specs.Prelude.{ℕ, ◌+◌, ◌*◌, ◌%◌, ◌==◌, Bool, true, false, List, [], ◌∷◌, ◌++◌, length, map, get_or, nat_lt, max, Option, Some, None}
+use Rattle.std.specs.Prelude.{ℕ, ◌+◌, ◌*◌, ◌%◌, ◌==◌, ◌&&◌, Bool, true, false, List, [], ◌∷◌, ◌++◌, length, map, get_or, nat_lt, max, Option, Some, None}
 use Rattle.std.specs.List.{count_by, filter, fold}
-use Rattle.hunk_words.specs.Bits.{memory_bits}
+use Rattle.hunk_words.specs.Bits.{memory_bits, size_longs}
 use Rattle.hunk_blocks.specs.Parts.{block_text, group_text, symbol_text}
 use Rattle.hunk_blocks.specs.Values.{BlockBody, BlockValue, RelocGroup, SymbolEntry, Code, Data, Bss, Reloc, Symbol}
 use Rattle.hunk_files.specs.Hunks.{block_texts}
@@ -86,7 +86,7 @@ abbrev pub group_warnings : HunkFacts → ℕ → RelocGroup → List Warning
 group_warnings f place g = offsets_warnings f g.target (place + 8) g.offsets
 
 abbrev pub symbol_warnings : HunkFacts → ℕ → SymbolEntry → List Warning
-symbol_warnings f place e = told (is_outside (get_or f.sizes f.number 0) e.value) (record {
+symbol_warnings f place e = told (is_outside (4 * size_longs f.word) e.value) (record {
   place = place;
   hunk = f.number;
   kind = SymbolOutside;
@@ -100,10 +100,10 @@ abbrev pub block_warning : HunkFacts → ℕ → WarningKind → ℕ → Warning
 block_warning f place kind value =
     record { place = place; hunk = f.number; kind = kind; offset = 0; target = 0; value = value; other = 0 }
 
--- of a content block of this many longwords of content
-abbrev pub content_warnings : HunkFacts → ℕ → ℕ → ℕ → List Warning
-content_warnings f place word longs =
-    told (longs + f.number == 0) (block_warning f place NoEntry 0)
+-- of a content block with this word, which may have no longword of content
+abbrev pub content_warnings : HunkFacts → ℕ → ℕ → Bool → List Warning
+content_warnings f place word is_empty =
+    told (is_empty && f.number == 0) (block_warning f place NoEntry 0)
     ++ told (ignores_memory (memory_bits word) (memory_bits f.word))
     (block_warning f place MemoryIgnored (memory_bits word))
 
@@ -115,9 +115,9 @@ symbols_warnings f = in_turn (symbol_warnings f) symbol_text
 
 -- of a block that begins at this byte: its list stands after its word
 abbrev pub body_warnings : HunkFacts → ℕ → ℕ → BlockBody → List Warning
-body_warnings f place word (Code top words) = content_warnings f place word (length words)
-body_warnings f place word (Data top words) = content_warnings f place word (length words)
-body_warnings f place word (Bss size) = content_warnings f place word 0
+body_warnings f place word (Code top words) = content_warnings f place word (length words == 0)
+body_warnings f place word (Data top words) = content_warnings f place word (length words == 0)
+body_warnings f place word (Bss size) = content_warnings f place word true
 body_warnings f place word (Reloc groups) = groups_warnings f (place + 4) groups
 body_warnings f place word (Symbol entries) = symbols_warnings f (place + 4) entries
 body_warnings f place word _ = []

@@ -1,7 +1,10 @@
 //! What is suspicious in a load file, though the format allows it.
 #![tactic(auto)]
 
+mod known;
+mod listing;
 mod neighbours;
+mod suspicious;
 mod warning;
 
 pub use crate::warning::{Warning, WarningKind};
