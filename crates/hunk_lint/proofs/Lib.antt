@@ -1,3 +1,4 @@
+mod Collected
 mod InTurn
 mod Least
 mod Rising

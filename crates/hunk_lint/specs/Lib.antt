@@ -1,3 +1,4 @@
+pub mod Collecting
 pub mod Known
 pub mod Suspicious
 pub mod Warnings

@@ -6,6 +6,7 @@ ghost use Rattle.hunk_files.specs.SumImage.{long_at};
 use hunk_words::SizeWord;
 
 /// What the warnings of a hunk depend on.
+#[derive(Clone, Copy)]
 pub(crate) struct KnownHunk<'a> {
     /// Its number, counted from 0.
     pub(crate) number: u64,

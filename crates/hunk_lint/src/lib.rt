@@ -1,6 +1,7 @@
 //! What is suspicious in a load file, though the format allows it.
 #![tactic(auto)]
 
+mod collecting;
 mod known;
 mod listing;
 mod neighbours;
