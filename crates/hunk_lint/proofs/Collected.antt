@@ -60,7 +60,7 @@ bss_on true body n = refl
 bss_on false true n = grind (arith, nat_tests)
 bss_on false false n = grind (arith, nat_tests)
 
-first_offsets : (b : BlockValue) (left : List BlockValue) → blocks_offsets (b ∷ left) ≡ offsets (block_relocations b.body) ++ blocks_offsets left
+pub first_offsets : (b : BlockValue) (left : List BlockValue) → blocks_offsets (b ∷ left) ≡ offsets (block_relocations b.body) ++ blocks_offsets left
 first_offsets b left = map-append (λ (p : ℕ × ℕ). p.0) (block_relocations b.body) (flat_map (λ (x : BlockValue). block_relocations x.body) left)
 
 pub all_left : (all : List BlockValue) (room : List ℕ) → AreInOrder false (standings all) → Left all all [] false 0 room

@@ -2,4 +2,5 @@ mod Collected
 mod InTurn
 mod Least
 mod Rising
+mod RoomLaws
 mod Zeros

@@ -1,6 +1,6 @@
 -- What is suspicious in a load file, though the format allows it.
-use Rattle.std.specs.Prelude.{ℕ, ◌+◌, ◌*◌, ◌%◌, ◌==◌, ◌&&◌, Bool, true, false, List, [], ◌∷◌, ◌++◌, length, map, get_or, nat_lt, max, Option, Some, None}
-use Rattle.std.specs.List.{count_by, filter, fold}
+use Rattle.std.specs.Prelude.{ℕ, ◌+◌, ◌*◌, ◌%◌, ◌==◌, ◌&&◌, Bool, true, false, List, [], ◌∷◌, ◌++◌, length, map, get_or, nat_lt, Option, Some, None}
+use Rattle.std.specs.List.{count_by, filter}
 use Rattle.hunk_words.specs.Bits.{memory_bits, size_longs}
 use Rattle.hunk_blocks.specs.Parts.{block_text, group_text, symbol_text}
 use Rattle.hunk_blocks.specs.Values.{BlockBody, BlockValue, RelocGroup, SymbolEntry, Code, Data, Bss, Reloc, Symbol}
@@ -144,7 +144,3 @@ sizes_of v = map (λ h. 4 * declared_longs h) v
 -- What is suspicious in a load file, in file order.
 abbrev pub warnings : LoadFileValue → List Warning
 warnings v = hunks_warnings (sizes_of v) 0 (4 * length (header_text v)) v
-
--- The elements of room that the list takes: one for each hunk and, of the hunk with the most relocations, one for each.
-abbrev pub room_for : LoadFileValue → ℕ
-room_for v = length v + fold max 0 (map (λ h. length (relocations h)) v)

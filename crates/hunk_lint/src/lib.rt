@@ -5,6 +5,7 @@ mod collecting;
 mod known;
 mod listing;
 mod neighbours;
+mod room;
 mod suspicious;
 mod warning;
 
