@@ -1,9 +1,11 @@
 -- Items whose warnings are listed one after the other.
-use Rattle.std.proofs.Common.{◌≡◌, ℕ, ◌+◌, ◌*◌, List, [], ◌∷◌, ◌++◌, length, refl, sym, ap, subst, ◌∙◌, Some}
+use Rattle.std.proofs.Common.{◌≡◌, ℕ, ◌+◌, ◌*◌, List, [], ◌∷◌, ◌++◌, length, sym, ap, ap₂, subst, ◌∙◌, Some}
 use Rattle.hunk_blocks.specs.Placed.{GivesFirst, Placed}
 use Rattle.hunk_files.specs.InPlace.{GivesPart}
 use Rattle.hunk_files.proofs.findings.FindingSteps.{TakenUpTo, taken_on}
-use Rattle.hunk_lint.specs.Warnings.{in_turn}
+use Rattle.hunk_files.specs.LoadFile.{HunkValue, LoadFileValue}
+use Rattle.hunk_files.proofs.views.HunksInPlace.{hunk_text}
+use Rattle.hunk_lint.specs.Warnings.{blocks_warnings, facts_of, hunks_warnings, in_turn}
 use Rattle.hunk_lint.specs.declared.warning.Warning.{Warning}
 
 module _ {S : Type 0} (Takes : S → List Warning → S → Type 0) (more : (a b c : S) (xs ys : List Warning) → Takes a xs b → Takes b ys c → Takes a (xs ++ ys) c) where
@@ -28,3 +30,27 @@ module _ {S : Type 0} (Takes : S → List Warning → S → Type 0) (more : (a b
         let place_is : part.place ≡ old.place = sym (ap (λ (p : Placed (List A)). p.place) gives.0) in
         first_listed old new part.value (ap (λ (p : Placed (List A)). p.value) gives.0) (gives.1 ∙ ap (λ (n : ℕ). n + 4 * length (text part.value)) place_is) t
         (subst (λ (n : ℕ). Takes b (found n part.value) c) place_is h)
+
+  -- The first hunk is listed.
+  pub hunk_listed : (a b c : S) (all : List Warning) (sizes : List ℕ) (number : ℕ) (old new : Placed LoadFileValue) (h : Placed HunkValue) → GivesPart hunk_text old (Some h) new →
+      TakenUpTo Takes a b (hunks_warnings sizes number old.place old.value) all → Takes b (blocks_warnings (facts_of sizes number h.value) h.place h.value.blocks) c →
+      TakenUpTo Takes a c (hunks_warnings sizes (number + 1) new.place new.value) all
+  hunk_listed a b c all sizes number old new h gives t taken =
+      let here = blocks_warnings (facts_of sizes number h.value) h.place h.value.blocks in
+      let left = λ (n : ℕ) (p : Placed LoadFileValue). hunks_warnings sizes n p.place p.value in
+      taken_on Takes more a b c here (left (number + 1) new) (left number old) all
+      (ap (left number) gives.0 ∙ ap (λ (n : ℕ). here ++ hunks_warnings sizes (number + 1) n new.value) (sym gives.1)) t taken
+
+-- ---- two views of the same parts
+
+-- They give the same one, and the same are left.
+pub same_given : {A : Type 0} (text : A → List ℕ) (old again new next : Placed (List A)) (x y : Placed A) → again ≡ old → GivesPart text old (Some x) new → GivesPart text again (Some y) next → (x ≡ y) × (next ≡ new)
+same_given {A} text old again new next x y same gives repeats =
+    let place : x.place ≡ y.place = ap (λ (p : Placed (List A)). p.place) (sym gives.0 ∙ sym same ∙ repeats.0) in
+    let values : x.value ∷ new.value ≡ y.value ∷ next.value = ap (λ (p : Placed (List A)). p.value) (sym gives.0 ∙ sym same ∙ repeats.0) in
+    let value : x.value ≡ y.value = cc in
+    let left : next.value ≡ new.value = cc in
+    let after : next.place ≡ new.place = repeats.1 ∙ ap₂ (λ (n : ℕ) (a : A). n + 4 * length (text a)) (sym place) (sym value) ∙ sym gives.1 in (
+      ap₂ (λ (n : ℕ) (a : A). record { place = n; value = a }) place value,
+      ap₂ (λ (n : ℕ) (xs : List A). record { place = n; value = xs }) after left,
+    )

@@ -1,3 +1,4 @@
+mod AnyOrder
 mod Collected
 mod InTurn
 mod Least

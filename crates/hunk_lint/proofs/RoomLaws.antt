@@ -1,13 +1,14 @@
 -- The room that a file takes, hunk by hunk and block by block.
-use Rattle.std.proofs.Common.{◌≡◌, ℕ, ◌+◌, ◌≤◌, ◌<◌, ◌-◌, ◌^◌, List, [], ◌∷◌, ◌++◌, length, map, min, max, refl, sym, ap, ◌∙◌, arith, length-append}
+use Rattle.std.proofs.Common.{◌≡◌, ℕ, ◌+◌, ◌*◌, ◌≤◌, ◌<◌, ◌-◌, ◌^◌, List, [], ◌∷◌, ◌++◌, length, map, min, max, refl, sym, ap, ◌∙◌, arith, length-append}
 use Rattle.std.specs.List.{AllByRecursion, flat_map}
 use Rattle.std.proofs.lemmas.List.Sums.{sum_by-cons}
-use Rattle.hunk_words.specs.Carriers.{saturated}
+use Rattle.hunk_words.specs.{Bits.size_longs, Carriers.saturated}
 use Rattle.hunk_blocks.specs.Values.{BlockBody, BlockValue, RelocGroup, Reloc, offset_count}
 use Rattle.hunk_files.specs.Image.{block_relocations, group_relocations, offsets, relocations}
-use Rattle.hunk_files.specs.LoadFile.{HunkValue, LoadFileValue}
+use Rattle.hunk_files.specs.LoadFile.{HunkValue, LoadFileValue, TableEntry}
+use Rattle.hunk_files.specs.LoadText.{table}
 use Rattle.hunk_files.proofs.image.OffsetLists.{group_offsets, offsets_first}
-use Rattle.hunk_lint.specs.{Collecting.{blocks_offsets, groups_offsets}, Room.greatest}
+use Rattle.hunk_lint.specs.{Collecting.{blocks_offsets, groups_offsets}, Room.greatest, Warnings.sizes_of}
 use Rattle.hunk_lint.proofs.Collected.{first_offsets}
 
 -- ---- the offsets of a hunk
@@ -74,3 +75,9 @@ module _ (room : ℕ) (v old left : LoadFileValue) (h : HunkValue) (first : old 
 
   pub over_one : room < length (relocations h) → room < most v
   over_one more = l.over (omega (arith, most_is))
+
+-- ---- the sizes of all hunks
+
+pub sizes_are : (v : LoadFileValue) → map (λ (e : TableEntry). 4 * size_longs e.word) (table v) ≡ sizes_of v
+sizes_are [] = refl
+sizes_are (h ∷ v) = ap (λ (ns : List ℕ). 4 * size_longs h.entry.word ∷ ns) (sizes_are v)

@@ -2,6 +2,7 @@
 #![tactic(auto)]
 
 mod collecting;
+mod file;
 mod known;
 mod listing;
 mod neighbours;
@@ -9,4 +10,5 @@ mod room;
 mod suspicious;
 mod warning;
 
+pub use crate::file::{NoRoom, list_warnings};
 pub use crate::warning::{Warning, WarningKind};
