@@ -18,7 +18,7 @@ use Rattle.hunk_lint.specs.Warnings.{is_bss}
 abbrev pub ContentOnce : List ℕ → List BlockValue → Type 0
 ContentOnce bytes left = ((bytes ≡ []) × AreInOrder false (standings left)) ⊎ AllByRecursion IsNoContent left
 
-none_after : (bs : List BlockValue) → AreInOrder true (standings bs) → AllByRecursion IsNoContent bs
+pub none_after : (bs : List BlockValue) → AreInOrder true (standings bs) → AllByRecursion IsNoContent bs
 none_after [] o = absurd o
 none_after (b ∷ bs) o =
     by_standing (λ has s. has ≡ true → (is_content s ≡ false) × AllByRecursion IsNoContent bs) (standings bs)
@@ -45,7 +45,7 @@ module _ (bytes : List ℕ) (left : List BlockValue) where
 
 -- ---- the blocks that are left
 
-abbrev bss_count : List BlockValue → ℕ
+abbrev pub bss_count : List BlockValue → ℕ
 bss_count bs = count_by (λ (b : BlockValue). is_bss b.body) bs
 
 pub record Left (all left : List BlockValue) (bytes : List ℕ) (bss : Bool) (count : ℕ) (room : List ℕ) : Type 0 where

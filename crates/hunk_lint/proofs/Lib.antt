@@ -1,5 +1,6 @@
 mod AnyOrder
 mod Collected
+mod FewWarnings
 mod InTurn
 mod Least
 mod Rising
