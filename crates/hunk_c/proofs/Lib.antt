@@ -30,3 +30,4 @@ pub mod TableSizes
 pub mod Tabulated
 pub mod Items
 pub mod BlockRows
+pub mod Warned

@@ -22,3 +22,4 @@ pub mod Strips
 pub mod Symbols
 pub mod Tables
 pub mod Units
+pub mod Warnings

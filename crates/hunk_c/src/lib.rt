@@ -32,6 +32,7 @@ mod strip;
 mod symbols;
 mod table;
 mod units;
+mod warnings;
 
 pub use crate::abi::hunk_abi;
 pub use crate::answer::Answer;
@@ -55,3 +56,4 @@ pub use crate::strip::hunk_strip;
 pub use crate::symbols::{SymbolRow, hunk_symbols};
 pub use crate::table::{TableRow, hunk_table};
 pub use crate::units::{UnitRow, hunk_units};
+pub use crate::warnings::{WarningRow, hunk_warnings};

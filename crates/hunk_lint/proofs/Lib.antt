@@ -1,6 +1,6 @@
 mod AnyOrder
 mod Collected
-mod FewWarnings
+pub mod FewWarnings
 mod InTurn
 mod Least
 mod Rising
