@@ -1,12 +1,11 @@
 -- The warnings of a hunk do not depend on the order of its offsets.
-use Rattle.std.proofs.Common.{◌≡◌, ℕ, ◌+◌, ◌*◌, ◌==◌, cond, List, [], ◌∷◌, ◌++◌, length, refl, sym, ap, ap₂, ◌∙◌, Option, nat_lt}
-use Rattle.std.specs.List.{filter}
+use Rattle.std.proofs.Common.{◌≡◌, ℕ, ◌+◌, ◌*◌, ◌==◌, cond, List, [], ◌∷◌, ◌++◌, length, refl, ap₂}
 use Rattle.std.specs.List.Sorted.{IsPermutation}
 use Rattle.std.proofs.lemmas.List.Sorted.{sum_by-IsPermutation}
 use Rattle.hunk_blocks.specs.Parts.{block_text, group_text}
-use Rattle.hunk_blocks.specs.Values.{BlockBody, BlockValue, RelocGroup, Reloc}
-use Rattle.hunk_lint.specs.Suspicious.{is_close, least}
-use Rattle.hunk_lint.specs.Warnings.{HunkFacts, block_warnings, blocks_warnings, body_warnings, group_warnings, in_turn, offset_warnings, offsets_warnings}
+use Rattle.hunk_blocks.specs.Values.{BlockBody, BlockValue, Reloc}
+use Rattle.hunk_lint.specs.Suspicious.{is_close}
+use Rattle.hunk_lint.specs.Warnings.{HunkFacts, block_warnings, blocks_warnings, body_warnings, group_warnings, in_turn, offset_warnings}
 use Rattle.hunk_lint.specs.declared.warning.Warning.{Warning}
 use Rattle.hunk_lint.proofs.Least.{least_in_order}
 

@@ -1,5 +1,5 @@
 -- What is collected of a hunk: block by block it comes to what the blocks have.
-use Rattle.std.proofs.Common.{◌≡◌, ℕ, ◌+◌, ◌≤◌, ◌<◌, Bool, true, false, cond, List, [], ◌∷◌, ◌++◌, length, map, take, refl, sym, ap, ap₂, subst, ◌∙◌, append-nil, append_assoc, length-append, arith, nat_lt, ◌⊎◌, inl, inr}
+use Rattle.std.proofs.Common.{◌≡◌, ℕ, ◌+◌, Bool, true, false, cond, List, [], ◌∷◌, ◌++◌, length, take, refl, sym, ap, subst, ◌∙◌, append_assoc, length-append, arith, nat_lt, ◌⊎◌, inl, inr}
 use Rattle.std.specs.Prelude.{◌||◌}
 use Rattle.std.specs.List.{AllByRecursion, count_by, flat_map}
 use Rattle.std.proofs.lemmas.{Bool.Decides.nat_tests, List.map-append, List.Sums.sum_by-cons}
@@ -63,9 +63,6 @@ bss_on false false n = grind (arith, nat_tests)
 pub first_offsets : (b : BlockValue) (left : List BlockValue) → blocks_offsets (b ∷ left) ≡ offsets (block_relocations b.body) ++ blocks_offsets left
 first_offsets b left = map-append (λ (p : ℕ × ℕ). p.0) (block_relocations b.body) (flat_map (λ (x : BlockValue). block_relocations x.body) left)
 
-pub all_left : (all : List BlockValue) (room : List ℕ) → AreInOrder false (standings all) → Left all all [] false 0 room
-all_left all room order = record { once = inl (refl, order); content = refl; bss_is = refl; count_is = omega arith; offsets_are = refl }
-
 module _ {all old : List BlockValue} {bytes : List ℕ} {bss : Bool} {count : ℕ} {room : List ℕ} (l : Left all old bytes bss count room) where
   module _ (b : BlockValue) (left : List BlockValue) (is : old ≡ b ∷ left) where
     pub block_collected : (body : BlockBody) (bytes2 : List ℕ) (bss2 : Bool) (count2 : ℕ) (room2 : List ℕ) → body ≡ b.body → bytes2 ≡ content_after bytes body → bss2 ≡ (bss || is_bss body) →
@@ -98,15 +95,3 @@ module _ {all old : List BlockValue} {bytes : List ℕ} {bss : Bool} {count : �
               ∙ ap (λ (os : List ℕ). take count room ++ os) (sym here ∙ ap blocks_offsets (sym is))
               ∙ l.offsets_are;
         }
-
-  or_false : (t : Bool) → (t || false) ≡ t
-  or_false true = refl
-  or_false false = refl
-
-  pub all_collected : old ≡ [] → (bytes ≡ blocks_content all) × (bss ≡ nat_lt 0 (bss_count all)) × (count ≡ length (blocks_offsets all)) × (take count room ≡ blocks_offsets all)
-  all_collected none = (
-    sym (l.content ∙ ap (λ (bs : List BlockValue). bytes ++ blocks_content bs) none ∙ append-nil bytes),
-    sym (l.bss_is ∙ ap (λ (bs : List BlockValue). bss || nat_lt 0 (bss_count bs)) none ∙ or_false bss),
-    omega (arith, l.count_is, ap (λ (bs : List BlockValue). length (blocks_offsets bs)) none),
-    sym (append-nil (take count room)) ∙ ap (λ (bs : List BlockValue). take count room ++ blocks_offsets bs) (sym none) ∙ l.offsets_are,
-  )

@@ -1,17 +1,17 @@
 -- A load file has no more warnings than bytes.
-use Rattle.std.proofs.Common.{◌≡◌, ℕ, ◌+◌, ◌*◌, ◌≤◌, ◌<◌, Bool, true, false, cond, List, [], ◌∷◌, ◌++◌, length, map, get_or, take, drop, refl, sym, ap, ap₂, subst, ◌∙◌, arith, nat_lt, length-append, Option, Some, None, ◌==◌, ◌%◌}
+use Rattle.std.proofs.Common.{◌≡◌, ℕ, ◌+◌, ◌*◌, ◌≤◌, ◌<◌, Bool, true, false, cond, List, [], ◌∷◌, ◌++◌, length, get_or, take, drop, refl, ap, ap₂, ◌∙◌, arith, nat_lt, length-append, Option, Some, None, ◌==◌, ◌%◌}
 use Rattle.std.specs.Prelude.{◌&&◌}
 use Rattle.std.specs.List.{AllByRecursion, count_by, filter, flat_map}
 use Rattle.std.proofs.lemmas.{Bool.{cond-false, le-ltb, ltb-true}, List.Sums.sum_by-cons}
 use Rattle.hunk_words.specs.Longs.{bytes_of}
-use Rattle.hunk_words.specs.Bits.{memory_bits, size_longs}
+use Rattle.hunk_words.specs.Bits.{memory_bits}
 use Rattle.hunk_words.proofs.LongLaws.{length-bytes_of}
 use Rattle.hunk_grammar.specs.Standings.{is_content}
-use Rattle.hunk_blocks.specs.Parts.{block_text, body_parts, group_parts, group_text, symbol_parts, symbol_text}
+use Rattle.hunk_blocks.specs.Parts.{block_text, group_text, symbol_text}
 use Rattle.hunk_blocks.specs.Values.{BlockBody, BlockValue, RelocGroup, SymbolEntry, Code, Data, Bss, Reloc, Ext, Symbol, End}
 use Rattle.hunk_blocks.proofs.PartTexts.{body_text_is, group_text_is}
 use Rattle.hunk_files.specs.Hunks.{block_texts}
-use Rattle.hunk_files.specs.Image.{block_content, content, filled}
+use Rattle.hunk_files.specs.Image.{block_content, filled}
 use Rattle.hunk_files.specs.LoadFile.{AreInOrder, HunkValue, IsHunk, IsLoadFile, LoadFileValue, declared_longs, standing}
 use Rattle.hunk_files.specs.LoadText.{text}
 use Rattle.hunk_files.specs.SumImage.{long_at}
@@ -102,13 +102,13 @@ few_of_offset f target place offset zero =
     let value = long_at f.content offset in
     let not_both = one_told f.is_bss (is_outside size value) (row InBss 0) (row OutsideTarget 0) (λ bss. ap (is_outside size) (zero bss offset) ∙ zero_is_inside size) in
     simp length-append (
-      omega (
-        arith,
-        few_told (offset % 2 == 1) (row OddOffset 0),
-        few_told (nat_lt 1 (count_by (λ o. o == offset) f.offsets)) (row Twice 0),
-        few_told_of (least (filter (is_close offset) f.offsets)) (row Overlap),
-        not_both,
-      )
+    omega (
+      arith,
+      few_told (offset % 2 == 1) (row OddOffset 0),
+      few_told (nat_lt 1 (count_by (λ o. o == offset) f.offsets)) (row Twice 0),
+      few_told_of (least (filter (is_close offset) f.offsets)) (row Overlap),
+      not_both,
+    )
     )
 
 module _ {A : Type 0} (found : ℕ → A → List Warning) (text : A → List ℕ) (few : (place : ℕ) (x : A) → length (found place x) ≤ 4 * length (text x)) where
@@ -137,12 +137,12 @@ module _ (f : HunkFacts) (zero : IsZeroBss f) where
 
   few_of_content : (place word : ℕ) (is_empty : Bool) → length (content_warnings f place word is_empty) ≤ 2
   few_of_content place word is_empty = simp length-append (
-    omega (
-      arith,
-      few_told (is_empty && f.number == 0) (block_warning f place NoEntry 0),
-      few_told (ignores_memory (memory_bits word) (memory_bits f.word)) (block_warning f place MemoryIgnored (memory_bits word)),
-    )
-  )
+      omega (
+        arith,
+        few_told (is_empty && f.number == 0) (block_warning f place NoEntry 0),
+        few_told (ignores_memory (memory_bits word) (memory_bits f.word)) (block_warning f place MemoryIgnored (memory_bits word)),
+      )
+      )
 
   few_of_block : (place : ℕ) (b : BlockValue) → length (block_warnings f place b) ≤ 4 * length (block_text b)
   few_of_block place b = of b.body

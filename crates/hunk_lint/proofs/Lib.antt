@@ -1,5 +1,6 @@
 mod AnyOrder
 mod Collected
+mod EnoughRoom
 pub mod FewWarnings
 mod InTurn
 mod Least

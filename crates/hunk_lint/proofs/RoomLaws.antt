@@ -1,6 +1,6 @@
 -- The room that a file takes, hunk by hunk and block by block.
-use Rattle.std.proofs.Common.{◌≡◌, ℕ, ◌+◌, ◌*◌, ◌≤◌, ◌<◌, ◌-◌, ◌^◌, List, [], ◌∷◌, ◌++◌, length, map, min, max, refl, sym, ap, ◌∙◌, arith, length-append}
-use Rattle.std.specs.List.{AllByRecursion, flat_map}
+use Rattle.std.proofs.Common.{◌≡◌, ℕ, ◌+◌, ◌*◌, ◌≤◌, ◌<◌, ◌-◌, ◌^◌, List, [], ◌∷◌, length, map, min, refl, sym, ap, ◌∙◌, arith, length-append}
+use Rattle.std.specs.List.{AllByRecursion}
 use Rattle.std.proofs.lemmas.List.Sums.{sum_by-cons}
 use Rattle.hunk_words.specs.{Bits.size_longs, Carriers.saturated}
 use Rattle.hunk_blocks.specs.Values.{BlockBody, BlockValue, RelocGroup, Reloc, offset_count}
@@ -13,7 +13,7 @@ use Rattle.hunk_lint.proofs.Collected.{first_offsets}
 
 -- ---- the offsets of a hunk
 
-groups_count : (groups : List RelocGroup) → length (groups_offsets groups) ≡ offset_count groups
+pub groups_count : (groups : List RelocGroup) → length (groups_offsets groups) ≡ offset_count groups
 groups_count [] = omega arith
 groups_count (g ∷ groups) =
     omega (
@@ -30,13 +30,13 @@ pub groups_counted : (count n sum all : ℕ) (old left : List BlockValue) (b : B
 groups_counted count n sum all old left b groups first is counted added left_is =
     let own : length (offsets (block_relocations b.body)) ≡ offset_count groups = ap (λ (x : BlockBody). length (offsets (block_relocations x))) (sym is) ∙ groups_count groups in
     let here : length (blocks_offsets old) ≡ offset_count groups + length (blocks_offsets left) =
-        omega (
-          arith,
-          own,
-          ap (λ (bs : List BlockValue). length (blocks_offsets bs)) first,
-          ap (λ (os : List ℕ). length os) (first_offsets b left),
-          length-append (offsets (block_relocations b.body)) (blocks_offsets left),
-        ) in
+    omega (
+      arith,
+      own,
+      ap (λ (bs : List BlockValue). length (blocks_offsets bs)) first,
+      ap (λ (os : List ℕ). length os) (first_offsets b left),
+      length-append (offsets (block_relocations b.body)) (blocks_offsets left),
+    ) in
     saturate count n sum (offset_count groups) (length (blocks_offsets left)) counted added ∙ ap (λ (k : ℕ). saturated (count + k)) (sym here) ∙ left_is
   where
     saturate : (count n sum own rest : ℕ) → n ≡ saturated own → sum ≡ min (count + n) (2 ^ 64 - 1) → saturated (sum + rest) ≡ saturated (count + (own + rest))
@@ -62,19 +62,6 @@ each_within room (h ∷ v) le = (omega (arith, le), each_within room v (omega (a
 pub record LookedAt (room : ℕ) (v left : LoadFileValue) : Type 0 where
   pub within : most left ≤ room → most v ≤ room
   pub over : room < most left → room < most v
-
-pub none_looked_at : (room : ℕ) (v : LoadFileValue) → LookedAt room v v
-none_looked_at room v = record { within = λ le. le; over = λ le. le }
-
-module _ (room : ℕ) (v old left : LoadFileValue) (h : HunkValue) (first : old ≡ h ∷ left) (l : LookedAt room v old) where
-  most_is : most old ≡ max (length (relocations h)) (most left)
-  most_is = ap most first
-
-  pub within_one : length (relocations h) ≤ room → LookedAt room v left
-  within_one le = record { within = λ k. l.within (omega (arith, most_is)); over = λ k. l.over (omega (arith, most_is)) }
-
-  pub over_one : room < length (relocations h) → room < most v
-  over_one more = l.over (omega (arith, most_is))
 
 -- ---- the sizes of all hunks
 

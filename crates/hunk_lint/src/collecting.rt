@@ -44,11 +44,7 @@ pub(crate) fn collect<'a>(room: &mut [u32], mut blocks: BlockViews<'a>) -> Colle
 }
 
 /// What the blocks have with one more of them.
-fn collect_block<'a>(
-    room: &mut [u32],
-    before: Collected<'a>,
-    body: BodyView<'a>,
-) -> Collected<'a>
+fn collect_block<'a>(room: &mut [u32], before: Collected<'a>, body: BodyView<'a>) -> Collected<'a>
     requires { before.count + length (offsets (block_relocations (viewed body)))
         ≤ length room.old }
     ensures content { result.content.now

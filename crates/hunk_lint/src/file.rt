@@ -44,7 +44,8 @@ pub fn list_warnings<T: Takes<Warning>>(
     Ok(())
 }
 
-/// Hands over the warnings of all hunks. Their blocks are read twice, so two views go over them.
+/// Hands over the warnings of all hunks. Two views go over the hunks, as the blocks of each are read
+/// twice.
 fn list_hunks<T: Takes<Warning>>(taker: &mut T, file: &LoadView<'_>, room: &mut [u32])
     requires { room_for file.now ≤ length room.old }
     ensures { T.takes taker.old (warnings file.now) taker.new }
@@ -58,28 +59,29 @@ fn list_hunks<T: Takes<Warning>>(taker: &mut T, file: &LoadView<'_>, room: &mut 
         let Some(twin) = again.next() else {
             unreachable!();
         };
-        list_hunk(taker, sizes, offsets, number, hunk.blocks, twin);
+        list_hunk(taker, sizes, offsets, number, hunk, twin.blocks);
         number += 1;
     }
 }
 
-/// Hands over the warnings of a hunk, whose blocks are given twice.
+/// Hands over the warnings of a hunk. Its blocks are given once more, for what they have to be
+/// collected first.
 fn list_hunk<T: Takes<Warning>>(
     taker: &mut T,
     sizes: &[u32],
     offsets: &mut [u32],
     number: u64,
-    blocks: BlockViews<'_>,
     hunk: LoadHunkView<'_>,
+    twin: BlockViews<'_>,
 )
     requires hunk { IsHunk (length sizes.now) (hunk_seen hunk) }
-    requires blocks { blocks.value ≡ hunk.blocks.value }
+    requires twin { twin.value ≡ hunk.blocks.value }
     requires room { length (relocations (hunk_seen hunk)) ≤ length offsets.old }
     requires number { number < 2 ^ 32 }
     ensures { T.takes taker.old (blocks_warnings (facts_of sizes.now number (hunk_seen hunk.entry))
         hunk.entry.blocks.place hunk.entry.blocks.value) taker.new }
 {
-    let collected = collect(offsets, blocks);
+    let collected = collect(offsets, twin);
     sort(&mut offsets[..collected.count]);
     let known = KnownHunk {
         number,

@@ -4,6 +4,7 @@
 mod collecting;
 mod file;
 mod known;
+pub mod laws;
 mod listing;
 mod neighbours;
 mod room;

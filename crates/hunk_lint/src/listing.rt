@@ -1,5 +1,5 @@
 //! The warnings of a hunk, block by block.
-ghost use Rattle.std.specs.Prelude.{◌≡◌, ◌+◌, ◌*◌, ◌<◌, ◌≤◌, ◌^◌, length};
+ghost use Rattle.std.specs.Prelude.{◌+◌, ◌*◌, ◌<◌, ◌^◌, length};
 ghost use Rattle.std.specs.List.{AllByRecursion};
 ghost use Rattle.std.specs.List.Sorted.{IsNonDecreasing};
 ghost use Rattle.hunk_words.specs.Bits.{size_longs};
@@ -18,12 +18,12 @@ use hunk_blocks::{BlockView, BodyView, Group, GroupsIter, SymbolView, SymbolsIte
 use hunk_files::{BlockViews, Takes};
 use hunk_words::BlockWord;
 
-/// Hands over the warning where it holds.
-fn tell<T: Takes<Warning>>(taker: &mut T, holds: bool, warning: Warning)
-    ensures { T.takes taker.old (told holds warning) taker.new }
+/// Hands over the warning with this kind, where it holds.
+fn tell<T: Takes<Warning>>(taker: &mut T, holds: bool, kind: WarningKind, warning: Warning)
+    ensures { T.takes taker.old (told holds (record warning { kind = kind })) taker.new }
 {
     if holds {
-        taker.take(warning);
+        taker.take(Warning { kind, ..warning });
     }
 }
 
@@ -51,14 +51,14 @@ fn list_offset<T: Takes<Warning>>(
         value,
         other: 0,
     };
-    tell(taker, offset % 2 == 1, odd);
-    tell(taker, neighbours.is_twice, Warning { kind: WarningKind::Twice, ..odd });
+    tell(taker, offset % 2 == 1, WarningKind::OddOffset, odd);
+    tell(taker, neighbours.is_twice, WarningKind::Twice, odd);
     if let Some(other) = neighbours.other {
-        taker.take(Warning { kind: WarningKind::Overlap, other, ..odd });
+        tell(taker, true, WarningKind::Overlap, Warning { other, ..odd });
     }
-    tell(taker, hunk.is_bss, Warning { kind: WarningKind::InBss, ..odd });
+    tell(taker, hunk.is_bss, WarningKind::InBss, odd);
     let leads_outside = is_outside(hunk.sizes[target as usize], value);
-    tell(taker, leads_outside, Warning { kind: WarningKind::OutsideTarget, ..odd });
+    tell(taker, leads_outside, WarningKind::OutsideTarget, odd);
 }
 
 /// Hands over the warnings of a content block that begins at this byte.
@@ -81,18 +81,24 @@ fn list_content<T: Takes<Warning>>(
         value: 0,
         other: 0,
     };
-    tell(taker, is_empty && hunk.number == 0, no_entry);
+    tell(
+        taker,
+        is_empty && hunk.number == 0,
+        WarningKind::NoEntry,
+        no_entry,
+    );
     let ignored = ignores_memory(asked, hunk.size.word >> 30);
-    tell(taker, ignored, Warning { kind: WarningKind::MemoryIgnored, value: asked, ..no_entry });
+    let value = asked;
+    tell(
+        taker,
+        ignored,
+        WarningKind::MemoryIgnored,
+        Warning { value, ..no_entry },
+    );
 }
 
 /// Hands over the warnings of a group that begins at this byte.
-fn list_group<T: Takes<Warning>>(
-    taker: &mut T,
-    hunk: &KnownHunk<'_>,
-    start: u64,
-    group: &Group<'_>,
-)
+fn list_group<T: Takes<Warning>>(taker: &mut T, hunk: &KnownHunk<'_>, start: u64, group: &Group<'_>)
     requires rising { IsNonDecreasing hunk.now.rising.now }
     requires fits { FitsGroup (length hunk.now.sizes.now) (size_longs hunk.now.size.word)
         (group_of group.now) }
@@ -108,11 +114,7 @@ fn list_group<T: Takes<Warning>>(
 }
 
 /// Hands over the warnings of the groups of a block.
-fn list_groups<T: Takes<Warning>>(
-    taker: &mut T,
-    hunk: &KnownHunk<'_>,
-    mut groups: GroupsIter<'_>,
-)
+fn list_groups<T: Takes<Warning>>(taker: &mut T, hunk: &KnownHunk<'_>, mut groups: GroupsIter<'_>)
     requires rising { IsNonDecreasing hunk.now.rising.now }
     requires fits { AllByRecursion (FitsGroup (length hunk.now.sizes.now)
         (size_longs hunk.now.size.word)) groups.value }
@@ -138,7 +140,7 @@ fn list_symbol<T: Takes<Warning>>(
     ensures { T.takes taker.old (symbol_warnings (seen hunk.now) place (symbol_of symbol.now))
         taker.new }
 {
-    let outside = Warning {
+    let warning = Warning {
         place,
         hunk: hunk.number,
         kind: WarningKind::SymbolOutside,
@@ -147,7 +149,8 @@ fn list_symbol<T: Takes<Warning>>(
         value: symbol.value,
         other: 0,
     };
-    tell(taker, is_outside(hunk.size.bytes() as u32, symbol.value), outside);
+    let leads_outside = is_outside(hunk.size.bytes() as u32, symbol.value);
+    tell(taker, leads_outside, WarningKind::SymbolOutside, warning);
 }
 
 /// Hands over the warnings of the symbols of a block.

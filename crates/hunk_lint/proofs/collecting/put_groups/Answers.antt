@@ -1,5 +1,5 @@
 use Rattle.std.proofs.Common.{[], ◌++◌, ℕ, List, length, take, ap, sym, ◌∙◌, arith, length-append}
-use Rattle.hunk_blocks.specs.{Values.RelocGroup, Views.group_of}
+use Rattle.hunk_blocks.specs.{Views.group_of}
 use Rattle.hunk_files.specs.Image.{group_relocations}
 use Rattle.hunk_files.proofs.image.OffsetLists.{group_offsets, offsets_first}
 use Rattle.hunk_lint.specs.Collecting.{groups_offsets}

@@ -1,7 +1,6 @@
-use Rattle.std.proofs.Common.{◌≡◌, ◌+◌, ◌<◌, ◌≤◌, length}
+use Rattle.std.proofs.Common.{◌≡◌, ◌+◌, length}
 use Rattle.std.specs.List.{AllByRecursion}
 use Rattle.hunk_files.specs.LoadFile.{IsHunk}
-use Rattle.hunk_files.specs.Tables.{header_text}
 use Rattle.hunk_files.proofs.findings.FindingSteps.{TakenUpTo}
 use Rattle.hunk_lint.specs.Warnings.{hunks_warnings, sizes_of, warnings}
 use Rattle.hunk_lint.proofs.RoomLaws.{AreWithin}

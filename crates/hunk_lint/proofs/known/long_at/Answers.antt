@@ -1,4 +1,4 @@
-use Rattle.std.proofs.Common.{ℕ, ◌+◌, refl, arith}
+use Rattle.std.proofs.Common.{◌+◌, refl, arith}
 use Rattle.hunk_lint.proofs.Zeros.{byte_from}
 use Rattle.hunk_lint.proofs.known.long_at.Goals as goal
 

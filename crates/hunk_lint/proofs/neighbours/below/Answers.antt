@@ -1,4 +1,4 @@
-use Rattle.std.proofs.Common.{ℕ, ltb, rules}
+use Rattle.std.proofs.Common.{ltb, rules}
 use Rattle.std.proofs.lemmas.{Bool.{ltb-true, ltb-false}, List.Sorted.{IsPartitionPoint-from_clause, IsPartitionedBy-ltb}}
 use Rattle.hunk_lint.proofs.neighbours.below.Goals as goal
 

@@ -1,4 +1,4 @@
-use Rattle.std.proofs.Common.{◌≡◌, length}
+use Rattle.std.proofs.Common.{length}
 use Rattle.hunk_lint.proofs.RoomLaws.{LookedAt}
 use Rattle.hunk_lint.proofs.room.has_room.Given as goal
 
