@@ -476,6 +476,51 @@ struct hunk_reference {
 struct hunk_answer hunk_references(const uint8_t *bytes, uint64_t bytes_len,
                                    struct hunk_reference *rows, uint64_t rows_len);
 
+/* What is suspicious in a load file that is accepted. Later versions may have more kinds, which a
+ * program passes over. */
+/* the offset of a relocation is odd */
+#define HUNK_WARNING_ODD_OFFSET UINT32_C(1)
+/* a longword is relocated more than once */
+#define HUNK_WARNING_TWICE UINT32_C(2)
+/* two relocated longwords overlap */
+#define HUNK_WARNING_OVERLAP UINT32_C(3)
+/* a longword of a BSS hunk is relocated */
+#define HUNK_WARNING_IN_BSS UINT32_C(4)
+/* a relocated longword leads outside its target */
+#define HUNK_WARNING_OUTSIDE_TARGET UINT32_C(5)
+/* the value of a symbol is outside its hunk */
+#define HUNK_WARNING_SYMBOL_OUTSIDE UINT32_C(6)
+/* the first hunk has no content */
+#define HUNK_WARNING_NO_ENTRY UINT32_C(7)
+/* a content block asks for a memory that the table does not ask for */
+#define HUNK_WARNING_MEMORY_IGNORED UINT32_C(8)
+
+/* Something suspicious in a load file: 40 bytes. */
+struct hunk_warning {
+    uint64_t place;         /* the byte of the file at which its offset or its symbol stands, or the
+                             * content block of the hunk */
+    uint64_t hunk;
+    uint32_t kind;          /* HUNK_WARNING_ODD_OFFSET to HUNK_WARNING_MEMORY_IGNORED */
+    uint32_t offset;        /* that is relocated, in bytes from the start of the hunk; else 0 */
+    uint32_t target;        /* that of the relocation; the hunk of a symbol; else 0 */
+    uint32_t value;         /* the longword at the offset, before any relocation; that of a symbol;
+                             * of MEMORY_IGNORED what the block asks for: 1 chip, 2 fast; else 0 */
+    uint32_t other;         /* of OVERLAP the least other offset that is 1 to 3 apart; else 0 */
+    uint32_t reserved;      /* 0 */
+};
+
+/* A row for each warning: those of one longword in the order of their kinds. An object file has
+ * none, and hunk_check tells what is wrong with its offsets.
+ *
+ *   room    memory for the call: an element for each hunk of the file and, of the hunk with most
+ *           relocations, one for each offset. bytes_len / 4 elements are always enough. What they
+ *           hold afterwards, at any answer, is unspecified. An object file needs none.
+ *
+ * HUNK_NO_ROOM with count 0 says that the room is too small; hunk and place are as at HUNK_OK. Else
+ * it answers as the calls above. No file has more rows than bytes, nor an offset more than four. */
+struct hunk_answer hunk_warnings(const uint8_t *bytes, uint64_t bytes_len, uint32_t *room,
+                                 uint64_t room_len, struct hunk_warning *rows, uint64_t rows_len);
+
 /* Writes the object file that the bytes are, or the load file that they begin with, to the text,
  * without its NAME, SYMBOL, DEBUG and ADVISORY blocks. The first longword says which, as at
  * hunk_check.

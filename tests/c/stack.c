@@ -19,6 +19,7 @@
 #define BLOCKS 7
 #define MANY 4096          /* hunks of a file whose load keeps all marks */
 #define TABLE_LONGS 5      /* longwords of a header before its table */
+#define OFFSETS_LONGS 11   /* longwords of a file before its many offsets */
 
 /* A load file of a code hunk with a relocation, a symbol and debug data, and of a BSS hunk. An
  * object file of such a code hunk, whose relocation has no target, and whose reference lies
@@ -37,6 +38,7 @@ static const uint32_t wide_longs[] = {
 static uint8_t file[sizeof load_longs];
 static uint8_t wide[sizeof wide_longs];
 static uint8_t object[sizeof object_longs];
+static uint8_t offsets[4 * (OFFSETS_LONGS + MANY + 2)];
 static uint8_t many[4 * (TABLE_LONGS + MANY) + MANY * sizeof hunk_longs];
 
 static uint8_t memory[12];
@@ -53,6 +55,8 @@ static struct hunk_relocation relocation;
 static struct hunk_entry entry;
 static struct hunk_reference reference;
 static struct hunk_unit unit;
+static struct hunk_warning warnings[2 * MANY + 1];
+static uint32_t elements[MANY + 1];
 static struct hunk_loader loader;
 static struct hunk_answer answer;
 
@@ -78,6 +82,20 @@ static void put_many(void)
     }
 }
 
+/* A load file of a BSS hunk that is relocated at many offsets, which neither rise nor fall. */
+static void put_offsets(void)
+{
+    const uint32_t head[OFFSETS_LONGS] = {0x3F3, 0, 1, 0, 0, MANY, 0x3EB, 0, 0x3EC, MANY, 0};
+    const uint32_t end[] = {0, 0x3F2};
+    uint8_t *at = offsets + sizeof head;
+    put_longs(offsets, head, sizeof head);
+    for (uint32_t i = 0; i < MANY; i++, at += 4) {
+        const uint32_t offset = 4 * (i * 1777 % (MANY - 1));
+        put_longs(at, &offset, sizeof offset);
+    }
+    put_longs(at, end, sizeof end);
+}
+
 static void nothing(void) { answer.number = HUNK_OK; }
 static void table(void) { answer = hunk_table(file, sizeof file, 12, rows, HUNKS); }
 static void load(void) { answer = hunk_load(file, sizeof file, bases, HUNKS, memory, 12); }
@@ -99,6 +117,11 @@ static void relocations(void) { answer = hunk_relocations(object, sizeof object,
 static void entries(void) { answer = hunk_entries(object, sizeof object, &entry, 1); }
 static void references(void) { answer = hunk_references(object, sizeof object, &reference, 1); }
 static void units(void) { answer = hunk_units(object, sizeof object, &unit, 1); }
+static void warned(void) { answer = hunk_warnings(file, sizeof file, elements, 3, warnings, 1); }
+static void warned_of_many(void)
+{
+    answer = hunk_warnings(offsets, sizeof offsets, elements, MANY + 1, warnings, 2 * MANY + 1);
+}
 static void strip(void) { answer = hunk_strip(object, sizeof object, text, sizeof text); }
 static void strip_load(void) { answer = hunk_strip(file, sizeof file, text, sizeof text); }
 static void plain(void) { answer = hunk_plain(wide, sizeof wide, text, sizeof text); }
@@ -148,6 +171,8 @@ static const struct {
     {"hunk_entries", entries, ALL},
     {"hunk_references", references, ALL},
     {"hunk_units", units, ALL},
+    {"hunk_warnings", warned, ALL},
+    {"hunk_warnings of many offsets", warned_of_many, ALL},
     {"hunk_strip", strip, ALL},
     {"hunk_strip of a load file", strip_load, ALL},
     {"hunk_plain", plain, ALL},
@@ -165,6 +190,7 @@ int main(void)
     put_longs(wide, wide_longs, sizeof wide);
     put_longs(object, object_longs, sizeof object);
     put_many();
+    put_offsets();
     size_t none = stack_of(nothing);
     for (size_t i = 0; i < sizeof calls / sizeof *calls; i++) {
         size_t needed = stack_of(calls[i].make) - none;
