@@ -14,7 +14,8 @@ static struct hunk_row *rows;
 static struct hunk_finding *findings;
 static size_t findings_len;
 static void *items;
-static size_t items_len;
+static size_t items_len, items_bytes;
+static uint32_t *room;
 static struct hunk_answer table;
 static struct hunk_place *places;
 static struct hunk_loader loader;
@@ -129,6 +130,19 @@ TABLE(relocations, HAND_RELOCATIONS, hunk_relocation)
 TABLE(entries, HAND_ENTRIES, hunk_entry)
 TABLE(references, HAND_REFERENCES, hunk_reference)
 
+/* Warnings go to `items`, too: a row for each byte of the file at most. */
+static size_t our_warnings(void)
+{
+    struct hunk_answer a = hunk_warnings(file, file_len, room, file_len / 4, items, file_len);
+    return a.count * sizeof(struct hunk_warning);
+}
+
+static size_t plain_warnings(void)
+{
+    struct hand_answer a = hand_warnings(file, file_len, room, file_len / 4, items, file_len);
+    return a.count * sizeof(struct hunk_warning);
+}
+
 static const struct call calls[] = {
     {"table", our_table, plain_table, NULL, 0},
     {"load", our_load, plain_load, careful_loaded, 0},
@@ -141,6 +155,7 @@ static const struct call calls[] = {
     {"relocations", our_relocations, plain_relocations, careful_relocations, 1},
     {"entries", our_entries, plain_entries, careful_entries, 1},
     {"references", our_references, plain_references, careful_references, 1},
+    {"warnings", our_warnings, plain_warnings, NULL, 1},
 };
 
 const struct call *call_named(const char *name)
@@ -183,7 +198,9 @@ int take_file(const char *name)
     findings_len = file_len / 2;
     findings = calloc(findings_len, sizeof *findings);
     items_len = file_len / 4;
-    items = calloc(items_len, sizeof(struct hunk_block));
+    items_bytes = file_len * sizeof(struct hunk_warning);
+    items = calloc(items_bytes, 1);
+    room = calloc(file_len / 4 + 1, sizeof *room);
     if (fread(file, 1, file_len, in) != file_len)
         return 0;
     fclose(in);
@@ -193,7 +210,7 @@ int take_file(const char *name)
 
 void drop_file(void)
 {
-    void *taken[] = {file, memory, text, rows, places, hand_places, findings, items};
+    void *taken[] = {file, memory, text, rows, places, hand_places, findings, items, room};
     for (size_t i = 0; i < sizeof taken / sizeof *taken; i++)
         free(taken[i]);
 }
@@ -208,7 +225,7 @@ void clear_memory(void)
     memset(text, 0, file_len);
     memset(rows, 0, MOST_HUNKS * sizeof *rows);
     memset(findings, 0, findings_len * sizeof *findings);
-    memset(items, 0, items_len * sizeof(struct hunk_block));
+    memset(items, 0, items_bytes);
 }
 
 static uint64_t sum(uint64_t so_far, const void *from, size_t len)
