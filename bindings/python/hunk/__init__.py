@@ -29,6 +29,7 @@ from hunk.rows import (
     Spelling,
     Symbol,
     Unit,
+    Warning,
 )
 from hunk.spellings import input_place, plain, spelling, strip
 
@@ -50,6 +51,7 @@ __all__ = [
     "Spelling",
     "Symbol",
     "Unit",
+    "Warning",
     "check",
     "input_place",
     "load",

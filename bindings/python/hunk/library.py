@@ -126,7 +126,7 @@ def array(kind: Any, count: int) -> Any:
         raise MemoryError(f"{count} of {kind.__name__}") from error
 
 
-def rows_of(call: Call, layout: struct.Struct, data: bytes, *words: int, counted: str = "count") -> Iterator[Any]:
+def rows_of(call: Call, layout: struct.Struct, data: bytes, *words: Any, counted: str = "count") -> Iterator[Any]:
     """The rows that the call writes. It is asked first how many there are, which this field of its answer says."""
     wanted = call(data, len(data), *words, None, 0)
     if wanted.number != NO_ROOM:

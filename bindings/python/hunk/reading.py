@@ -4,7 +4,7 @@ from __future__ import annotations
 
 import itertools
 import struct
-from ctypes import c_uint8
+from ctypes import c_uint8, c_uint32
 from functools import cached_property
 from typing import Optional
 
@@ -13,6 +13,7 @@ from hunk.loading import table
 from hunk.rows import (
     FAULTS,
     MEMORY,
+    WARNINGS,
     Block,
     Data,
     Entry,
@@ -25,12 +26,14 @@ from hunk.rows import (
     Spelling,
     Symbol,
     Unit,
+    Warning,
     flags_of,
     kind_of,
 )
 from hunk.spellings import by_plain, in_input, spelling
 
 _check = call("hunk_check", *BYTES, *ROOM)
+_warnings = call("hunk_warnings", *BYTES, *ROOM, *ROOM)
 _front = call("hunk_front", *BYTES, *ROOM)
 _units, _blocks, _symbols, _relocations, _entries, _references = (
     call(f"hunk_{it}", *BYTES, *ROOM) for it in ("units", "blocks", "symbols", "relocations", "entries", "references")
@@ -38,6 +41,7 @@ _units, _blocks, _symbols, _relocations, _entries, _references = (
 
 # The rows of hunk.h.
 _FINDING = struct.Struct("=3Q2I8x")
+_WARNING = struct.Struct("=2Q5I4x")
 _UNIT = struct.Struct("=4Q8x")
 _BLOCK = struct.Struct("=8Q2I8x")
 _SYMBOL = struct.Struct("=5QI4x")
@@ -134,6 +138,16 @@ class File:
     def findings(self) -> list[Finding]:
         """None of a file that is refused, as the target of a relocation may be a hunk after the fault."""
         return [] if self.refusal else check(self.data)
+
+    @cached_property
+    def warnings(self) -> list[Warning]:
+        """What is suspicious in a load file. An object file has none, and, as above, a file that is refused has none."""
+        if self.is_object or self.refusal:
+            return []
+        room = array(c_uint32, len(self.data) // 4)
+        rows = rows_of(_warnings, _WARNING, self.data, room, len(room))
+        # A library that is newer than this package may have more kinds.
+        return [Warning(place, hunk, WARNINGS[kind], *told) for place, hunk, kind, *told in rows if kind in WARNINGS]
 
 
 def _before_fault(data: Data) -> File:

@@ -10,6 +10,17 @@ Data = Union[bytes, bytearray, memoryview]
 # How the library numbers what a hunk asks for, and what is wrong with an offset.
 MEMORY = ("any", "chip", "fast", "attributes")
 FAULTS = {1: "BadTarget", 2: "OutsideHunk"}
+# How it numbers what is suspicious in a load file. `docs/warnings` writes this from docs/warnings.tsv.
+WARNINGS = {
+    1: "OddOffset",
+    2: "Twice",
+    3: "Overlap",
+    4: "InBss",
+    5: "OutsideTarget",
+    6: "SymbolOutside",
+    7: "NoEntry",
+    8: "MemoryIgnored",
+}
 
 
 class _Number(enum.IntEnum):
@@ -144,6 +155,21 @@ class Finding(NamedTuple):
     hunk: int
     offset: int
     fault: str
+
+
+class Warning(NamedTuple):
+    """Something suspicious in a load file that is accepted, by its kind: docs/FORMAT.md has what each means.
+
+    `offset` is what is relocated, and `value` the longword there before, the value of a symbol, or the memory that a block
+    asks for, by its place in MEMORY. `other` is the other offset of an Overlap. What a kind does not have is 0."""
+
+    place: int
+    hunk: int
+    kind: str
+    offset: int
+    target: int
+    value: int
+    other: int
 
 
 class Spelling(NamedTuple):
