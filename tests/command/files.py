@@ -35,6 +35,12 @@ def suite(table):
     return {name: bytes.fromhex(text) for _, name, text, *_ in (line.split("\t") for line in lines)}
 
 
+def warned():
+    """The load files of vectors/warnings.tsv, each with its warnings as the table has them."""
+    lines = (TOP / "vectors/warnings.tsv").read_text(encoding="utf-8").splitlines()[1:]
+    return {name: (bytes.fromhex(text), told) for name, text, told in (line.split("\t") for line in lines)}
+
+
 def with_symbols(data):
     """sum.hex with a symbol in front of the END of each hunk."""
     blocks = ("000003f0 00000002 7461626c 65000000 00000020 00000000", "000003f0 00000001 73756d00 00000004 00000000")

@@ -23,16 +23,18 @@ import resumes
 SEED, RUNS, SECONDS = 75, 240, 25
 # So that a run is short: what it gets, and how long it may take.
 MEMORY, LONGEST = 192 << 20, 60
-STATUSES = {"diff": {0, 1, 2}, "explain": {0, 2}}
+STATUSES = {"diff": {0, 1, 2}, "lint": {0, 1, 2}, "explain": {0, 2}}
 NUMBERS = ("0", "1", "4", "60", "1000", "00021000", "fffffff8", "ffffffff", "100000000", "4294967296", "16777216", "-1", "+1", "1_0",
            "0x10", "x", "", " ", "\N{ARABIC-INDIC DIGIT THREE}", str((1 << 64) - 1), str(1 << 64), "9" * 30, "9" * 5000)
 FLAGS = {
     "show": ("--wide", "--partial"), "size": ("--wide", "-A", "-t", "--base N"), "relocs": ("--wide",),
     "nm": ("--wide", "-A", "-g", "-n", "-u", "--base N"), "dump": ("--wide", "--base N", "--budget N"),
     "json": ("--wide", "--partial", "--lines"), "map": ("--wide", "--base N"), "diff": ("--wide", "--items"),
+    "lint": ("--wide", "--json", "--ignore K", "--ignore K"),
     "survey": ("--json", "--sha256", "--jobs N", "--resume T"), "explain": (),
 }
-REASONS = ("24", "BadOffset", "badtarget", "0", "none", "", "9" * 400)
+KINDS = ("OddOffset", "overlap", "TWICE", "BadTarget", "BadOffset", "1", "")
+REASONS = ("24", "BadOffset", "noentry", "badtarget", "0", "none", "", "9" * 400)
 LONGWORDS = (0, 1, 0x3E7, 0x3E9, 0x3EB, 0x3EC, 0x3EF, 0x3F0, 0x3F1, 0x3F2, 0x3F3, 0x3FC, 0xFFFF, 0x10001, 0x3FFFFFFF, 0x40000001,
              0x7FFFFFFF, 0x80000000, 0xC0000001, 0xFFFFFFFF)
 NAMES = (b"a b", b"-x", b"\xe4\xff", b"line\nline", b"tab\tname", b"back\\slash", b"\x1b[31m", "grün".encode(), b"'\"`$(id)")
@@ -61,7 +63,7 @@ def damaged(chance, data):
 def make_inputs(chance, folder):
     """Makes the files, and gives their names: of all kinds, and folders."""
     folder.mkdir()
-    whole = [*files.suite("load").values(), *files.suite("objects").values()]
+    whole = [*files.suite("load").values(), *files.suite("objects").values(), *(data for data, _ in files.warned().values())]
     whole += [bytes.fromhex(it) for it in (files.OBJECT, files.WIDE, files.CUT)]
     made = {f"w{i}": data for i, data in enumerate(chance.sample(whole, 12))}
     made.update({f"d{i}": damaged(chance, chance.choice(whole)) for i in range(24)})
@@ -89,7 +91,7 @@ def command_line(chance, names, number):
         flag, *value = flag.split()
         # A table is a new one, or one of the files, which are none.
         tables = (f"new-{number}", f"new-{number}", chance.choice(names), "/dev/full", "sub/pipe", "table", "json")
-        words += [flag, *(chance.choice(NUMBERS if it == "N" else tables) for it in value)]
+        words += [flag, *(chance.choice({"N": NUMBERS, "K": KINDS}.get(it, tables)) for it in value)]
     count = {"diff": 2, "explain": 1}.get(command, chance.randint(1, 4))
     words += chance.choices(REASONS if command == "explain" else names, k=count if chance.random() < 0.9 else chance.randint(0, 3))
     if chance.random() < 0.05:
@@ -156,9 +158,9 @@ def changed(home, before):
 
 
 def is_json(words, printed):
-    """Whether what `hunk json` has printed is JSON: one text, or one on each line."""
+    """Whether what `hunk json` or `hunk lint --json` has printed is JSON: one text, or one on each line."""
     try:
-        for text in printed.splitlines() if "--lines" in words else [printed] if printed else []:
+        for text in printed.splitlines() if words[0] == "lint" or "--lines" in words else [printed] if printed else []:
             json.loads(text)
     except ValueError:
         return False
@@ -175,7 +177,8 @@ def faults(words, how, got):
     if status not in wanted:
         yield f"the status {status}"
     yield from (f"{it!r}" for it in NEVER if it in printed + said)
-    if words[:1] == ["json"] and how["out"] == "read" and status in (0, 1) and not {"-h", "--help", "--version"} & {*words}:
+    makes_json = words[:1] == ["json"] or words[:1] == ["lint"] and "--json" in words
+    if makes_json and how["out"] == "read" and status in (0, 1) and not {"-h", "--help", "--version"} & {*words}:
         if not is_json(words, printed):
             yield "no JSON"
 

@@ -123,4 +123,4 @@ RUNS = [
 # Words that are refused.
 REFUSED_WORDS = ["", "none sum", "show", "show --no sum", "dump --base xyz sum", "dump --base 100000000 sum",
                  "dump --budget -1 sum", "diff sum", "survey --jobs x sum", "explain 0", "explain -1",
-                 "explain 26 32"]
+                 "explain 26 32", "lint", "lint --ignore 1 sum", "lint --ignore none sum", "lint --ignore", "lint --no sum"]

@@ -22,6 +22,7 @@ from hunk.command import (
     dump,
     explain,
     inputs,
+    lint,
     nm,
     picture,
     relocs,
@@ -31,7 +32,7 @@ from hunk.command import (
     survey,
 )
 
-SUBCOMMANDS = (show, size, nm, relocs, dump, documents, picture, differences, survey, explain)
+SUBCOMMANDS = (show, size, nm, relocs, dump, documents, picture, differences, lint, survey, explain)
 NOT_READ, CANNOT_WRITE, INTERRUPTED, NOBODY_READS = 1, 3, 130, 141
 
 DESCRIPTION = "Tells what stands in hunk files of AmigaDOS, executables and object files."
@@ -44,8 +45,8 @@ What can't be read or is refused is told on standard error, and the others go on
 
 Exit status:
   0    done
-  1    a file was refused or could not be read; of diff: the files differ
-  2    the command line was refused; of diff: a file was refused or could not be read
+  1    a file was refused or could not be read; of diff: the files differ; of lint: something was told
+  2    the command line was refused; of diff and lint: a file was refused or could not be read
   3    writing failed
   130  interrupted
   141  what reads the output has ended, as with | head"""

@@ -116,6 +116,7 @@ def of_file(name: str, file: hunk.File) -> Document:
         **({"refusal": of_refusal(file.refusal)} if file.refusal else {}),
         "spelling": {"short_blocks": file.spelling.short_blocks, "ends": file.spelling.ends},
         "units": units, "findings": [it._asdict() for it in file.findings],
+        "warnings": [it._asdict() for it in file.warnings],
     }
 
 

@@ -1,4 +1,4 @@
-"""Explains reasons and findings, by their names and numbers."""
+"""Explains reasons, by their names and numbers, and findings and warnings, by their names."""
 
 from __future__ import annotations
 
@@ -8,17 +8,21 @@ from typing import Dict, Iterator, List
 
 from hunk.command.judging import FINDINGS as OF_FINDINGS
 from hunk.command.reasons import AT_0, FINDINGS, ROWS, Reason
+from hunk.command.warning_kinds import KINDS, Kind
 
 NAME = "explain"
-HELP = "what a reason means, and what to do about it"
+HELP = "what a reason or a warning means, and what to do about it"
+# What the list has in the place of a class.
+OF_WARNINGS = "warnings"
 DESCRIPTION = """Says of each reason for which files are refused its number and its class, what it means, what the developer
-of the file does about it, and what an archive does; of a finding in an object file, what it means.
+of the file does about it, and what an archive does; of a warning of `hunk lint` what it means, what comes of
+it, and what the developer does; of a finding in an object file, what it means.
 Without a name all are listed, a line each: number, name, class, and what it means."""
 
 
 def add_arguments(parser: argparse.ArgumentParser) -> None:
     parser.add_argument("texts", metavar="REASON", nargs="*", type=text_of,
-                        help="its name, as BadOffset, in small or capital letters; or its number")
+                        help="its name, as BadOffset, in small or capital letters; or the number of a reason")
 
 
 def sentence(text: str) -> str:
@@ -30,6 +34,10 @@ def reason_text(number: str, it: Reason) -> str:
     return f"{head}\n  Developer: {it.developer}.\n  Archive: {it.archive}."
 
 
+def warning_text(name: str, it: Kind) -> str:
+    return f"{name} ({it.number}), a warning\n  {sentence(it.meaning)}\n  Effect: {it.effect}.\n  Developer: {it.developer}."
+
+
 def known() -> Dict[str, List[str]]:
     """What there is to say, by the words that ask for it. A name of a reason and of a finding asks for both."""
     found: Dict[str, List[str]] = {}
@@ -39,12 +47,14 @@ def known() -> Dict[str, List[str]]:
                 found.setdefault(word, []).append(reason_text(f"{number}{where}", it))
     for name, meaning in FINDINGS.items():
         found.setdefault(name.lower(), []).append(f"{name}, a finding\n  {sentence(meaning)}")
+    for name, kind in KINDS.items():
+        found.setdefault(name.lower(), []).append(warning_text(name, kind))
     return found
 
 
 def near(word: str) -> List[str]:
     """The names in which a word stands; where there are none, those that are spelled like it."""
-    names = {name.lower(): name for name in (*(it.name for it in ROWS.values()), *FINDINGS)}
+    names = {name.lower(): name for name in (*(it.name for it in ROWS.values()), *FINDINGS, *KINDS)}
     having = [it for it in names if word and word in it]
     return [names[it] for it in having or difflib.get_close_matches(word, names, cutoff=0.5)]
 
@@ -65,6 +75,7 @@ def lines() -> Iterator[str]:
     rows += [(str(number), it.name, it.kind, f"{it.meaning}, at byte 0") for number, it in AT_0.items()]
     rows.sort(key=lambda it: int(it[0]))
     rows += [("-", name, OF_FINDINGS, meaning) for name, meaning in FINDINGS.items()]
+    rows += [("-", name, OF_WARNINGS, kind.meaning) for name, kind in KINDS.items()]
     widths = [max(map(len, column)) for column in zip(*rows)]
     for number, name, kind, meaning in rows:
         yield f"{number:>{widths[0]}} {name:{widths[1]}} {kind:{widths[2]}} {meaning}"
