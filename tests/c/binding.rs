@@ -1,11 +1,11 @@
-//! binding LOAD OBJECTS: holds the package of bindings/rust to the conformance suite, vectors/load.tsv and vectors/objects.tsv.
-//! Prints each row with another answer, and ends with status 1 where there is one.
+//! binding LOAD OBJECTS WARNINGS: holds the package of bindings/rust to the conformance suite, vectors/load.tsv, objects.tsv and
+//! warnings.tsv. Prints each row with another answer, and ends with status 1 where there is one.
 //!
 //! binding --show FILE..: prints what stands in the files by the package, in the words of `hunkinfo show` after `== FILE` for
 //! each. It ends with status 1 where something does not stand at the place that its row has.
 
 use hunk::{Block, Entry, EntryKind, Error, Fault, File, Finding, Front, Hunk, Kind, Memory, Plain, Reference, Relocation,
-    Spelling, Symbol, BUDGET};
+    Spelling, Symbol, Warning, WarningKind, BUDGET};
 use std::process::ExitCode;
 use std::{env, fs};
 
@@ -67,6 +67,25 @@ fn wrong_rows(load: &[Row], objects: &[Row]) -> Vec<String> {
     let objects = objects.map(|row| (row, object_answer(&row.data), row.wanted.clone()));
     let all = load.chain(objects).filter(|(_, answer, wanted)| answer != wanted);
     all.map(|(row, answer, wanted)| format!("{}: {answer:?} where {wanted:?} is wanted", row.name)).collect()
+}
+
+/// A warning in the words of the table.
+fn warning_text(it: &Warning) -> String {
+    let numbers = [it.place, it.hunk, it.kind as u64, it.offset.into(), it.target.into(), it.value.into(), it.other.into()];
+    numbers.map(|number| number.to_string()).join(" ")
+}
+
+/// The rows of warnings.tsv with other warnings.
+fn wrong_warnings(path: &str) -> Vec<String> {
+    let text = fs::read_to_string(path).unwrap();
+    let rows = text.lines().filter(|line| !line.starts_with('#')).map(|line| line.split('\t').collect::<Vec<_>>());
+    let answer = |digits: &str| match hunk::read(&bytes_of(digits)) {
+        Ok(file) => file.warnings().iter().map(warning_text).collect::<Vec<_>>().join("; "),
+        Err(error) => error.to_string(),
+    };
+    let all = rows.map(|row| (row[0].to_string(), answer(row[1]), row[2].to_string()));
+    let wrong = all.filter(|(_, answer, wanted)| answer != wanted);
+    wrong.map(|(name, answer, wanted)| format!("{name}: {answer} where {wanted} is wanted")).collect()
 }
 
 /// Loads a file into RAM of an emulator, and lists its symbols, as the README shows it.
@@ -150,6 +169,10 @@ fn wrong_calls(load: &[Row], objects: &[Row]) -> Vec<String> {
     let row = Hunk { unit: 0, number: 0, size: 4, memory: Memory::Any, kind: None };
     let read = hunk::read(&one).unwrap();
     let object = bytes_of("000003e700000000400003eb00000002000003f2800003ea00000000000003f2");
+    // A hunk of two longwords, the one at offset 1 relocated.
+    let content = bytes_of("000003f30000000000000001000000000000000000000002000003e9000000020000000000000000");
+    let odd_file = [content, bytes_of("000003ec00000001000000000000000100000000000003f2")].concat();
+    let odd = hunk::read(&odd_file).unwrap();
     let (chip, fast) = (Hunk { size: 8, memory: Memory::Chip, kind: Some(Kind::BSS), ..row }, Memory::Fast);
     let checks = [
         ("strip", hunk::strip(&symbol) == Ok(one.clone())),
@@ -171,6 +194,9 @@ fn wrong_calls(load: &[Row], objects: &[Row]) -> Vec<String> {
         ("places", places == Ok(12) && apart[..] == bytes_of("aa12345678aaaaaaaaaaaaaa4ef9000100054e71aaaaaaaa")),
         ("overlap", overlap == Ok(12)),
         ("no place", text(no_place) == "refused at byte 28: NoBase (29) hunk 0"),
+        ("warnings", matches!(odd.warnings()[..], [Warning { place: 52, kind: WarningKind::OddOffset, offset: 1, .. }])),
+        ("no warnings", read.warnings().is_empty() && hunk::read(&object).unwrap().warnings().is_empty()),
+        ("warnings of a front", Front::of(&odd_file).unwrap().read().unwrap().warnings().is_empty()),
         ("findings", hunk::check(&findings) == Ok(vec![finding(32, Fault::BadTarget), finding(32, Fault::OutsideHunk)])),
     ];
     checks.iter().filter(|(_, holds)| !holds).map(|(name, _)| format!("{name}: another answer")).collect()
@@ -328,6 +354,7 @@ fn main() -> ExitCode {
     let one = &load.iter().find(|row| row.name == "one-hunk").unwrap().data;
     wrong.extend(wrong_spellings(one));
     wrong.extend(wrong_fronts(one));
+    wrong.extend(wrong_warnings(&paths[2]));
     for line in &wrong {
         println!("{line}");
     }

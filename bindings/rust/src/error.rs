@@ -70,7 +70,7 @@ fn text(call: fn(u32, &mut [u8]) -> raw::Answer, number: u32) -> String {
 
 /// The rows that `write` writes. It is asked first how many there are, which `count` takes from its answer.
 pub fn rows<R: Clone + Default>(
-    write: impl Fn(&mut [R]) -> raw::Answer,
+    mut write: impl FnMut(&mut [R]) -> raw::Answer,
     count: impl Fn(&raw::Answer) -> u64,
 ) -> Result<Vec<R>, Error> {
     let wanted = write(&mut []);

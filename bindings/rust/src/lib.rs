@@ -38,6 +38,7 @@
 //! | load a file | [`load_packed`], or [`load`] where each hunk has its own address |
 //! | load it into memory of your own | [`load_into`], [`load_at`], with sizes from [`table`] |
 //! | find what is wrong with its offsets | [`check`] |
+//! | find what is suspicious in a load file | [`File::warnings`] |
 //! | leave names, symbols and debug data out | [`strip`] |
 //! | take short relocations, or hunks without END | [`Plain`] |
 //! | see what stands before the fault of a refused file | [`Front`] |
@@ -57,6 +58,7 @@ mod plain;
 mod raw;
 mod row;
 mod show;
+mod warning;
 
 pub use error::Error;
 pub use file::{read, File};
@@ -66,6 +68,7 @@ pub use kind::{EntryKind, Kind};
 pub use load::{load, load_at, load_into, load_packed, table, Hunk, Memory, BUDGET};
 pub use plain::{spelling, Plain, Spelling};
 pub use row::{Block, Entry, Flags, Reference, Relocation, Symbol, Unit};
+pub use warning::{Warning, WarningKind};
 
 /// The number of the interface that this package is written for.
 ///

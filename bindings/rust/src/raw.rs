@@ -40,6 +40,19 @@ pub struct Finding {
 
 #[repr(C)]
 #[derive(Clone, Default)]
+pub struct Warning {
+    pub place: u64,
+    pub hunk: u64,
+    pub kind: u32,
+    pub offset: u32,
+    pub target: u32,
+    pub value: u32,
+    pub other: u32,
+    pub reserved: u32,
+}
+
+#[repr(C)]
+#[derive(Clone, Default)]
 pub struct Unit {
     pub place: u64,
     pub name: u64,
@@ -150,6 +163,14 @@ extern "C" {
     fn hunk_relocations(bytes: *const u8, bytes_len: u64, rows: *mut Relocation, rows_len: u64) -> Answer;
     fn hunk_entries(bytes: *const u8, bytes_len: u64, rows: *mut Entry, rows_len: u64) -> Answer;
     fn hunk_references(bytes: *const u8, bytes_len: u64, rows: *mut Reference, rows_len: u64) -> Answer;
+    fn hunk_warnings(
+        bytes: *const u8,
+        bytes_len: u64,
+        room: *mut u32,
+        room_len: u64,
+        rows: *mut Warning,
+        rows_len: u64,
+    ) -> Answer;
     fn hunk_strip(bytes: *const u8, bytes_len: u64, text: *mut u8, text_len: u64) -> Answer;
     fn hunk_spelling_of(bytes: *const u8, bytes_len: u64) -> Spelling;
     fn hunk_plain(bytes: *const u8, bytes_len: u64, text: *mut u8, text_len: u64) -> Answer;
@@ -193,6 +214,12 @@ pub fn abi() -> u32 {
 pub fn list<R: Listed>(data: &[u8], rows: &mut [R]) -> Answer {
     // SAFETY: the pointers come with the lengths of what they point to. The rows are structs of numbers, as `hunk.h` has them.
     unsafe { R::CALL(data.as_ptr(), length(data), rows.as_mut_ptr(), length(rows)) }
+}
+
+pub fn warnings(data: &[u8], room: &mut [u32], rows: &mut [Warning]) -> Answer {
+    let (to, len) = (room.as_mut_ptr(), length(room));
+    // SAFETY: as in `list`, and the room is the caller's own, too.
+    unsafe { hunk_warnings(data.as_ptr(), length(data), to, len, rows.as_mut_ptr(), length(rows)) }
 }
 
 pub fn table(data: &[u8], budget: u64, rows: &mut [Row]) -> Answer {
