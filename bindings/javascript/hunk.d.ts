@@ -39,6 +39,19 @@ export const FLAGS: Readonly<Record<"ADVISORY" | "CHIP" | "FAST", number>>;
 /** What is wrong with an offset of an object file. */
 export const FAULTS: Readonly<Record<"BadTarget" | "OutsideHunk", number>>;
 
+export type WarningKind =
+  | "OddOffset"
+  | "Twice"
+  | "Overlap"
+  | "InBss"
+  | "OutsideTarget"
+  | "SymbolOutside"
+  | "NoEntry"
+  | "MemoryIgnored";
+
+/** The kinds of warnings of load files. */
+export const WARNINGS: Readonly<Record<WarningKind, number>>;
+
 /** The memory that a hunk asks for, by the number in its row of the table. */
 export const MEMORIES: readonly ["any", "chip", "fast", "attributes"];
 
@@ -50,6 +63,8 @@ export function entryKindName(kind: number): string;
 export function flagNames(flags: number): string[];
 /** The name of a finding's fault, as "BadTarget". */
 export function faultName(fault: number): string;
+/** The name of a warning's kind, as "OddOffset". */
+export function warningName(kind: number): string;
 
 /** The rows of a table. A row is made when it is asked for; `[...rows]` makes all of them. Those of an Input stand in its
  * memory, and end with it: to read them then throws. */
@@ -101,6 +116,20 @@ export interface TableRow { word: number; extra: number; bytes: number; memory: 
 /** What is wrong with an offset of an object file, and the byte where that stands. `fault` is one of FAULTS: the target is no
  * hunk of the unit, or the bytes there go past the end of the hunk. */
 export interface Finding { place: number; unit: number; hunk: number; offset: number; fault: number }
+
+/** Something suspicious in a load file, and the byte where that stands: an offset, a symbol or a content block. `kind` is one of
+ * WARNINGS; a later library may have others. `offset` is what is relocated; `target` its target, or the hunk of a symbol; `value`
+ * the longword before it is relocated, that of a symbol, or the place in MEMORIES of what a block asks for; `other` the other
+ * offset of an Overlap. What a kind does not have is 0. */
+export interface Warning {
+  place: number;
+  hunk: number;
+  kind: number;
+  offset: number;
+  target: number;
+  value: number;
+  other: number;
+}
 
 export interface Unit { place: number; name: number; nameBytes: number; hunks: number }
 
@@ -209,6 +238,7 @@ export class Hunk {
   /** Of fewer bases than the table has rows it throws a RangeError. */
   begin(table: Table, bases: ArrayLike<number>): Loader;
   check(bytes: Bytes, most?: number): Listed<Finding>;
+  warnings(bytes: Bytes, most?: number): Listed<Warning>;
   units(bytes: Bytes, most?: number): Listed<Unit>;
   blocks(bytes: Bytes, most?: number): Listed<Block>;
   symbols(bytes: Bytes, most?: number): Listed<HunkSymbol>;

@@ -24,6 +24,7 @@ export const BUDGET = 1 << 24;
 
 const OK = 0;
 const NO_ROOM = 32;
+const LONGWORD = 4;
 
 /** A module that has nothing but a 64-bit memory. */
 const MEMORY64 = new Uint8Array([0, 97, 115, 109, 1, 0, 0, 0, 5, 3, 1, 4, 1]);
@@ -86,6 +87,12 @@ function putBases(lease, bases) {
   const { view } = lease.memory;
   for (let i = 0; i < bases.length; i++) view.setUint32(at + 4 * i, bases[i], true);
   return words({ at, length: bases.length });
+}
+
+/** The room that warnings of a file need at most: a longword for each of its own. */
+function roomFor(lease, file) {
+  const length = Math.floor(file.length / LONGWORD);
+  return words({ at: lease.take(LONGWORD * length), length });
 }
 
 const overlap = (one, other) => one.at < other.at + other.length && other.at < one.at + one.length;
@@ -167,10 +174,11 @@ export class Hunk {
   }
 
   /** A call that writes rows: it is asked how many there are, and then for these, unless they are more than `most`. Those of an
-   * Input stand where they were written. */
-  #rows(name, layout, bytes, most, ...rest) {
+   * Input stand where they were written. What else the call takes after the file, `more` gives, of a lease and the file. */
+  #rows(name, layout, bytes, most, more = () => []) {
     const memory = this.#memory;
-    return this.#with(bytes, (lease, file) => {
+    return this.#with(bytes, (lease, file, place) => {
+      const rest = more(lease, place);
       const asked = memory.call(name, ...file, ...rest, 0n, 0n);
       const count = name === "hunk_table" ? asked.hunk : asked.count;
       if (asked.number !== NO_ROOM) this.#answer(asked);
@@ -186,7 +194,7 @@ export class Hunk {
   /** The table of a load file: a row for each hunk. */
   table(bytes, budget = BUDGET) {
     whole("budget", budget, MOST_BYTES);
-    const { answer, rows } = this.#rows("hunk_table", LAYOUTS.row, bytes, Infinity, BigInt(budget));
+    const { answer, rows } = this.#rows("hunk_table", LAYOUTS.row, bytes, Infinity, () => [BigInt(budget)]);
     return { header: answer.place, size: answer.count, rows };
   }
 
@@ -241,15 +249,20 @@ export class Hunk {
     return new Loader(this, this.#module, table, bases);
   }
 
-  #list(name, layout, bytes, most = Infinity) {
+  #list(name, layout, bytes, most = Infinity, more) {
     if (most !== Infinity) whole("most", most, MOST_BYTES);
-    const { answer, rows } = this.#rows(name, layout, bytes, most);
+    const { answer, rows } = this.#rows(name, layout, bytes, most, more);
     return { hunks: answer.hunk, bytes: answer.place, count: answer.count, rows };
   }
 
   /** Checks a file: what is wrong with the offsets of an object file. */
   check(bytes, most) {
     return this.#list("hunk_check", LAYOUTS.finding, bytes, most);
+  }
+
+  /** What is suspicious in a load file that is accepted. An object file has no warnings. */
+  warnings(bytes, most) {
+    return this.#list("hunk_warnings", LAYOUTS.warning, bytes, most, roomFor);
   }
 
   units(bytes, most) {

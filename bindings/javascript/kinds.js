@@ -53,6 +53,18 @@ export const FLAGS = Object.freeze({ ADVISORY: 1, CHIP: 2, FAST: 4 });
 /** What is wrong with an offset of an object file. */
 export const FAULTS = Object.freeze({ BadTarget: 1, OutsideHunk: 2 });
 
+/** The kinds of warnings of load files. `docs/warnings` writes this from docs/warnings.tsv. */
+export const WARNINGS = Object.freeze({
+  OddOffset: 1,
+  Twice: 2,
+  Overlap: 3,
+  InBss: 4,
+  OutsideTarget: 5,
+  SymbolOutside: 6,
+  NoEntry: 7,
+  MemoryIgnored: 8,
+});
+
 /** The memory that a hunk asks for, by the number in its row of the table. */
 export const MEMORIES = Object.freeze(["any", "chip", "fast", "attributes"]);
 
@@ -60,6 +72,7 @@ const byNumber = (names) => new Map(Object.entries(names).map(([name, number]) =
 const KIND_NAMES = byNumber(KINDS);
 const ENTRY_NAMES = byNumber(ENTRY_KINDS);
 const FAULT_NAMES = byNumber(FAULTS);
+const WARNING_NAMES = byNumber(WARNINGS);
 
 /** The most that a block's type is, which has 29 bits, an entry's of 8 bits, and its flags, of 3. */
 const MOST_KIND = 2 ** 29 - 1;
@@ -80,3 +93,6 @@ export function flagNames(flags) {
 
 /** The name of a finding's fault, as "BadTarget". */
 export const faultName = (fault) => FAULT_NAMES.get(whole("fault", fault, MOST_LONG)) ?? `fault ${fault}`;
+
+/** The name of a warning's kind, as "OddOffset". */
+export const warningName = (kind) => WARNING_NAMES.get(whole("kind", kind, MOST_LONG)) ?? `kind ${kind}`;

@@ -94,6 +94,21 @@ TABLE(entries, hunk_entry,
       say_name(r.name, r.name_bytes))
 TABLE(references, hunk_reference, say_row(4, r.entry, r.place, N(r.offset), N(r.width)))
 
+/* With room for all that a file may have. */
+static void warnings_of_file(void)
+{
+    uint32_t *elements = room(len / 4 * sizeof *elements);
+    struct hunk_warning *found = room(len * sizeof *found);
+    struct hunk_answer a = hunk_warnings(bytes, len, elements, len / 4, found, len);
+    say("warnings", a);
+    for (uint64_t i = 0; a.number == HUNK_OK && i < a.count; i++) {
+        struct hunk_warning r = found[i];
+        say_row(7, r.place, r.hunk, N(r.kind), N(r.offset), N(r.target), N(r.value), N(r.other));
+    }
+    free(elements);
+    free(found);
+}
+
 /* ---- Load files. */
 
 static struct hunk_answer read_table(void)
@@ -219,6 +234,7 @@ int main(void)
         relocations_of_file();
         entries_of_file();
         references_of_file();
+        warnings_of_file();
         strip_file();
         plain_file();
         front_of_file();

@@ -34,7 +34,7 @@ $symbol 56 4 END" node "$@" blocks.js "$symbol"
   prints "tests/targets/package/inputs.js in node $*" 'as promised' node "$@" inputs.js "$symbol"
   prints "tests/targets/package/wrong.js in node $*" 'as promised' node "$@" wrong.js "$symbol"
   prints "tests/targets/package/fuzz.js in node $*" 'as promised' \
-    node "$@" fuzz.js "$suite/load.tsv" "$suite/objects.tsv" "$suite/wide.tsv"
+    node "$@" fuzz.js "$suite/load.tsv" "$suite/objects.tsv" "$suite/wide.tsv" "$suite/warnings.tsv"
 }
 # types: that a program compiles, with no types of a browser or of node, by both ways in which packages are found
 types() {

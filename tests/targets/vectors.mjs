@@ -1,7 +1,8 @@
 // Holds a module to the rows of the conformance suite, and to what vectors/every prints:
-// node vectors.mjs MODULE.wasm LOAD.tsv OBJECTS.tsv EVERY. Prints what differs, and then how many answers were compared.
+// node vectors.mjs MODULE.wasm LOAD.tsv OBJECTS.tsv EVERY WARNINGS.tsv. Prints what differs, and then how many answers were
+// compared.
 import { readFileSync } from "node:fs";
-import { Hunk, HunkError } from "../../bindings/javascript/hunk.js";
+import { Hunk, HunkError, WARNINGS } from "../../bindings/javascript/hunk.js";
 
 const BUDGET = 1 << 20;
 const BUDGET_NUMBER = 27;
@@ -64,10 +65,14 @@ function hold(what, wanted, said) {
   console.log(`${what}: ${said}, and not ${wanted}`);
 }
 
-for (const table of tables) {
+/** The cells of each row of a table. */
+function rowsOf(table) {
   const lines = readFileSync(table, "utf8").split("\n");
-  for (const line of lines.filter((it) => it && !it.startsWith("#"))) {
-    const cells = line.split("\t");
+  return lines.filter((it) => it && !it.startsWith("#")).map((line) => line.split("\t"));
+}
+
+for (const table of tables.slice(0, -1)) {
+  for (const cells of rowsOf(table)) {
     const [hex, ...answer] = cells.slice(-4);
     const what = cells.slice(0, -4).join(" ");
     const wanted = answer.join(" ");
@@ -79,6 +84,13 @@ for (const table of tables) {
     }
     if (!isOf && !declaresTooMuch(hunk, bytes)) hold(`${what}, loaded`, wanted, told(() => loaded(hunk, bytes)));
   }
+}
+// Each warning has to have a kind that the package knows.
+const known = Object.values(WARNINGS);
+const warned = (row) => (known.includes(row.kind) ? Object.values(row).join(" ") : "a kind that has no name");
+for (const [name, digits, wanted] of rowsOf(tables.at(-1))) {
+  const bytes = unhex(digits);
+  hold(`${name}, its warnings`, wanted, told(() => [...hunk.warnings(bytes).rows].map(warned).join("; ")));
 }
 // A short block, and no END; then with a target that is no hunk, which is refused at its 16-bit word.
 const wide = unhex("000003f30000000000000001000000000000000000000002000003e900000002" + "0000000000000000000003fc0001000000000000");

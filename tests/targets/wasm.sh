@@ -14,7 +14,8 @@ module() {
     (cd "$work/files" && node "$@" "$here/dump.mjs" "$top/ports/out/wasm/$name" $way < "$work/names") > "$work/module"
     same "$name, $way" "$work/native" "$work/module"
   done
-  node "$@" "$here/vectors.mjs" "ports/out/wasm/$name" vectors/load.tsv vectors/objects.tsv "$work/every" > "$work/told" ||
+  node "$@" "$here/vectors.mjs" "ports/out/wasm/$name" vectors/load.tsv vectors/objects.tsv "$work/every" \
+    vectors/warnings.tsv > "$work/told" ||
     lack "$name and the suite differ: $(head -n 1 "$work/told")"
   compared=$((compared + $(tail -n 1 "$work/told" | cut -d ' ' -f 1)))
   pass

@@ -1,6 +1,6 @@
 // A caller that compiles by the types of the package alone, with none of a browser or of node.
 import { type Block, entryKindName, HunkError, Hunk, type Input, KINDS, kindName, MEMORIES, nameOf, open } from "hunk-files";
-import { type Rows } from "hunk-files";
+import { type Rows, type Warning, type WarningKind, warningName, WARNINGS } from "hunk-files";
 import { open as openInline } from "hunk-files/inline";
 import { Hunk as Plain, type Source, takesMemory64 } from "hunk-files/hunk.js";
 
@@ -13,6 +13,9 @@ async function lists(hunk: Hunk, bytes: Uint8Array): Promise<string[]> {
   const place: number = rows.get(0, "place");
   const { text, bytes: end }: { text: Uint8Array; bytes: number } = hunk.front(input);
   names.push(...Array.from(hunk.blocks(text).rows, (it) => String(it.place < end)));
+  const warned: Warning[] = [...hunk.warnings(bytes).rows];
+  const odd: WarningKind = "OddOffset";
+  names.push(...warned.map((it) => `${warningName(it.kind)} ${it.kind === WARNINGS[odd]} ${it.other}`));
   // @ts-expect-error: a row has no such field
   rows.get(place, "nothing");
   // @ts-expect-error: a file is no text

@@ -2,10 +2,10 @@
 // to throw a TypeError, or of a number out of range a RangeError, that names the argument, and nothing may stay taken. It prints
 // what is not so, and ends with status 1; else `as promised`.
 import { readFile } from "node:fs/promises";
-import { entryKindName, faultName, flagNames, Hunk, kindName, Loader, nameOf, Rows } from "hunk-files";
+import { entryKindName, faultName, flagNames, Hunk, kindName, Loader, nameOf, Rows, warningName } from "hunk-files";
 import { finish, free, hold, isFreeFrom, modules, thrown } from "./held.js";
 
-const TABLES = ["check", "units", "blocks", "symbols", "relocations", "entries", "references"];
+const TABLES = ["check", "units", "blocks", "symbols", "relocations", "entries", "references", "warnings"];
 /** The calls that take no argument, and what only other scripts of the package call. */
 const REST = ["constructor", "abi", "error", "buffer", "want", "end", "memory", "isOf", "copy", "length"];
 /** Of other kinds than a number, even where `Number` would make one of them. */
@@ -151,6 +151,7 @@ function holdFunctions(hunk, file) {
   holdCall("entryKindName", entryKindName, [[1], needed("kind", [...LONGS, 256])]);
   holdCall("flagNames", flagNames, [[1], needed("flags", [...LONGS, 8])]);
   holdCall("faultName", faultName, [[1], needed("fault", LONGS)]);
+  holdCall("warningName", warningName, [[1], needed("kind", LONGS)]);
 }
 
 /** What is no module. */
