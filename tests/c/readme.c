@@ -7,6 +7,9 @@ void refuse(struct hunk_answer a);
 size_t next_piece(uint8_t *piece);
 void load_program(const uint8_t *file, size_t len, uint8_t *ram, size_t size, uint32_t base);
 void show_block(const struct hunk_block *block);
+void show_warning(const struct hunk_warning *warning);
+void warn(const uint8_t *file, size_t len, uint32_t *room, struct hunk_warning *rows,
+          size_t rows_len);
 void strip_file(const uint8_t *file, size_t len, uint8_t *text, FILE *out);
 void show_front(const uint8_t *input, size_t len, uint8_t *text, struct hunk_block *rows, size_t rows_len);
 struct hunk_answer load_spelled(const uint8_t *input, size_t len, uint8_t *text, uint32_t base, uint8_t *memory, size_t size);
@@ -26,6 +29,14 @@ void strip_file(const uint8_t *file, size_t len, uint8_t *text, FILE *out)
     struct hunk_answer a = hunk_strip(file, len, text, len);
     if (a.number == HUNK_OK)
         fwrite(text, 1, a.count, out);
+}
+
+void warn(const uint8_t *file, size_t len, uint32_t *room, struct hunk_warning *rows,
+          size_t rows_len)
+{
+    struct hunk_answer w = hunk_warnings(file, len, room, len / 4, rows, rows_len);
+    for (uint64_t i = 0; w.number == HUNK_OK && i < w.count; i++)
+        show_warning(&rows[i]);
 }
 
 struct hunk_answer load_spelled(const uint8_t *input, size_t len, uint8_t *text, uint32_t base, uint8_t *memory, size_t size)
