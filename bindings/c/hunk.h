@@ -1,6 +1,6 @@
 /* Hunk files of AmigaDOS. The calls read the tables of load files, and load these, whole or piece
  * by piece. They check and strip load files and object files, and list what stands in them, also
- * before a fault. They name the reasons of refusals.
+ * before a fault. They name the reasons of refusals, and warn of what is suspicious in load files.
  *
  * Whatever the bytes are, each call gives one of the answers listed with it. docs/PROVED.md of the
  * source tree says what of this is proved. A call reads and writes only what its arguments point

@@ -6,7 +6,7 @@ import itertools
 import struct
 from ctypes import c_uint8, c_uint32
 from functools import cached_property
-from typing import Optional
+from typing import Iterator, Optional
 
 from hunk.library import BYTES, NO_ROOM, ROOM, HunkError, accepted, array, bytes_of, call, rows_of
 from hunk.loading import table
@@ -142,12 +142,17 @@ class File:
     @cached_property
     def warnings(self) -> list[Warning]:
         """What is suspicious in a load file. An object file has none, and, as above, a file that is refused has none."""
+        return [*self._each_warning()]
+
+    def _each_warning(self) -> Iterator[Warning]:
+        """One after the other: there may be four for each longword of the file."""
         if self.is_object or self.refusal:
-            return []
+            return
         room = array(c_uint32, len(self.data) // 4)
-        rows = rows_of(_warnings, _WARNING, self.data, room, len(room))
-        # A library that is newer than this package may have more kinds.
-        return [Warning(place, hunk, WARNINGS[kind], *told) for place, hunk, kind, *told in rows if kind in WARNINGS]
+        for place, hunk, kind, *told in rows_of(_warnings, _WARNING, self.data, room, len(room)):
+            # A library that is newer than this package may have more kinds.
+            if kind in WARNINGS:
+                yield Warning(place, hunk, WARNINGS[kind], *told)
 
 
 def _before_fault(data: Data) -> File:

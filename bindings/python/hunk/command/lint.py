@@ -70,7 +70,9 @@ class Names:
 
 def text_of(it: hunk.Warning, file: hunk.File, names: Names) -> str:
     """What is suspicious, in words."""
-    told: Dict[str, Any] = {**it._asdict(), "size": words.counted(file.hunks[it.target].size, "byte")}
+    told: Dict[str, Any] = it._asdict()
+    if it.kind in ("OutsideTarget", "SymbolOutside"):
+        told["size"] = words.counted(file.hunks[it.target].size, "byte")
     if it.kind == "OutsideTarget":
         told["there"] = words.place_text(str(it.target), it.value)
     elif it.kind == "SymbolOutside":
@@ -83,7 +85,7 @@ def text_of(it: hunk.Warning, file: hunk.File, names: Names) -> str:
 def rows_of(file: hunk.File) -> Iterator[Dict[str, Any]]:
     """What is told of a file, in its order. A load file has no findings, and an object file no warnings."""
     names = Names(file)
-    for it in file.warnings:
+    for it in file._each_warning():
         yield {"place": it.place, "unit": 0, **it._asdict(), "text": text_of(it, file, names)}
     for finding in file.findings:
         made = finding._asdict()
@@ -101,13 +103,9 @@ def run(options: argparse.Namespace) -> int:
 
     def tell(name: str, file: hunk.File) -> None:
         nonlocal status
-        lines = [
-            json.dumps({"name": name, **row}) if options.json else f"{name}: {line_of(row, file)}"
-            for row in rows_of(file)
-            if row["kind"] not in options.ignore
-        ]
-        for line in lines:
-            print(line)
-        status = TOLD if lines else status
+        for row in rows_of(file):
+            if row["kind"] not in options.ignore:
+                status = TOLD
+                print(json.dumps({"name": name, **row}) if options.json else f"{name}: {line_of(row, file)}")
 
     return REFUSED if inputs.each(options, tell) else status
