@@ -1,5 +1,5 @@
-"""binding.py LOAD OBJECTS WARNINGS: holds the package of bindings/python to these tables of the conformance suite. Prints each row
-with another answer, and ends with status 1 where there is one.
+"""binding.py VECTORS..: holds the package of bindings/python to the conformance suite, vectors/load.tsv and vectors/objects.tsv.
+Prints each row with another answer, and ends with status 1 where there is one.
 
 binding.py --show FILE..: prints what `hunk show` prints of the files, in the words of `hunkinfo show`, after `== FILE` for each.
 It ends with status 1 where something does not stand at the place that its row has, also before the fault of a file that is
@@ -10,14 +10,12 @@ import io
 import itertools
 import pathlib
 import sys
-from unittest import mock
 
 sys.path.insert(0, str(pathlib.Path(__file__).resolve().parents[2] / "bindings/python"))
 import hunk
 import hunk.library
 import hunk.stream
 from hunk.command import show
-from hunk.rows import WARNINGS
 
 # What docs/FORMAT.md says of the bytes at an offset, where they are not 4.
 WIDTHS = {
@@ -29,12 +27,6 @@ OBJECT = bytes.fromhex("000003e700000000" "400003eb00000002000003f2" "800003ea00
 # A load file with a short block, whose offset is 0, and without END; and one whose target is no hunk.
 WIDE = bytes.fromhex("000003f3" "00000000" "00000001" "00000000" "00000000" "00000002" "000003e9" "00000002" "0000000000000000" "000003fc" "0001000000000000")
 BAD_WIDE = WIDE[:44] + bytes.fromhex("0001000500000000")
-ODD_WIDE = WIDE[:44] + bytes.fromhex("0001000000010000")
-# A hunk of a longword, whose relocation leads a byte too far; and what is told of it.
-WARNED = bytes.fromhex(
-    "000003f3 00000000 00000001 00000000 00000000 00000001 000003e9 00000001 00000005"
-    "000003ec 00000001 00000000 00000000 00000000 000003f2")
-WARNING = hunk.Warning(48, 0, "OutsideTarget", 0, 0, 5, 0)
 # Two hunks of 8 bytes: CODE with a symbol, and then END; and DATA before its relocation of hunk 2.
 BROKEN = bytes.fromhex(
     "000003f3 00000000 00000002 00000000 00000001 00000002 40000002"
@@ -99,16 +91,6 @@ def wrong_rows(path):
         for answer in answers:
             if answer != wanted:
                 yield f"{name}: {answer} where {wanted} is wanted"
-
-
-def wrong_warnings(path):
-    """The rows of warnings.tsv with other warnings."""
-    numbers = {name: number for number, name in WARNINGS.items()}
-    for line in pathlib.Path(path).read_text(encoding="utf-8").splitlines()[1:]:
-        name, text, wanted = line.split("\t")
-        told = (it._replace(kind=numbers[it.kind]) for it in hunk.read(bytes.fromhex(text)).warnings)
-        if (got := "; ".join(" ".join(map(str, it)) for it in told)) != wanted:
-            yield f"{name}: {got} where {wanted} is wanted"
 
 
 # ---- What stands in files.
@@ -249,7 +231,6 @@ def partial_calls(one, two):
         "partial hunks": (lambda: read(BROKEN).hunks, [code, data]),
         "partial symbols": (lambda: [it.name for it in read(BROKEN).symbols], [b"_m"]),
         "partial lists": (lambda: (read(BROKEN).relocations, read(BROKEN).entries, read(BROKEN).findings), ([], [], [])),
-        "partial warnings": (lambda: (hunk.read(WARNED).warnings, read(WARNED[:-4]).warnings), ([WARNING], [])),
         "partial content": (lambda: read(BROKEN).content(read(BROKEN).blocks[3]).hex(), "00000007"),
         "partial data": (lambda: (read(BROKEN).data, read(BROKEN).spelling), (BROKEN, hunk.Spelling(len(BROKEN), 0, 0))),
         "no content": (lambda: read(BROKEN[:75]).hunks, [code, data._replace(kind=None)]),
@@ -286,13 +267,6 @@ def partial_object_calls():
     }
 
 
-def unknown_kinds():
-    """The warnings of a file where the package does not know their kind."""
-    with mock.patch.dict(WARNINGS):
-        del WARNINGS[5]
-        return hunk.read(WARNED).warnings
-
-
 def wrong_calls(texts):
     """What other calls, and the texts of errors, are not as they must be."""
     one, two, symbol = (bytes.fromhex(texts[it]) for it in ("one-hunk", "two-hunks", "symbol"))
@@ -323,10 +297,6 @@ def wrong_calls(texts):
         "wide of a plain file": (lambda: hunk.read(one, wide=True).spelling, hunk.read(one).spelling),
         "wide load": (lambda: hunk.load(WIDE, 0x21000, wide=True), [bytes.fromhex("0002100000000000")]),
         "input place": (lambda: hunk.input_place(WIDE, 60), len(WIDE)),
-        "warnings": (lambda: (hunk.read(WARNED).warnings, hunk.read(WARNED + one).warnings), ([WARNING], [WARNING])),
-        "no warnings": (lambda: (hunk.read(one).warnings, hunk.read(OBJECT).warnings), ([], [])),
-        "wide warnings": (lambda: hunk.read(ODD_WIDE, wide=True).warnings, [hunk.Warning(52, 0, "OddOffset", 1, 0, 0, 0)]),
-        "unknown kinds": (unknown_kinds, []),
         **partial_calls(one, two),
     }
     for name, (call, wanted) in calls.items():
@@ -365,9 +335,8 @@ def wrong_calls(texts):
 def main(words):
     if words[0] == "--show":
         return show_files(words[1:])
-    load, objects, warned = words
-    texts = {row[1]: row[2] for row in rows_of(load)}
-    wrong = [*wrong_rows(load), *wrong_rows(objects), *wrong_warnings(warned), *wrong_calls(texts)]
+    texts = {row[1]: row[2] for row in rows_of(words[0])}
+    wrong = [it for path in words for it in wrong_rows(path)] + list(wrong_calls(texts))
     print(*wrong, sep="\n", end="\n" if wrong else "")
     return 1 if wrong else 0
 

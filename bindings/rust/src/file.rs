@@ -2,8 +2,7 @@
 
 use crate::error::{accepted, listed, Error};
 use crate::row::Bytes;
-use crate::warning::warnings;
-use crate::{check, raw, table, Block, Entry, Finding, Hunk, Reference, Relocation, Symbol, Unit, Warning};
+use crate::{check, raw, table, Block, Entry, Finding, Hunk, Reference, Relocation, Symbol, Unit};
 
 /// What stands in the object file that the bytes are, or in the load file that they begin with.
 ///
@@ -272,26 +271,6 @@ impl<'a> File<'a> {
     #[must_use]
     pub fn findings(&self) -> &[Finding] {
         &self.findings
-    }
-
-    /// What is suspicious in a load file, which is looked for at each call. An object file has no warnings, nor has a [`Front`].
-    ///
-    /// ```
-    /// use hunk::WarningKind;
-    ///
-    /// # let longs = [0x3F3_u32, 0, 1, 0, 0, 2, 0x3E9, 2, 0x4EF9_0000, 0, 0x3EC, 1, 0, 3, 0, 0x3F2];
-    /// # let data: Vec<u8> = longs.iter().flat_map(|it| it.to_be_bytes()).collect();
-    /// // The longword at offset 3 of hunk 0 is relocated.
-    /// let warnings = hunk::read(&data)?.warnings();
-    /// assert_eq!((warnings[0].place, warnings[0].kind, warnings[0].offset), (52, WarningKind::OddOffset, 3));
-    /// # Ok::<(), hunk::Error>(())
-    /// ```
-    ///
-    /// [`Front`]: crate::Front
-    #[must_use]
-    pub fn warnings(&self) -> Vec<Warning> {
-        // The bytes of a front end before the file that they begin does: the library refuses them.
-        warnings(self.bytes.0).unwrap_or_default()
     }
 }
 

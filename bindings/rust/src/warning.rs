@@ -1,7 +1,7 @@
 //! What is suspicious in load files that are accepted.
 
 use crate::error::rows;
-use crate::{raw, Error};
+use crate::{raw, Error, File};
 
 /// A kind of warning: what each means, and what to do about it, is on the page `FORMAT.md` of the project.
 ///
@@ -85,8 +85,30 @@ impl Warning {
     }
 }
 
+impl File<'_> {
+    /// What is suspicious in a load file, which is looked for at each call. An object file has no warnings, nor has a [`Front`].
+    ///
+    /// ```
+    /// use hunk::WarningKind;
+    ///
+    /// # let longs = [0x3F3_u32, 0, 1, 0, 0, 2, 0x3E9, 2, 0x4EF9_0000, 0, 0x3EC, 1, 0, 3, 0, 0x3F2];
+    /// # let data: Vec<u8> = longs.iter().flat_map(|it| it.to_be_bytes()).collect();
+    /// // The longword at offset 3 of hunk 0 is relocated.
+    /// let warnings = hunk::read(&data)?.warnings();
+    /// assert_eq!((warnings[0].place, warnings[0].kind, warnings[0].offset), (52, WarningKind::OddOffset, 3));
+    /// # Ok::<(), hunk::Error>(())
+    /// ```
+    ///
+    /// [`Front`]: crate::Front
+    #[must_use]
+    pub fn warnings(&self) -> Vec<Warning> {
+        // The bytes of a front end before the file that they begin does: the library refuses them.
+        listed(self.bytes()).unwrap_or_default()
+    }
+}
+
 /// The warnings of the load file that the bytes begin with. The library needs room: a longword for each of the file.
-pub fn warnings(data: &[u8]) -> Result<Vec<Warning>, Error> {
+fn listed(data: &[u8]) -> Result<Vec<Warning>, Error> {
     let mut room = vec![0; data.len() / 4];
     let found = rows(|rows| raw::warnings(data, &mut room, rows), |answer| answer.count)?;
     Ok(found.iter().filter_map(Warning::of).collect())
