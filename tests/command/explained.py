@@ -33,8 +33,9 @@ def explanations():
     for name, text in re.findall(r"\.B (\w+)\n([A-Z].*)\n", manual):
         told[name] = told.get(name, "") + f"{name}, a finding\n  {text}\n"
         listed.append(f" - {name:17} {'findings':13} {text[0].lower()}{text[1:-1]}\n")
-    for number, name, meaning, effect, developer in rows_of("warnings.tsv"):
-        told[name] = f"{name} ({number}), a warning\n  {sentence(meaning)}\n  Effect: {effect}.\n  Developer: {developer}.\n"
+    for number, name, meaning, place, effect, developer in rows_of("warnings.tsv"):
+        told[name] = f"{name} ({number}), a warning\n  {sentence(meaning)}\n  Place: {place}.\n"
+        told[name] += f"  Effect: {effect}.\n  Developer: {developer}.\n"
         listed.append(f" - {name:17} {'warnings':13} {meaning}\n")
     return told, by_number, listed
 

@@ -24,6 +24,7 @@ os.fork = few
 import hunk.command
 sys.exit(hunk.command.main())"""
 RELOCATIONS, STEPS, STEP = 20_000, 7, 4 << 20
+LARGE_RELOCATIONS = 1_000_000
 NO_MEMORY = "OutOfMemory: memory was refused (not judged)\n"
 
 
@@ -68,11 +69,17 @@ def limited(words, home, most):
     return ran.stdout.decode(), ran.stderr.decode(), ran.returncode
 
 
+def peak():
+    """The bytes of addresses that the command takes to begin."""
+    ran = subprocess.run([sys.executable, "-c", files.PEAK], env=files.ENVIRONMENT, capture_output=True, check=True)
+    return int(ran.stdout)
+
+
 def little_memory(home):
     """With a little memory, and then more and more: a file for which it is too little is told in a line, and the others are done."""
     for name, relocations, last in (("m1", RELOCATIONS, 0), ("m2", RELOCATIONS, 4)):
         (home / name).write_bytes(load_file(relocations, last))
-    begins = int(subprocess.run([sys.executable, "-c", files.PEAK], env=files.ENVIRONMENT, capture_output=True, check=True).stdout)
+    begins = peak()
     documents = {it: json.loads(hunk("json", it, folder=home)[0]) for it in ("m1", "sum")}
     seen = {"json": set(), "diff": set()}
     for step in range(1, STEPS + 1):
@@ -94,6 +101,19 @@ def little_memory(home):
     same("what is refused in little memory", seen, {"json": {0, 1}, "diff": {1, 2}})
 
 
+def lint_in_little_memory(home):
+    """The same of `hunk lint`, which takes a longword of room for each of the file."""
+    (home / "m3").write_bytes(load_file(LARGE_RELOCATIONS, 0))
+    begins, seen = peak(), set()
+    wanted = hunk("lint", "m3", "sum", folder=home)
+    same("lint m3", (wanted[0].count("\n"), wanted[1:]), (3, ("", 1)))
+    for step in range(1, 2 * STEPS, 3):
+        got = limited(["lint", "m3", "sum"], home, begins + step * STEP)
+        seen.add(got[2])
+        same(f"lint with {step * STEP} bytes", got, wanted if got[2] == 1 else ("", f"hunk: m3: {NO_MEMORY}", 2))
+    same("what lint refuses in little memory", seen, {1, 2})
+
+
 def json_of(text):
     try:
         return json.loads(text)
@@ -107,3 +127,4 @@ def tried(home):
     if hasattr(os, "fork"):
         few_processes(home)
     little_memory(home)
+    lint_in_little_memory(home)

@@ -15,8 +15,8 @@ HELP = "what a reason or a warning means, and what to do about it"
 # What the list has in the place of a class.
 OF_WARNINGS = "warnings"
 DESCRIPTION = """Says of each reason for which files are refused its number and its class, what it means, what the developer
-of the file does about it, and what an archive does; of a warning of `hunk lint` what it means, what comes of
-it, and what the developer does; of a finding in an object file, what it means.
+of the file does about it, and what an archive does; of a warning of `hunk lint` what it means, what stands at
+its byte, what comes of it, and what the developer does; of a finding in an object file, what it means.
 Without a name all are listed, a line each: number, name, class, and what it means."""
 
 
@@ -35,7 +35,8 @@ def reason_text(number: str, it: Reason) -> str:
 
 
 def warning_text(name: str, it: Kind) -> str:
-    return f"{name} ({it.number}), a warning\n  {sentence(it.meaning)}\n  Effect: {it.effect}.\n  Developer: {it.developer}."
+    head = f"{name} ({it.number}), a warning\n  {sentence(it.meaning)}\n  Place: {it.place}."
+    return f"{head}\n  Effect: {it.effect}.\n  Developer: {it.developer}."
 
 
 def known() -> Dict[str, List[str]]:
