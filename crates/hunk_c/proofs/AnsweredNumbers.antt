@@ -32,7 +32,9 @@ use Rattle.hunk_c.specs.Tables as tables
 use Rattle.hunk_c.specs.Tables.{Tables}
 use Rattle.hunk_c.specs.declared.answer.Answer.{Answer}
 use Rattle.hunk_c.specs.declared.loader.Loader.{Loader}
+use Rattle.hunk_c.specs.Warnings.{Warns, LacksWorkRoom, ListsWarnings, warning_rows}
 use Rattle.hunk_c.specs.declared.table.TableRow.{TableRow}
+use Rattle.hunk_c.specs.declared.warnings.WarningRow.{WarningRow}
 
 abbrev Told : Answer → Type 0
 Told a = IsTrue (is_answered a.number)
@@ -128,6 +130,10 @@ pub list_told : {A : Type 0} (rows : HunkFile → List A) (count : ℕ → ℕ) 
 list_told rows count bytes old new a (lists.HasRows file is fits n e) = told_by a _ e refl
 list_told rows count bytes old new a (lists.HasNoRoom file is less n e) = told_by a _ e refl
 list_told rows count bytes old new a (lists.HasNoFile f h n e) = told_by a _ e (of_refusal _ bytes f h.0)
+
+pub warnings_told : (bytes : List ℕ) (room : ℕ) (old new : List WarningRow) (a : Answer) → Warns bytes room old new a → Told a
+warnings_told bytes room old new a (LacksWorkRoom file is less n e) = told_by a _ e refl
+warnings_told bytes room old new a (ListsWarnings l) = list_told warning_rows (λ n. n) bytes old new a l
 
 pub plain_told : (bytes old new : List ℕ) (a : Answer) → Plains bytes old new a → Told a
 plain_told bytes old new a (plains.IsWritten fits n e) = told_by a _ e refl

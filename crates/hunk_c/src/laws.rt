@@ -18,10 +18,12 @@ ghost use Rattle.hunk_c.specs.Rows.{Tabulates};
 ghost use Rattle.hunk_c.specs.Streams.{Begins, Ends, Feeds, RefusesPiece, StaysRefused, Wants};
 ghost use Rattle.hunk_c.specs.Strips.{Strips};
 ghost use Rattle.hunk_c.specs.Tables.{Tables};
+ghost use Rattle.hunk_c.specs.Warnings.{Warns};
 ghost use Rattle.hunk_c.specs.declared.answer.Answer.{Answer};
 ghost use Rattle.hunk_c.specs.declared.check.FindingRow.{FindingRow};
 ghost use Rattle.hunk_c.specs.declared.loader.Loader.{Loader};
 ghost use Rattle.hunk_c.specs.declared.table.TableRow.{TableRow};
+ghost use Rattle.hunk_c.specs.declared.warnings.WarningRow.{WarningRow};
 
 /// No call answers the number of Advisory, FileLimit, Read or OutOfMemory.
 pub fn answered_numbers()
@@ -39,6 +41,8 @@ pub fn answered_numbers()
     ensures want { (l : Loader) → AreAnswered (Wants l) }
     ensures check { (bytes : List ℕ) (old new : List FindingRow)
         → AreAnswered (Checks bytes old new) }
+    ensures warnings { (bytes : List ℕ) (room : ℕ) (old new : List WarningRow)
+        → AreAnswered (Warns bytes room old new) }
     ensures strip { (bytes old new : List ℕ) → AreAnswered (Strips bytes old new) }
     ensures plain { (bytes old new : List ℕ) → AreAnswered (Plains bytes old new) }
     ensures front { (bytes old new : List ℕ) → AreAnswered (Fronts bytes old new) }

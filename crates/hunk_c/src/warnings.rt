@@ -74,12 +74,7 @@ fn write_warnings(
 
 /// No fewer than a load file of so many bytes has: as many as it has bytes, where the caller has
 /// rows for these, and else just as many. So they are counted only where that may tell something.
-fn most_warnings(
-    file: &LoadView<'_>,
-    size: u64,
-    most: u64,
-    room: &mut [u32],
-) -> Result<u64, NoRoom>
+fn most_warnings(file: &LoadView<'_>, size: u64, most: u64, room: &mut [u32]) -> Result<u64, NoRoom>
     requires few { length (warnings file.now) ≤ size }
     ensures all { IfOk result (λ n. length (warnings file.now) ≤ n) }
     ensures exact { IfOk result (λ n. most < n → n ≡ length (warnings file.now)) }
