@@ -7,7 +7,7 @@ use Rattle.hunk_files.specs.declared.hunk_file.HunkFile.{HunkFile}
 use Rattle.hunk_files.specs.declared.hunk_file.HunkFile.TheVariants as files
 use Rattle.hunk_lint.specs.Warnings.{warnings}
 use Rattle.hunk_lint.proofs.FewWarnings.{few_warnings}
-use Rattle.hunk_c.specs.{Answers.{done, no_room}, Files.hunks_in, Rows.{HasNoFile, HasNoRoom, HasRows}}
+use Rattle.hunk_c.specs.{Answers.{done, no_room}, Files.hunks_in, Rows.{HasNoRoom, HasRows}}
 use Rattle.hunk_c.specs.Warnings.{LacksWorkRoom, ListsWarnings, Warns, WarnsWhatFits, room_in, warning_row, warning_rows}
 use Rattle.hunk_c.specs.declared.{answer.Answer.Answer, warnings.WarningRow.WarningRow}
 use Rattle.hunk_c.proofs.{Loaded.same_answer, OneFile.{one_file}, Tabulated.what_fits}
