@@ -12,7 +12,7 @@
 #else
 #define ALL 1024
 #endif
-#define PACKED (6 * 1024)  /* that hunk_load_packed may */
+#define MUCH (6 * 1024)    /* that hunk_load_packed and hunk_warnings may */
 #define HUNKS 2
 #define HEADER 28
 #define FINDINGS 2
@@ -156,8 +156,8 @@ static const struct {
     {"hunk_table", table, ALL},
     {"hunk_load", load, ALL},
     {"hunk_load_at", load_at, ALL},
-    {"hunk_load_packed", packed, PACKED},
-    {"hunk_load_packed of many hunks", packed_many, PACKED},
+    {"hunk_load_packed", packed, MUCH},
+    {"hunk_load_packed of many hunks", packed_many, MUCH},
     {"hunk_begin", begin, ALL},
     {"hunk_feed", feed, ALL},
     {"hunk_end", end, ALL},
@@ -171,8 +171,8 @@ static const struct {
     {"hunk_entries", entries, ALL},
     {"hunk_references", references, ALL},
     {"hunk_units", units, ALL},
-    {"hunk_warnings", warned, ALL},
-    {"hunk_warnings of many offsets", warned_of_many, ALL},
+    {"hunk_warnings", warned, MUCH},
+    {"hunk_warnings of many offsets", warned_of_many, MUCH},
     {"hunk_strip", strip, ALL},
     {"hunk_strip of a load file", strip_load, ALL},
     {"hunk_plain", plain, ALL},
