@@ -5,7 +5,8 @@ use Rattle.std.proofs.lemmas.List.Sorted.{sum_by-IsPermutation}
 use Rattle.hunk_blocks.specs.Parts.{block_text, group_text}
 use Rattle.hunk_blocks.specs.Values.{BlockBody, BlockValue, Reloc}
 use Rattle.hunk_lint.specs.Suspicious.{is_close}
-use Rattle.hunk_lint.specs.Warnings.{HunkFacts, block_warnings, blocks_warnings, body_warnings, group_warnings, in_turn, offset_warnings}
+use Rattle.hunk_lint.specs.Facts.{HunkFacts}
+use Rattle.hunk_lint.specs.Warnings.{block_warnings, blocks_warnings, body_warnings, group_warnings, in_turn, offset_warnings}
 use Rattle.hunk_lint.specs.declared.warning.Warning.{Warning}
 use Rattle.hunk_lint.proofs.Least.{least_in_order}
 

@@ -10,7 +10,7 @@ use Rattle.hunk_files.specs.Image.{block_content, block_relocations, offsets}
 use Rattle.hunk_files.specs.LoadFile.{AreInOrder, standing}
 use Rattle.hunk_files.proofs.{image.FillingLaws.IsNoContent, walk.FileText.{no_more, standings}, walk.HunkOrder.by_standing}
 use Rattle.hunk_lint.specs.Collecting.{blocks_content, blocks_offsets, content_after}
-use Rattle.hunk_lint.specs.Warnings.{is_bss}
+use Rattle.hunk_lint.specs.Facts.{is_bss}
 
 -- ---- content comes once
 

@@ -19,7 +19,8 @@ use Rattle.hunk_files.specs.Tables.{header_text, hunk_texts}
 use Rattle.hunk_files.proofs.{cuts.TableReading.text_is, image.FillingLaws.IsNoContent, walk.FileText.standings}
 use Rattle.hunk_lint.specs.Collecting.{blocks_content}
 use Rattle.hunk_lint.specs.Suspicious.{ignores_memory, is_close, is_outside, least}
-use Rattle.hunk_lint.specs.Warnings.{HunkFacts, block_warning, block_warnings, blocks_warnings, body_warnings, content_warnings, facts_of, group_warnings, hunks_warnings, in_turn, is_bss, offset_warning, offset_warnings, sizes_of, symbol_warnings, told, told_of, warnings}
+use Rattle.hunk_lint.specs.Facts.{HunkFacts, facts_of, is_bss}
+use Rattle.hunk_lint.specs.Warnings.{block_warning, block_warnings, blocks_warnings, body_warnings, content_warnings, group_warnings, hunks_warnings, in_turn, offset_warning, offset_warnings, sizes_of, symbol_warnings, told, told_of, warnings}
 use Rattle.hunk_lint.specs.declared.warning.Warning.{Warning}
 use Rattle.hunk_lint.specs.declared.warning.WarningKind.TheVariants.{InBss, MemoryIgnored, NoEntry, OddOffset, OutsideTarget, Overlap, Twice}
 use Rattle.hunk_lint.proofs.Collected.{bss_count, none_after}
@@ -36,7 +37,7 @@ empty (Code top words) e = absurd cc
 empty (Data top words) e = absurd cc
 empty _ e = refl
 
-first_count : (b : BlockValue) (bs : List BlockValue) → bss_count (b ∷ bs) ≡ cond {A = ℕ} (is_bss b.body) 1 0 + bss_count bs
+pub first_count : (b : BlockValue) (bs : List BlockValue) → bss_count (b ∷ bs) ≡ cond {A = ℕ} (is_bss b.body) 1 0 + bss_count bs
 first_count b bs = sum_by-cons (λ (x : BlockValue). cond (is_bss x.body) 1 0) b bs
 
 no_bss : (bs : List BlockValue) → AllByRecursion IsNoContent bs → bss_count bs ≡ 0

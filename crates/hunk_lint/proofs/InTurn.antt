@@ -5,7 +5,8 @@ use Rattle.hunk_files.specs.InPlace.{GivesPart}
 use Rattle.hunk_files.proofs.findings.FindingSteps.{TakenUpTo, taken_on}
 use Rattle.hunk_files.specs.LoadFile.{HunkValue, LoadFileValue}
 use Rattle.hunk_files.proofs.views.HunksInPlace.{hunk_text}
-use Rattle.hunk_lint.specs.Warnings.{blocks_warnings, facts_of, hunks_warnings, in_turn}
+use Rattle.hunk_lint.specs.Facts.{facts_of}
+use Rattle.hunk_lint.specs.Warnings.{blocks_warnings, hunks_warnings, in_turn}
 use Rattle.hunk_lint.specs.declared.warning.Warning.{Warning}
 
 module _ {S : Type 0} (Takes : S → List Warning → S → Type 0) (more : (a b c : S) (xs ys : List Warning) → Takes a xs b → Takes b ys c → Takes a (xs ++ ys) c) where

@@ -2,7 +2,7 @@
 use Rattle.std.specs.Prelude.{ℕ, ◌*◌}
 use Rattle.hunk_words.specs.Bits.{size_longs}
 use Rattle.hunk_files.specs.Image.{filled}
-use Rattle.hunk_lint.specs.Warnings.{HunkFacts}
+use Rattle.hunk_lint.specs.Facts.{HunkFacts}
 use Rattle.hunk_lint.specs.declared.known.KnownHunk.{KnownHunk}
 
 -- the declared bytes of the hunk

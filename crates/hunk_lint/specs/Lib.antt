@@ -1,4 +1,5 @@
 pub mod Collecting
+pub mod Facts
 pub mod Known
 pub mod Room
 pub mod Suspicious

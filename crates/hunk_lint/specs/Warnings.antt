@@ -1,42 +1,18 @@
 -- What is suspicious in a load file, though the format allows it.
-use Rattle.std.specs.Prelude.{ℕ, ◌+◌, ◌*◌, ◌%◌, ◌==◌, ◌&&◌, Bool, true, false, List, [], ◌∷◌, ◌++◌, length, map, get_or, nat_lt, Option, Some, None}
-use Rattle.std.specs.List.{count_by, filter}
+use Rattle.std.specs.Prelude.{◌≢◌, ℕ, ◌+◌, ◌*◌, ◌%◌, ◌==◌, ◌&&◌, Bool, true, false, List, [], ◌∷◌, ◌++◌, length, map, get_or, nat_lt, Option, Some, None}
+use Rattle.std.specs.List.{AllByRecursion, count_by, filter}
 use Rattle.hunk_words.specs.Bits.{memory_bits, size_longs}
 use Rattle.hunk_blocks.specs.Parts.{block_text, group_text, symbol_text}
 use Rattle.hunk_blocks.specs.Values.{BlockBody, BlockValue, RelocGroup, SymbolEntry, Code, Data, Bss, Reloc, Symbol}
 use Rattle.hunk_files.specs.Hunks.{block_texts}
-use Rattle.hunk_files.specs.Image.{content, offsets, relocations}
-use Rattle.hunk_files.specs.LoadFile.{HunkValue, LoadFileValue, declared_longs}
+use Rattle.hunk_files.specs.LoadFile.{LoadFileValue, declared_longs}
 use Rattle.hunk_files.specs.SumImage.{long_at}
 use Rattle.hunk_files.specs.Tables.{header_text}
+use Rattle.hunk_lint.specs.Facts.{HunkFacts, facts_of}
 use Rattle.hunk_lint.specs.Suspicious.{is_outside, is_close, least, ignores_memory}
 use Rattle.hunk_lint.specs.declared.warning.Warning.{Warning}
 use Rattle.hunk_lint.specs.declared.warning.WarningKind.{WarningKind}
 use Rattle.hunk_lint.specs.declared.warning.WarningKind.TheVariants.{OddOffset, Twice, Overlap, InBss, OutsideTarget, SymbolOutside, NoEntry, MemoryIgnored}
-
--- What the warnings of a hunk depend on: its number and size word, the declared bytes of all hunks, its bytes before any
--- relocation, the offsets of all its relocations, and whether its content block is BSS.
-pub record HunkFacts : Type 0 where
-  pub number : ℕ
-  pub word : ℕ
-  pub sizes : List ℕ
-  pub content : List ℕ
-  pub offsets : List ℕ
-  pub is_bss : Bool
-
-abbrev pub is_bss : BlockBody → Bool
-is_bss (Bss size) = true
-is_bss _ = false
-
-abbrev pub facts_of : List ℕ → ℕ → HunkValue → HunkFacts
-facts_of sizes number h = record {
-  number = number;
-  word = h.entry.word;
-  sizes = sizes;
-  content = content h;
-  offsets = offsets (relocations h);
-  is_bss = nat_lt 0 (count_by (λ b. is_bss b.body) h.blocks);
-}
 
 -- ---- rows
 
@@ -144,3 +120,7 @@ sizes_of v = map (λ h. 4 * declared_longs h) v
 -- What is suspicious in a load file, in file order.
 abbrev pub warnings : LoadFileValue → List Warning
 warnings v = hunks_warnings (sizes_of v) 0 (4 * length (header_text v)) v
+
+-- None of them is of this kind.
+abbrev pub HasNone : WarningKind → List Warning → Type 0
+HasNone kind rows = AllByRecursion (λ w. w.kind ≢ kind) rows

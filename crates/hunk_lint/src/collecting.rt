@@ -6,7 +6,7 @@ ghost use Rattle.hunk_files.specs.Image.{block_relocations, offsets};
 ghost use Rattle.hunk_files.specs.LoadFile.{AreInOrder, standing};
 ghost use Rattle.hunk_lint.specs.Collecting.{blocks_content, blocks_offsets, content_after};
 ghost use Rattle.hunk_lint.specs.Collecting.{groups_offsets};
-ghost use Rattle.hunk_lint.specs.Warnings.{is_bss};
+ghost use Rattle.hunk_lint.specs.Facts.{is_bss};
 
 use hunk_blocks::{BodyView, GroupsIter, Longs};
 use hunk_files::BlockViews;

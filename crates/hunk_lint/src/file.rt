@@ -5,7 +5,8 @@ ghost use Rattle.hunk_files.specs.Image.{relocations};
 ghost use Rattle.hunk_files.specs.LoadFile.{IsHunk};
 ghost use Rattle.hunk_files.specs.LoadHunks.{hunk_seen};
 ghost use Rattle.hunk_lint.specs.Room.{room_for};
-ghost use Rattle.hunk_lint.specs.Warnings.{blocks_warnings, facts_of, warnings};
+ghost use Rattle.hunk_lint.specs.Facts.{facts_of};
+ghost use Rattle.hunk_lint.specs.Warnings.{blocks_warnings, warnings};
 
 use crate::collecting::collect;
 use crate::known::KnownHunk;
@@ -18,11 +19,11 @@ use hunk_files::{BlockViews, LoadHunkView, LoadView, Takes};
 #[derive(Clone, Copy)]
 pub struct NoRoom;
 
-/// Hands over what is suspicious in a load file, in file order. It takes no memory but the room,
-/// and what the room holds afterwards is not said.
+/// Hands over what is suspicious in a load file, in file order.
 ///
-/// The room needs an element for each hunk and, of the hunk with the most relocations, one for each
-/// offset. Offsets are sorted there, so it takes n log n steps for the n of a hunk.
+/// It takes no memory but the room, and what the room holds afterwards is not said. The room needs
+/// an element for each hunk and, of the hunk with the most relocations, one for each offset. There
+/// the offsets of a hunk are sorted, which takes n log n steps for n of them.
 ///
 /// # Errors
 ///
@@ -44,8 +45,9 @@ pub fn list_warnings<T: Takes<Warning>>(
     Ok(())
 }
 
-/// Hands over the warnings of all hunks. Two views go over the hunks, as the blocks of each are read
-/// twice.
+/// Hands over the warnings of all hunks.
+///
+/// Two views go over the hunks, as the blocks of each are read twice.
 fn list_hunks<T: Takes<Warning>>(taker: &mut T, file: &LoadView<'_>, room: &mut [u32])
     requires { room_for file.now ≤ length room.old }
     ensures { T.takes taker.old (warnings file.now) taker.new }
@@ -64,8 +66,9 @@ fn list_hunks<T: Takes<Warning>>(taker: &mut T, file: &LoadView<'_>, room: &mut 
     }
 }
 
-/// Hands over the warnings of a hunk. Its blocks are given once more, for what they have to be
-/// collected first.
+/// Hands over the warnings of a hunk.
+///
+/// Its blocks are given once more, since what they have is collected first.
 fn list_hunk<T: Takes<Warning>>(
     taker: &mut T,
     sizes: &[u32],

@@ -13,7 +13,9 @@ pub(crate) struct Neighbours {
     pub(crate) other: Option<u32>,
 }
 
-/// What stands near this offset, among rising ones. Equal offsets, however many, cost nothing more.
+/// What stands near this offset, among rising ones.
+///
+/// Equal offsets, however many, cost nothing more.
 pub(crate) fn neighbours_of(rising: &[u32], offset: u32) -> Neighbours
     requires rising { IsNonDecreasing rising.now }
     requires inside { offset + 4 < 2 ^ 32 }

@@ -21,8 +21,9 @@ pub enum WarningKind {
     MemoryIgnored,
 }
 
-/// Something suspicious in a load file, which the format allows. Fields that a kind has no use for
-/// are 0.
+/// Something suspicious in a load file, which the format allows.
+///
+/// Fields that a kind has no use for are 0.
 #[derive(Clone, Copy)]
 pub struct Warning {
     /// The byte of the file at which the offset, the symbol or the content block stands.

@@ -7,7 +7,8 @@ use Rattle.std.proofs.Math.Seq.{take-append_seam}
 use Rattle.hunk_blocks.specs.Values.{BlockValue}
 use Rattle.hunk_files.specs.Image.{filled}
 use Rattle.hunk_files.specs.LoadHunks.{hunk_seen}
-use Rattle.hunk_lint.specs.Warnings.{blocks_warnings, facts_of, is_bss}
+use Rattle.hunk_lint.specs.Facts.{facts_of, is_bss}
+use Rattle.hunk_lint.specs.Warnings.{blocks_warnings}
 use Rattle.hunk_lint.specs.Collecting.{blocks_content, blocks_offsets}
 use Rattle.hunk_lint.specs.declared.warning.Warning.{Warning}
 use Rattle.hunk_lint.proofs.AnyOrder.{same_in_order}

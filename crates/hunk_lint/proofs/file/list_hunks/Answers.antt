@@ -3,7 +3,8 @@ use Rattle.std.specs.List.{AllByRecursion}
 use Rattle.hunk_words.specs.Bits.{size_longs}
 use Rattle.hunk_files.specs.LoadFile.{HunkValue, IsHunk, LoadFileValue, TableEntry}
 use Rattle.hunk_files.specs.{LoadHunks.hunk_seen}
-use Rattle.hunk_lint.specs.Warnings.{blocks_warnings, facts_of, sizes_of}
+use Rattle.hunk_lint.specs.Facts.{facts_of}
+use Rattle.hunk_lint.specs.Warnings.{blocks_warnings, sizes_of}
 use Rattle.hunk_files.proofs.views.HunksInPlace.{hunk_text}
 use Rattle.hunk_blocks.specs.Placed.{Placed}
 use Rattle.hunk_lint.proofs.InTurn.{hunk_listed, same_left}
