@@ -99,6 +99,9 @@ module _ (p : ℕ → Bool) where
   none_found xs [] e is = of_all (λ m. ⊥) xs (subst (All (λ m. ⊥)) (sym e) (λ k d inside. absurd (omega arith)))
   none_found xs (y ∷ ys) e is = absurd cc
 
+  pub none_passes : (xs : List ℕ) → least (filter p xs) ≡ None → (m : ℕ) → Contains xs m → p m ≡ true → ⊥
+  none_passes xs e m has passes = none_found xs (filter p xs) refl e has.0 m has.1 (subst (λ (y : ℕ). p y ≡ true) (sym has.2) passes)
+
   pub least_is : (xs : List ℕ) (n : ℕ) → IsLeastOf p xs n → least (filter p xs) ≡ Some n
   least_is xs n l = go (least (filter p xs)) refl
     where

@@ -4,6 +4,8 @@ mod EnoughRoom
 pub mod FewWarnings
 mod InTurn
 mod Least
+mod NoneTold
 mod Rising
 mod RoomLaws
+mod Stripping
 mod Zeros

@@ -27,7 +27,7 @@ module _ (p : ℕ → Bool) where
 -- ---- what is close
 
 module _ (o y : ℕ) where
-  close_above : o < y → y < o + 4 → is_close o y ≡ true
+  pub close_above : o < y → y < o + 4 → is_close o y ≡ true
   close_above h k = grind (arith, nat_tests)
 
   close_below : y < o → o < y + 4 → is_close o y ≡ true

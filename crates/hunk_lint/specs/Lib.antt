@@ -2,5 +2,6 @@ pub mod Collecting
 pub mod Facts
 pub mod Known
 pub mod Room
+pub mod Stripped
 pub mod Suspicious
 pub mod Warnings
