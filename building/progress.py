@@ -5,7 +5,7 @@ import re
 import sys
 import time
 
-from kit import tell
+from kit import TOP, tell
 
 # How a line with an error reads; a function may have that name, too.
 ERROR = re.compile(r"(^| )error(\[|: )")
@@ -43,24 +43,32 @@ class Line:
 
 
 class Crate:
-    """What the kit has said of a crate so far."""
+    """What the kit has said of a crate so far, and what it has kept."""
 
     def __init__(self, name):
-        self.name, self.functions, self.proved = name, "", "was proved before"
+        self.name, self.waits, self.proved = name, False, "was proved before"
+        self.kept = TOP / "crates" / name / "out/incremental"
         self.unproved, self.wrong = [], ""
 
     def see(self, said):
         """Takes a line that the kit has printed."""
-        if counted := re.match(r"checked \S+, (\d+ of \d+)", said):
-            self.functions = f": {counted[1]} functions"
-        if said.startswith("rt: ") and "waiting for" in said:
-            self.functions = ": waits for another build on this machine"
+        self.waits = said.startswith("rt: ") and "waiting for" in said
         if proved := re.match(r"logic=proved functions=(\d+)", said):
             self.proved = f"proved, {proved[1]} functions"
         if refused := re.match(r"fn (\S+): (?!proved)", said):
             self.unproved.append(refused[1])
         if not self.wrong and ERROR.search(said):
             self.wrong = said.strip()
+
+    def state(self):
+        """How far it is: the kit keeps a file of the code of each function before it proves any, and one when the code has met its
+        contract. It tells the same with `--progress`, which only a check takes, so that each crate would be read once more."""
+        if self.waits:
+            return f"{self.name} waits for another build on this machine"
+        start = f"Rattle-{self.name}-proofs."
+        kept = [it.name for it in self.kept.glob("*/*.oantt") if it.name.startswith(start) and "++" not in it.name]
+        every, met = (sum(it.endswith(f".{part}.oantt") for it in kept) for part in ("Code", "Met"))
+        return f"{self.name}: {met} of {every} functions" if every else self.name
 
     def reason(self, status):
         """What is wrong with it."""
@@ -81,8 +89,8 @@ class Progress:
 
     def show(self):
         """Shows what is under way now."""
-        names = ", ".join(f"{it.name}{it.functions}" for it in self.under_way)
-        self.line.show(f"{self.done:2} of {self.crates} done; {names}; {self.line.spent()} so far")
+        states = ", ".join(it.state() for it in self.under_way)
+        self.line.show(f"{self.done:2} of {self.crates} done; {states}; {self.line.spent()} so far")
 
     def end(self, crate, status):
         """Tells of a crate that is done."""

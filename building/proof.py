@@ -33,8 +33,7 @@ class Build:
     """Crates that are proved side by side, each after all that it uses. The topmost is built by this command of the kit."""
 
     def __init__(self, top, verb, given, log):
-        self.left, self.log = in_turn(top), log
-        self.built_by = {it: ("lib", subprocess.DEVNULL) for it in self.left} | {top: (verb, given)}
+        self.left, self.log, self.built_by = in_turn(top), log, {top: (verb, given)}
         self.progress = Progress(len(self.left), Line())
         self.under_way = {}
 
@@ -44,35 +43,28 @@ class Build:
         waits = {*self.left, *(crate.name for crate, _ in self.under_way.values())}
         for name in [it for it, uses in self.left.items() if not uses & waits][: most - len(self.under_way)]:
             del self.left[name]
+            verb, given = self.built_by.get(name, ("lib", subprocess.DEVNULL))
+            words = [verb, "--jobs", "1"]
+            self.write(name, f"rt {' '.join(words)}".encode())
+            ran = call(words, f"crates/{name}", stdin=given, stdout=subprocess.PIPE, stderr=subprocess.STDOUT)
             crate = Crate(name)
-            # `rt check` alone tells of each function that it has proved.
-            self.run(call, crate, ["check", "--jobs", "1", "--progress"], subprocess.DEVNULL)
+            self.under_way[Lines(ran.stdout)] = crate, ran
             self.progress.begin(crate)
-
-    def run(self, call, crate, words, given):
-        self.write(crate.name, f"rt {' '.join(words)}".encode())
-        ran = call(words, f"crates/{crate.name}", stdin=given, stdout=subprocess.PIPE, stderr=subprocess.STDOUT)
-        self.under_way[Lines(ran.stdout)] = crate, ran
 
     def write(self, name, line):
         self.log.write(name.encode() + b": " + line + b"\n")
         self.log.flush()
 
-    def read(self, call, lines):
-        """Takes what the kit has printed of a crate. What was proved is built."""
+    def read(self, lines):
+        """Takes what the kit has printed of a crate."""
         crate, ran = self.under_way[lines]
         printed, is_end = lines.read()
         for line in printed:
             self.write(crate.name, line)
             crate.see(line.decode(errors="replace"))
-        if not is_end:
-            return
-        del self.under_way[lines]
-        status, (word, given) = ran.wait(), self.built_by.pop(crate.name, (None, None))
-        if word and not status:
-            self.run(call, crate, [word, "--jobs", "1"], given)
-        else:
-            self.end(crate, status)
+        if is_end:
+            del self.under_way[lines]
+            self.end(crate, ran.wait())
 
     def end(self, crate, status):
         self.progress.end(crate, status)
@@ -86,7 +78,7 @@ class Build:
             while self.left or self.under_way:
                 self.start(call, most)
                 for lines in select.select(list(self.under_way), [], [], 1)[0]:
-                    self.read(call, lines)
+                    self.read(lines)
                 if self.under_way:
                     self.progress.show()
 
