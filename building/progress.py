@@ -46,13 +46,14 @@ class Crate:
     """What the kit has said of a crate so far, and what it has kept."""
 
     def __init__(self, name):
-        self.name, self.waits, self.proved = name, False, "was proved before"
+        self.name, self.waits_at, self.proved = name, None, "was proved before"
         self.kept = TOP / "crates" / name / "out/incremental"
         self.unproved, self.wrong = [], ""
 
     def see(self, said):
         """Takes a line that the kit has printed."""
-        self.waits = said.startswith("rt: ") and "waiting for" in said
+        if said.startswith("rt: ") and "waiting for" in said:
+            self.waits_at = self.count()
         if proved := re.match(r"logic=proved functions=(\d+)", said):
             self.proved = f"proved, {proved[1]} functions"
         if refused := re.match(r"fn (\S+): (?!proved)", said):
@@ -60,15 +61,20 @@ class Crate:
         if not self.wrong and ERROR.search(said):
             self.wrong = said.strip()
 
-    def state(self):
-        """How far it is: the kit keeps a file of the code of each function before it proves any, and one when the code has met its
-        contract. It tells the same with `--progress`, which only a check takes, so that each crate would be read once more."""
-        if self.waits:
-            return f"{self.name} waits for another build on this machine"
+    def count(self):
+        """How many functions are proved, and of how many: the kit keeps a file of the code of each before it proves any, and one
+        when the code has met its contract. It tells the same with `--progress`, which only a check takes, so that each crate would
+        be read once more."""
         start = f"Rattle-{self.name}-proofs."
         kept = [it.name for it in self.kept.glob("*/*.oantt") if it.name.startswith(start) and "++" not in it.name]
-        every, met = (sum(it.endswith(f".{part}.oantt") for it in kept) for part in ("Code", "Met"))
-        return f"{self.name}: {met} of {every} functions" if every else self.name
+        return tuple(sum(it.endswith(f".{part}.oantt") for it in kept) for part in ("Met", "Code"))
+
+    def state(self):
+        """How far it is. The kit does not say when it has waited long enough."""
+        counted = self.count()
+        if self.waits_at == counted:
+            return f"{self.name} waits for another build on this machine"
+        return f"{self.name}: {counted[0]} of {counted[1]} functions" if counted[1] else self.name
 
     def reason(self, status):
         """What is wrong with it."""

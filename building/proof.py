@@ -12,12 +12,11 @@ from progress import Crate, Line, Progress, time_of
 
 
 def in_turn(top):
-    """The crate and those that it stands on, each with those of them that it uses."""
+    """The crate and those that it stands on, each with itself and all that it stands on."""
     # This looks for the kit when it is imported, and that may lack until `look_for_kit` has seen it.
-    from built import USES, below
+    from built import below
 
-    crates = set(below(top))
-    return {it: crates & set(USES[it]) for it in sorted(crates, key=lambda it: (len(below(it)), it))}
+    return {it: {*below(it)} for it in sorted(below(top), key=lambda it: (len(below(it)), it))}
 
 
 def processors():
@@ -30,21 +29,33 @@ def processors():
 
 
 class Build:
-    """Crates that are proved side by side, each after all that it uses. The topmost is built by this command of the kit."""
+    """Crates that are proved, each after all that it uses. The topmost is built by this command of the kit."""
 
     def __init__(self, top, verb, given, log):
-        self.left, self.log, self.built_by = in_turn(top), log, {top: (verb, given)}
+        self.below, self.log, self.built_by = in_turn(top), log, {top: (verb, given)}
+        self.left = [*self.below]
         self.progress = Progress(len(self.left), Line())
         self.under_way = {}
+        # How many processors each of those under way takes.
+        self.jobs = {}
+
+    def ready(self):
+        """What can be proved now. The kit keeps others out of a crate and of all below it while it is at work there."""
+        taken = set().union(*(self.below[it] for it in self.jobs))
+        for name in self.left:
+            if not self.below[name] & taken and not (self.below[name] - {name}) & {*self.left}:
+                taken |= self.below[name]
+                yield name
 
     def start(self, call, most):
-        """Begins with what may be proved now, at most so many at once, each by one processor: two for a crate would cost a third more
-        of their time, and save a quarter of the clock's."""
-        waits = {*self.left, *(crate.name for crate, _ in self.under_way.values())}
-        for name in [it for it, uses in self.left.items() if not uses & waits][: most - len(self.under_way)]:
-            del self.left[name]
+        """Begins with what can be proved now, by as many processors as are idle."""
+        idle = most - sum(self.jobs.values())
+        names = [*self.ready()][:idle]
+        for name in names:
+            self.left.remove(name)
+            self.jobs[name] = idle // len(names)
             verb, given = self.built_by.get(name, ("lib", subprocess.DEVNULL))
-            words = [verb, "--jobs", "1"]
+            words = [verb, "--jobs", str(self.jobs[name])]
             self.write(name, f"rt {' '.join(words)}".encode())
             ran = call(words, f"crates/{name}", stdin=given, stdout=subprocess.PIPE, stderr=subprocess.STDOUT)
             crate = Crate(name)
@@ -63,7 +74,7 @@ class Build:
             self.write(crate.name, line)
             crate.see(line.decode(errors="replace"))
         if is_end:
-            del self.under_way[lines]
+            del self.under_way[lines], self.jobs[crate.name]
             self.end(crate, ran.wait())
 
     def end(self, crate, status):
@@ -88,7 +99,7 @@ def prove(top, verb, given=subprocess.DEVNULL):
     LOG.parent.mkdir(exist_ok=True)
     with open(LOG, "wb") as log:
         build = Build(top, verb, given, log)
-        tell(f"{top} stands on {len(build.left) - 1} crates. What the kit prints goes to {os.path.relpath(LOG)}")
+        tell(f"{top} stands on {len(build.below) - 1} crates. What the kit prints goes to {os.path.relpath(LOG)}")
         build.all()
     used = resource.getrusage(resource.RUSAGE_CHILDREN)
     return f"{build.progress.line.spent()}, {time_of(used.ru_utime + used.ru_stime)} of processors"
