@@ -26,7 +26,8 @@ def same_without_error(home):
     for name in ("symbol", "text"):
         (home / "folder-of-two" / name).write_bytes((home / name).read_bytes())
     for words in ("show text none symbol", "json text symbol", "nm sum symbol", "show --wide wide", "diff symbol text", "none", "",
-                  "survey text symbol", "survey --jobs 2 folder-of-two symbol", "dump --budget x sum", "explain none", "--version"):
+                  "survey text symbol", "survey --jobs 2 folder-of-two symbol", "lint text warned/twice symbol", "dump --budget x sum",
+                  "explain none", "--version"):
         printed, _, status = shell(words, home)
         for error in ("2>&-", "2>/dev/full"):
             same(f"hunk {words} {error}", shell(f"{words} {error}", home), (printed, "", status))
@@ -36,12 +37,12 @@ def same_without_error(home):
 
 def no_output(home):
     """Standard output that is closed or full is told in a line, where something is to be written to it."""
-    for words in ("show symbol", "--help", "--version", "json symbol text", "survey symbol", "diff symbol sum"):
+    for words in ("show symbol", "--help", "--version", "json symbol text", "survey symbol", "diff symbol sum", "lint warned/twice"):
         for output, why in ((">&-", EBADF), (">/dev/full", "hunk: writing failed: No space left on device\n")):
             _, said, status = shell(f"{words} {output}", home)
             same(f"hunk {words} {output}", (said.splitlines(True)[-1:], status), ([why], 3))
     same("hunk show >&- 2>&-", shell("show symbol >&- 2>&-", home), ("", "", 3))
-    for words, status in (("none", 2), ("show text", 1), ("diff text symbol", 2)):
+    for words, status in (("none", 2), ("show text", 1), ("diff text symbol", 2), ("lint text symbol", 2)):
         said = shell(words, home)[1]
         same(f"hunk {words} >&-", shell(f"{words} >&-", home), ("", said, status))
 
@@ -51,6 +52,7 @@ def no_input(home):
     said = "hunk: -: EBADF: Bad file descriptor (not judged)\n"
     same("hunk show - <&-", shell("show - symbol <&-", home), (f"== symbol\n{wanted.SHOWN_SYMBOL}", said, 1))
     same("hunk show - <&- 2>&-", shell("show - symbol <&- 2>&-", home), (f"== symbol\n{wanted.SHOWN_SYMBOL}", "", 1))
+    same("hunk lint - <&-", shell("lint - symbol <&-", home), ("", said, 2))
     printed, _, status = shell("survey - symbol --jobs 2 <&-", home)
     same("hunk survey - <&-", (printed, status), ("not judged\tEBADF\t-\t-\t-\nload\t-\t-\t0\tsymbol\n", 1))
 

@@ -30,8 +30,8 @@ FINDINGS = ("findings.o: byte 32: hunk 0.0: BadTarget: the target of the relocat
 
 def wanted_of(told):
     """The warnings of a row, with their kinds by name."""
-    rows = [map(int, it.split()) for it in told.split("; ")] if told else []
-    return [{**dict(zip(KEYS, row)), "kind": NAMES[kind]} for row in map(list, rows) for kind in row[2:3]]
+    rows = (dict(zip(KEYS, map(int, it.split()))) for it in told.split("; ") if told)
+    return [{**it, "kind": NAMES[it["kind"]]} for it in rows]
 
 
 def of_table(home):
@@ -91,6 +91,23 @@ def of_what_is_refused(home):
     same("lint without --wide", hunk("lint", "odd-wide", folder=home)[2], 2)
 
 
+def of_a_folder(home):
+    """In a folder, what is no file and what is too large is told, and the others are done; then the status is 2."""
+    odd, there = (home / "warned/odd-offset").read_bytes(), home / "unreadable"
+    there.mkdir()
+    os.mkfifo(there / "pipe")
+    os.symlink("nowhere", there / "link")
+    for name in ("large", "odd"):
+        (there / name).write_bytes(odd)
+    os.truncate(there / "large", 67108864)
+    large = "refused at byte 67108864: FileLimit: as many bytes as may be read were read, and the file had not ended (not judged)"
+    said = (f"hunk: unreadable/large: {large}\n"
+            "hunk: unreadable/link: ENOENT: No such file or directory (not judged)\n"
+            "hunk: unreadable/pipe: NoFile: neither a file nor a folder, or a link to a folder (not judged)\n")
+    got = hunk("lint", "unreadable", folder=home)
+    same("lint of a folder", got, (f"unreadable/odd: {LINES['odd-offset']}\n", said, 2))
+
+
 def of_names(home):
     """Names of symbols, and of files, of any bytes."""
     data = bytes.fromhex("000003f3 00000000 00000001 00000000 00000000 00000001 000003e9 00000001 4e714e75"
@@ -108,4 +125,5 @@ def tried(home):
     of_table(home)
     of_words(home)
     of_what_is_refused(home)
+    of_a_folder(home)
     of_names(home)
