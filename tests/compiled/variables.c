@@ -1,0 +1,3 @@
+/* No code: as a file by itself this is no program. */
+int variable;
+int variables[100];
