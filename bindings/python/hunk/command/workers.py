@@ -52,7 +52,8 @@ class Part:
     """A part of the work. It has an answer where a process has done it, and a worker while one does it."""
 
     def __init__(self, given: Any) -> None:
-        self.given, self.answer = given, None
+        self.given = given
+        self.answer: Any = None
         self.worker: Optional[Worker] = None
 
 
@@ -94,7 +95,8 @@ class Workers:
         self._is_fork = sys.platform == "linux"
         self._context: Any = multiprocessing.get_context("fork" if self._is_fork else None)
         self._life, self._our_life = self._context.Pipe(duplex=False)
-        self._wait, self._act = wait, act
+        self._wait: Callable[[List[Any]], List[Any]] = wait
+        self._act = act
         self._left = min(most, MOST)
         self._all: List[Worker] = []
 
@@ -110,16 +112,16 @@ class Workers:
         """One more, unless that is refused: then those that are there have to do."""
         # What is not written yet would be written twice.
         sys.stdout.flush()
-        ours = theirs = None
+        pipe: Sequence[Any] = ()
         try:
-            ours, theirs = self._context.Pipe()
+            pipe = ours, theirs = self._context.Pipe()
             others = [self._our_life, ours, *(it.pipe for it in self._all)] if self._is_fork else []
             process = self._context.Process(target=serve, args=(theirs, self._life, others, self._act), daemon=True)
             with no_interrupts():
                 process.start()
         except (OSError, MemoryError, RuntimeError):
             self._left = 0
-            for it in filter(None, (ours, theirs)):
+            for it in pipe:
                 it.close()
             return None
         theirs.close()
