@@ -174,17 +174,18 @@ export class Hunk {
   }
 
   /** A call that writes rows: it is asked how many there are, and then for these, unless they are more than `most`. Those of an
-   * Input stand where they were written. What else the call takes after the file, `more` gives, of a lease and the file. */
+   * Input stand where they were written. What else the call takes after the file, `more` gives, of a lease and the file: anew for
+   * each of the two, and after the rows, so that these do not stand behind what is given back. */
   #rows(name, layout, bytes, most, more = () => []) {
     const memory = this.#memory;
     return this.#with(bytes, (lease, file, place) => {
-      const rest = more(lease, place);
-      const asked = memory.call(name, ...file, ...rest, 0n, 0n);
+      const asked = memory.within((asking) => memory.call(name, ...file, ...more(asking, place), 0n, 0n));
       const count = name === "hunk_table" ? asked.hunk : asked.count;
       if (asked.number !== NO_ROOM) this.#answer(asked);
       if (asked.number !== NO_ROOM || count > most) return { answer: asked, rows: new Rows(layout, copyOf(new Uint8Array())) };
       const length = count * layout.size;
       const at = lease.take(length);
+      const rest = more(lease, place);
       const answer = this.#answer(memory.call(name, ...file, ...rest, BigInt(at), BigInt(count)));
       const home = bytes instanceof Input ? bytes.home(lease, at, length) : copyOf(memory.bytes(at, length));
       return { answer, rows: new Rows(layout, home) };
