@@ -22,7 +22,7 @@ def of_reasons():
     for number, name, kind, meaning, developer, archive in rows_of("reasons.tsv"):
         text = f"{name} ({number}), {kind}\n  {sentence(meaning)}\n  Developer: {developer}.\n  Archive: {archive}.\n"
         told[name] = by_number[number.split()[0]] = told.get(name, "") + text
-        listed.append(f"{number.split()[0]:>2} {name:17} {kind:13} {meaning}{', at byte 0' if ' ' in number else ''}\n")
+        listed.append(f"{number.split()[0]:>2} {name:17} {kind:13} {meaning}{', at byte 0' if 'byte' in number else ''}\n")
     return told, by_number, listed
 
 
@@ -43,7 +43,7 @@ def explanations():
 def tried():
     """Each by its name in any letters, and reasons by their numbers; all of them, and words that are none."""
     told, by_number, listed = explanations()
-    same("reasons, findings and warnings", (len(told), len(by_number), len(listed)), (40, 31, 42))
+    same("reasons, findings and warnings", (len(told), len(by_number), len(listed)), (40, 31, 44))
     for name, text in {**told, **by_number}.items():
         for word in dict.fromkeys((name, name.lower(), name.upper())):
             same(f"explain {word}", called(["explain", word]), (text, "", 0))

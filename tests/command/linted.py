@@ -78,7 +78,7 @@ def of_what_is_refused(home):
     odd = (home / "warned/odd-offset").read_bytes()
     line = LINES["odd-offset"]
     same("lint -", hunk("lint", "-", folder=home, given=odd), (f"-: {line}\n", "", 1))
-    refused = "refused at byte 0: NotLoadFile: the first longword is not 3F3 (no hunk file)"
+    refused = "refused at byte 0: NotLoadFile: the first longword is not 3F3 (no hunk file); by its first bytes: text"
     got = hunk("lint", "text", "warned/odd-offset", folder=home)
     same("lint of a text", got, (f"warned/odd-offset: {line}\n", f"hunk: text: {refused}\n", 2))
     printed, said, status = hunk("lint", "none", "symbol", folder=home)

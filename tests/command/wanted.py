@@ -49,10 +49,11 @@ HEAD = "   text\t   data\t    bss\t    dec\t    hex\tfilename\n"
 SIZE_OF_SUM = "     48\t      0\t     12\t     60\t     3c\tsum\n"
 TABLE_HEAD = "class\treason\tbyte\trest\tname\n"
 NO_HUNK_FILE = "refused at byte 0: NotLoadFile: the first longword is not 3F3 (no hunk file)"
+NO_TEXT = f"{NO_HUNK_FILE}; by its first bytes: text"
 NONE_BETWEEN = "0 object, 0 findings, 0 wide"
 # What sha256sum says of it.
 SUM_OF_TEXT = "982d9e3eb996f559e633f4d194def3761d909f5a3b647d1a851fead67c32c9d1"
-REFUSED = f"""hunk: text: {NO_HUNK_FILE}
+REFUSED = f"""hunk: text: {NO_TEXT}
 hunk: empty: refused at byte 0: Truncated: the input ends too soon (no hunk file)
 hunk: overlay: refused at byte 36: Overlay: an OVERLAY block, of a file with overlays (not supported)
 hunk: unknown: refused at byte 36: UnknownBlock: a type of block that is not known, without the bit of advisory blocks (damaged)
@@ -70,12 +71,12 @@ RUNS = [
     ("show --wide wide", SHOWN_WIDE, "hunk: wide: 1 block of short relocations, 1 END put in\n", 0),
     ("show cut", "", SAID_CUT, 1),
     ("show --partial cut text symbol", f"== cut\n{SHOWN_CUT}== symbol\n{SHOWN_SYMBOL}",
-     f"{SAID_CUT}hunk: text: {NO_HUNK_FILE}\n", 1),
+     f"{SAID_CUT}hunk: text: {NO_TEXT}\n", 1),
     ("show --partial --wide wide", SHOWN_WIDE, "hunk: wide: 1 block of short relocations, 1 END put in\n", 0),
     ("size sum part.o attributes", f"{HEAD}{SIZE_OF_SUM}"
      "     16\t      0\t     16\t     32\t     20\tpart.o\n      8\t      0\t      4\t     12\t      c\tattributes\n", "", 0),
     ("size -t sum text sum", f"{HEAD}{SIZE_OF_SUM}{SIZE_OF_SUM}"
-     "     96\t      0\t     24\t    120\t     78\t(TOTALS)\n", f"hunk: text: {NO_HUNK_FILE}\n", 1),
+     "     96\t      0\t     24\t    120\t     78\t(TOTALS)\n", f"hunk: text: {NO_TEXT}\n", 1),
     ("size -A part.o", "part.o  :\nsection    size   addr   memory\n0.0:CODE     16      0   chip\n0.1:BSS      16      0   any\n"
      "Total        32\n\n\n", "", 0),
     ("size -A --base 1000 attributes", "attributes  :\nsection   size   addr   memory\n"
@@ -105,7 +106,7 @@ RUNS = [
     ("dump --base fffffff8 sum", "", "hunk: sum: refused at byte 28: NoBase of hunk 0: a hunk has no base, or would pass the"
      " address 2^32 (not judged)\n", 1),
     ("diff sum sum", "", "", 0),
-    ("diff sum text", "", f"hunk: text: {NO_HUNK_FILE}\n", 2),
+    ("diff sum text", "", f"hunk: text: {NO_TEXT}\n", 2),
     ("diff part.o sum", "A is an object file, B a load file\n", "", 1),
     ("diff symbol behind", "hunk 0: blocks: 1 only in A, 0 only in B\nhunk 0: symbols: 1 only in A, 0 only in B\n"
      "rest: 7 bytes more in B\n", "", 1),
@@ -123,4 +124,6 @@ RUNS = [
 # Words that are refused.
 REFUSED_WORDS = ["", "none sum", "show", "show --no sum", "dump --base xyz sum", "dump --base 100000000 sum",
                  "dump --budget -1 sum", "diff sum", "survey --jobs x sum", "explain 0", "explain -1",
-                 "explain 26 32", "lint", "lint --ignore 1 sum", "lint --ignore none sum", "lint --ignore", "lint --no sum"]
+                 "explain 26 32", "lint", "lint --ignore 1 sum", "lint --ignore none sum", "lint --ignore", "lint --no sum",
+                 "same", "same sum", "same sum sum sum", "find", "find --extract", "find --base 0 sum", "survey --csv --json sum",
+                 "survey --same --sha256 sum"]

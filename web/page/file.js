@@ -5,6 +5,7 @@ import { Contents } from "./contents.js";
 import { Front } from "./front.js";
 import { Labels } from "./labels.js";
 import { Parts } from "./parts.js";
+import { refusalOf } from "./reasons.js";
 
 /** The most bytes of memory, blocks and other items that are shown of a file. */
 const MOST_MEMORY = 1 << 28;
@@ -40,8 +41,8 @@ function firstLong(bytes) {
 export function summary(hunk, bytes) {
   const first = firstLong(bytes);
   const kind = first === OBJECT ? "object file" : first === LOAD ? "load file" : "other file";
-  const [checked, refusal] = tried(() => hunk.check(bytes, 0));
-  if (refusal) return { kind, refusal };
+  const [checked, error] = tried(() => hunk.check(bytes, 0));
+  if (error) return { kind, refusal: refusalOf(error, bytes) };
   const { hunks, bytes: length } = checked;
   if (hunks > 0) return { kind, hunks, length, declared: declared(hunk, bytes) };
   return { kind, hunks, length, units: hunk.units(bytes, 0).count, findings: checked.count };

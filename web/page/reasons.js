@@ -1,9 +1,26 @@
 // What is known of a file, and what to do about one that is refused, by docs/reasons.tsv.
 
-import { REASONS } from "./data.js";
+import { FOREIGN, REASONS } from "./data.js";
+import { whatIs } from "./foreign.js";
+import { longAt } from "./names.js";
 
-/** Class, what a developer does, what an archive does. */
-const reasonOf = ({ number, place }) => REASONS[`${number} at byte ${place}`] ?? REASONS[number];
+/** The bits of a block word that are its type; the reason by which the first longword is no hunk file's. */
+const KIND_BITS = 0x1fffffff;
+const NOT_LOAD_FILE = 1;
+
+/** Class, what a developer does, what an archive does; and what it means, where its block word says more than the library. */
+function reasonOf({ number, place, word }) {
+  const kind = (word & KIND_BITS).toString(16).toUpperCase();
+  return REASONS[`${number} at word ${kind}`] ?? REASONS[`${number} at byte ${place}`] ?? REASONS[number];
+}
+
+/** A refusal of these bytes, with the longword at its place, and what the file is by its first bytes. */
+export function refusalOf(error, bytes) {
+  const { number, reason, place, text } = error;
+  const isThere = place + 4 <= bytes.length;
+  const isForeign = place === 0 && (number === NOT_LOAD_FILE || `${number} at byte 0` in REASONS);
+  return { number, reason, place, text, word: isThere ? longAt(bytes, place) : 0, what: isForeign ? whatIs(bytes, FOREIGN) : null };
+}
 
 /** The class of a file, in the words of `hunk survey`. */
 export function classOf({ refusal, strict, hunks, findings }) {
@@ -20,6 +37,7 @@ const TONES = {
 export const toneOf = (shown) => TONES[shown] ?? "soft";
 
 export function whyText(refusal) {
-  const [shown, developer, archive] = reasonOf(refusal);
-  return `${shown[0].toUpperCase()}${shown.slice(1)}: ${refusal.text}.\nDeveloper: ${developer}.\nArchive: ${archive}.`;
+  const [shown, developer, archive, meaning] = reasonOf(refusal);
+  const text = refusal.what ? `${refusal.what}, by its first bytes` : (meaning ?? refusal.text);
+  return `${shown[0].toUpperCase()}${shown.slice(1)}: ${text}.\nDeveloper: ${developer}.\nArchive: ${archive}.`;
 }

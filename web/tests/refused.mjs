@@ -159,6 +159,23 @@ class Refused {
     this.hold("another spelling, plain again", shown, await this.text("verdict"));
   }
 
+  async why() {
+    return (await this.text("why")).split("\n")[0];
+  }
+
+  async foreign() {
+    for (const [what, file, reason, why] of FOREIGN) {
+      await this.show(what, file, `Neither a load file nor an object file: refused at byte 0 (00000000), ${reason}.`, "");
+      this.hold(`${what}, why`, why, await this.why());
+    }
+    const fault = "The fault is where a block of hunk 0 would begin, at byte 24 (00000018).";
+    const before = "Before it stand 24 bytes, which are shown: the header, 0 blocks, 0 of 1 hunk whole.";
+    const verdict = "Begins as a load file: refused at byte 24 (00000018), UnknownBlock (16).";
+    await this.show("PowerPC code", POWERPC, verdict, `${fault} ${before}`);
+    const told = "Not supported: a program with PowerPC code, in a CODE block of its own type.";
+    this.hold("PowerPC code, why", told, await this.why());
+  }
+
   async badSpelling() {
     await this.show("a bad target in another spelling", BAD_WIDE, SHORT, BEFORE_SHORT);
     const refused = "In its plain spelling refused at byte 46, BadTarget";
@@ -171,6 +188,16 @@ class Refused {
   }
 }
 
+/** An archive, a text, a file of nothing that is known, and one of two bytes, each with the first line of why it is refused. */
+const FOREIGN = [
+  ["an archive", "20002d6c68352d00000000", "NotLoadFile (1)", "No hunk file: LhA archive, by its first bytes."],
+  ["a text", Buffer.from("notes\n").toString("hex"), "NotLoadFile (1)", "No hunk file: text, by its first bytes."],
+  ["a file of nothing known", "00010203", "NotLoadFile (1)", "No hunk file: the first longword is not 3F3."],
+  ["two letters", Buffer.from("ab").toString("hex"), "Truncated (26)", "No hunk file: text, by its first bytes."],
+];
+/** The header of one hunk, and a block with a type of PowerPC code. */
+const POWERPC = digits("000003f3 00000000 00000001 00000000 00000000 00000001 000004e9 00000001 4e800020 000003f2");
+
 /** Holds what is shown of files that are refused. */
 export async function compareRefused(page, hold) {
   const refused = new Refused(page, hold);
@@ -180,4 +207,5 @@ export async function compareRefused(page, hold) {
   await refused.objectFiles();
   await refused.spellings();
   await refused.badSpelling();
+  await refused.foreign();
 }

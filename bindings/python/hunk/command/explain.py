@@ -7,7 +7,7 @@ import difflib
 from typing import Dict, Iterator, List
 
 from hunk.command.judging import FINDINGS as OF_FINDINGS
-from hunk.command.reasons import AT_0, FINDINGS, ROWS, Reason
+from hunk.command.reasons import AT_0, AT_WORD, FINDINGS, ROWS, Reason
 from hunk.command.warning_kinds import KINDS, Kind
 
 NAME = "explain"
@@ -42,10 +42,12 @@ def warning_text(name: str, it: Kind) -> str:
 def known() -> Dict[str, List[str]]:
     """What there is to say, by the words that ask for it. A name of a reason and of a finding asks for both."""
     found: Dict[str, List[str]] = {}
-    for where, table in (("", ROWS), (" at byte 0", AT_0)):
-        for number, it in table.items():
-            for word in (it.name.lower(), str(number)):
-                found.setdefault(word, []).append(reason_text(f"{number}{where}", it))
+    keyed = [(number, "", it) for number, it in ROWS.items()]
+    keyed += [(number, " at byte 0", it) for number, it in AT_0.items()]
+    keyed += [(number, f" at word {word:X}", it) for (number, word), it in AT_WORD.items()]
+    for number, where, it in keyed:
+        for said in (it.name.lower(), str(number)):
+            found.setdefault(said, []).append(reason_text(f"{number}{where}", it))
     for name, meaning in FINDINGS.items():
         found.setdefault(name.lower(), []).append(f"{name}, a finding\n  {sentence(meaning)}")
     for name, kind in KINDS.items():
@@ -74,6 +76,7 @@ def lines() -> Iterator[str]:
     """All of them, a line each."""
     rows = [(str(number), it.name, it.kind, it.meaning) for number, it in ROWS.items()]
     rows += [(str(number), it.name, it.kind, f"{it.meaning}, at byte 0") for number, it in AT_0.items()]
+    rows += [(str(number), it.name, it.kind, it.meaning) for (number, _), it in AT_WORD.items()]
     rows.sort(key=lambda it: int(it[0]))
     rows += [("-", name, OF_FINDINGS, meaning) for name, meaning in FINDINGS.items()]
     rows += [("-", name, OF_WARNINGS, kind.meaning) for name, kind in KINDS.items()]

@@ -4,12 +4,13 @@ told on standard error, a line each, and the others go on."""
 from __future__ import annotations
 
 import argparse
+import contextlib
 import errno
 import io
 import os
 import stat
 import sys
-from typing import Callable, Iterator, NamedTuple, Optional, Union
+from typing import BinaryIO, Callable, Iterator, NamedTuple, Optional, Union
 
 import hunk
 from hunk.command import reasons, words
@@ -17,8 +18,8 @@ from hunk.command import reasons, words
 # The library itself has no limit; this is that of the program hunkinfo.
 LIMIT = 67108864
 STANDARD_INPUT = b"-"
-# The first longword says whether a file begins as a hunk file.
-LONGWORD = 4
+# The first longword says whether a file begins as a hunk file, and so many bytes what it is else.
+LONGWORD, FIRST = 4, 1088
 PIECE = 1 << 20
 
 
@@ -27,6 +28,14 @@ class NoFile(Exception):
 
     def __str__(self) -> str:
         return "neither a file nor a folder, or a link to a folder"
+
+
+class LargeError(hunk.HunkError):
+    """A file that is too large to be read, and is no hunk file by its first longword. `first` is the bytes that it begins with."""
+
+    def __init__(self, error: hunk.HunkError, first: bytes) -> None:
+        super().__init__(error.reason, error.number, error.place, error.hunk, error.meaning)
+        self.first = first
 
 
 Failure = Union[hunk.HunkError, OSError, NoFile, MemoryError]
@@ -100,10 +109,10 @@ def too_large() -> hunk.HunkError:
 def refuse_first(first: bytes) -> None:
     """Refuses a file that is too large: for its first longword where that is no hunk file's, else for its length."""
     try:
-        hunk.read(first)
+        hunk.read(first[:LONGWORD])
     except hunk.HunkError as error:
         if error.reason != "Truncated":
-            raise
+            raise LargeError(error, first) from None
     raise too_large()
 
 
@@ -112,7 +121,7 @@ def read_opened(file: io.FileIO) -> bytes:
     state = os.fstat(file.fileno())
     if stat.S_ISREG(state.st_mode):
         if state.st_size >= LIMIT:
-            refuse_first(file.read(LONGWORD))
+            refuse_first(file.read(FIRST))
         return file.readall()
     pieces, left = [], LIMIT
     while left and (piece := file.read(min(left, PIECE))):
@@ -121,10 +130,10 @@ def read_opened(file: io.FileIO) -> bytes:
     return b"".join(pieces)
 
 
-def read_standard_input() -> bytes:
+def standard_input() -> BinaryIO:
     if sys.stdin is None:
         raise OSError(errno.EBADF, os.strerror(errno.EBADF))
-    return sys.stdin.buffer.read(LIMIT)
+    return sys.stdin.buffer
 
 
 def read_bytes(found: Found) -> bytes:
@@ -132,14 +141,14 @@ def read_bytes(found: Found) -> bytes:
     if found.error:
         raise found.error
     if found.name == STANDARD_INPUT and found.is_named:
-        data = read_standard_input()
+        data = standard_input().read(LIMIT)
     else:
         if not found.is_named and not stat.S_ISREG(os.stat(found.name).st_mode):
             raise NoFile
         with open(found.name, "rb", buffering=0) as file:
             data = read_opened(file)
     if len(data) >= LIMIT:
-        refuse_first(data[:LONGWORD])
+        refuse_first(data[:FIRST])
     return data
 
 
@@ -158,11 +167,12 @@ def alone(error: Failure) -> Failure:
     return error
 
 
-def explained(error: Failure) -> str:
-    """What the failure is, and its class as docs/reasons.tsv has it."""
+def explained(error: Failure, data: Optional[bytes] = None) -> str:
+    """What the failure is, and its class as docs/reasons.tsv has it; of a file with these bytes, where they were read."""
     if isinstance(error, hunk.HunkError):
         which = "" if error.hunk is None else f" of hunk {error.hunk}"
-        return f"refused at byte {error.place}: {error.reason}{which}: {error.meaning} ({reasons.class_of(error)})"
+        meaning, kind = reasons.meaning_of(error, data), reasons.class_of(error, data)
+        return f"refused at byte {error.place}: {error.reason}{which}: {meaning} ({kind})"
     if isinstance(error, MemoryError):
         return f"OutOfMemory: {reasons.MEANINGS[reasons.OUT_OF_MEMORY]} ({reasons.NOT_JUDGED})"
     code = "NoFile" if isinstance(error, NoFile) else code_of(error)
@@ -174,9 +184,27 @@ def code_of(error: OSError) -> str:
     return errno.errorcode.get(error.errno or 0, "failed")
 
 
+def foreign(error: hunk.HunkError, data: Optional[bytes]) -> Optional[str]:
+    """What a file is by its first bytes, where it is no hunk file by them."""
+    first = error.first if isinstance(error, LargeError) else data
+    if first is None or error.place or error.number not in (reasons.NOT_LOAD_FILE, *reasons.AT_0):
+        return None
+    with contextlib.suppress(MemoryError):
+        from hunk.command.foreign import what_is
+
+        return what_is(first)
+    return None
+
+
 def hint(error: Failure, data: Optional[bytes], wide: bool) -> str:
-    """That the file is spelled otherwise, where it was not read so, and might be accepted then."""
-    is_other = isinstance(error, hunk.HunkError) and data is not None and not wide and hunk.spelling(data)[1:] != (0, 0)
+    """What the file is where it is no hunk file. That it is spelled otherwise, where it was not read so, and might be accepted then."""
+    if not isinstance(error, hunk.HunkError):
+        return ""
+    what = foreign(error, data)
+    # Of no bytes the reason says all.
+    if what and data != b"":
+        return f"; by its first bytes: {what}"
+    is_other = data is not None and not wide and hunk.spelling(data)[1:] != (0, 0)
     return "; its spelling is one that --wide reads" if is_other else ""
 
 
@@ -190,11 +218,18 @@ def tell_spelling(name: str, spelling: hunk.Spelling) -> None:
 
 def say_refused(name: str, error: Failure, data: Optional[bytes] = None, wide: bool = False) -> None:
     """Says why a file, of which these bytes were read, is not accepted."""
-    say(name, explained(alone(error)) + hint(error, data, wide))
+    say(name, explained(alone(error), data) + hint(error, data, wide))
 
 
-def opened(found: Found, wide: bool, partial: bool = False) -> Optional[hunk.File]:
-    """What stands in a file, or with `partial` before its fault; None where it can't be read or is refused, which is told."""
+class Opened(NamedTuple):
+    """What stands in a file, and the bytes that were read of it, which may spell that otherwise."""
+
+    file: hunk.File
+    data: bytes
+
+
+def opened_whole(found: Found, wide: bool, partial: bool = False) -> Optional[Opened]:
+    """A file, or with `partial` what stands before its fault; None where it can't be read or is refused, which is told."""
     name, data = words.printed(found.name), None
     try:
         data = read_bytes(found)
@@ -203,7 +238,13 @@ def opened(found: Found, wide: bool, partial: bool = False) -> Optional[hunk.Fil
         say_refused(name, error, data, wide)
         return None
     tell_spelling(name, file.spelling)
-    return file
+    return Opened(file, data)
+
+
+def opened(found: Found, wide: bool) -> Optional[hunk.File]:
+    """What stands in a file; None where it can't be read or is refused, which is told."""
+    it = opened_whole(found, wide)
+    return it.file if it else None
 
 
 def each(options: argparse.Namespace, act: Callable[[str, hunk.File], None]) -> int:
@@ -222,14 +263,14 @@ def each(options: argparse.Namespace, act: Callable[[str, hunk.File], None]) -> 
 
 def act_on(found: Found, options: argparse.Namespace, act: Callable[[str, hunk.File], None]) -> bool:
     """Whether the file was accepted, and so what was to be done with it. With --partial it may be done, too, where it was not."""
-    name, file = words.printed(found.name), opened(found, options.wide, options.partial)
-    if file is None:
+    name, it = words.printed(found.name), opened_whole(found, options.wide, options.partial)
+    if it is None:
         return False
-    failure: Optional[Failure] = file.refusal
+    failure: Optional[Failure] = it.file.refusal
     try:
-        act(name, file)
+        act(name, it.file)
     except (hunk.HunkError, MemoryError) as error:
         failure = alone(error)
     if failure:
-        say_refused(name, failure, file.data, options.wide)
+        say_refused(name, failure, it.data, options.wide)
     return not failure

@@ -2,7 +2,7 @@
 
 from __future__ import annotations
 
-from typing import NamedTuple
+from typing import NamedTuple, Optional
 
 import hunk
 
@@ -118,19 +118,50 @@ AT_0 = {
               "see whether it was written at all: it has fewer than 4 bytes",
               "look for another copy: this one is empty, or nearly so"),
 }
+# Those that are of another class where a block has a word of this type, by both. The library tells just the reason.
+AT_WORD = {
+    (16, 0x4E9): Reason("UnknownBlock", "not supported", "a program with PowerPC code, in a CODE block of its own type",
+              "keep it for a PowerPC, or link without PowerPC code",
+              "keep it: it is for a 68000 with a PowerPC beside it, and not known to be damaged"),
+    (16, 0x4EA): Reason("UnknownBlock", "not supported", "a program with PowerPC code, in a DATA block of its own type",
+              "keep it for a PowerPC, or link without PowerPC code",
+              "keep it: it is for a 68000 with a PowerPC beside it, and not known to be damaged"),
+}
 # What an offset of an object file may be wrong for, and what that means.
 FINDINGS = {
     "BadTarget": "the target of the relocation at this offset is no hunk of its unit",
     "OutsideHunk": "what stands at this offset runs past the end of its hunk",
 }
 
-FILE_LIMIT, OUT_OF_MEMORY = 28, 31
+NOT_LOAD_FILE, FILE_LIMIT, OUT_OF_MEMORY = 1, 28, 31
 NOT_JUDGED = "not judged"
 CLASSES = ("no hunk file", "not supported", "damaged", NOT_JUDGED)
+# The bits of a block word that are its type.
+KIND_BITS = 0x1FFFFFFF
 MEANINGS = {number: it.meaning for number, it in ROWS.items()}
 
 
-def class_of(error: hunk.HunkError) -> str:
-    """What is known of the whole file that was refused so."""
-    table = AT_0 if error.place == 0 and error.number in AT_0 else ROWS
-    return table[error.number].kind if error.number in table else NOT_JUDGED
+def told_of(error: hunk.HunkError, data: Optional[bytes]) -> Optional[Reason]:
+    """What else is known of a file that was refused so, by its bytes where they are there: by the place of the fault."""
+    if error.place == 0 and error.number in AT_0:
+        return AT_0[error.number]
+    word = int.from_bytes((data or b"")[error.place : error.place + 4], "big")
+    return AT_WORD.get((error.number, word & KIND_BITS))
+
+
+def class_of(error: hunk.HunkError, data: Optional[bytes] = None) -> str:
+    """What is known of the whole file that was refused so, of which these are the bytes."""
+    row = told_of(error, data) or ROWS.get(error.number)
+    return row.kind if row else NOT_JUDGED
+
+
+def meaning_of(error: hunk.HunkError, data: Optional[bytes] = None) -> str:
+    """Why the file was refused: in the words of the library, unless more is known."""
+    row = told_of(error, data)
+    return row.meaning if row else error.meaning
+
+
+def kind_of_program(error: hunk.HunkError, data: Optional[bytes]) -> Optional[str]:
+    """What a file is by the block for which it was refused; None where that says nothing."""
+    row = told_of(error, data)
+    return row.meaning if row and (error.place or error.number not in AT_0) else None
