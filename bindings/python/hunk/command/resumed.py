@@ -6,28 +6,21 @@ from __future__ import annotations
 
 import contextlib
 import io
-import json
 import os
 import stat
-from typing import Any, Callable, Dict, Iterator, Sequence, Tuple
+from typing import Any, Callable, Iterator, Sequence, Tuple
 
+from hunk.command.forms import NUMBERS, Form, Row
 from hunk.command.judging import CLASSES
 
 # More than any row has. A name of the command line may have 128 KiB, and there may be two, with five characters for a byte.
 LONGEST = 1 << 21
-DIGITS = 20
-NUMBERS = ("byte", "rest")
 WANTED = "--resume takes a new name, or a table that it began with the same flags"
 OLDER = "put that in front of a table of an older version"
 
 
 class TableError(Exception):
     """Says that a file has no rows that this run can go on with."""
-
-
-def head_of(keys: Sequence[str], is_json: bool) -> bytes:
-    """The first line. Those who look for a class pass over it."""
-    return ((json.dumps({"fields": keys}) if is_json else "\t".join(keys)) + "\n").encode()
 
 
 # ---- What may be one.
@@ -58,37 +51,20 @@ def opened(path: str) -> io.FileIO:
 # ---- Its rows.
 
 
-def small(digits: str) -> int:
-    """A number of JSON. A longer one takes long to read, and is none of a row."""
-    if len(digits) > DIGITS:
-        raise ValueError(digits)
-    return int(digits)
-
-
-def is_text_field(key: str, value: str) -> bool:
+def is_field(form: Form, key: str, value: Any) -> bool:
+    """Whether a row may have this value in this field."""
     if key == "class":
         return value in CLASSES
-    return value == "-" or (value.isascii() and value.isdigit() if key in NUMBERS else value != "")
+    if value is None:
+        return key != "name"
+    return form.is_number(value) if key in NUMBERS else isinstance(value, str)
 
 
-def is_json_field(key: str, value: Any) -> bool:
-    if key in ("class", "name"):
-        return isinstance(value, str) and (key == "name" or value in CLASSES)
-    return value is None or isinstance(value, int if key in NUMBERS else str)
-
-
-def row_of(line: bytes, keys: Sequence[str], is_json: bool) -> Any:
+def row_of(line: bytes, form: Form, keys: Sequence[str]) -> Row:
     """The fields of a row by their keys. What is no row is a ValueError, or nested too deeply for JSON."""
-    text = line.decode()
-    if is_json:
-        row = json.loads(text, parse_int=small)
-        is_row = isinstance(row, dict) and tuple(row) == tuple(keys) and all(map(is_json_field, row, row.values()))
-    else:
-        fields = text.split("\t")
-        row = dict(zip(keys, fields))
-        is_row = len(fields) == len(keys) and all(map(is_text_field, row, row.values()))
-    if not is_row:
-        raise ValueError(text)
+    row = form.row_of(line.decode(), keys)
+    if not all(is_field(form, key, value) for key, value in row.items()):
+        raise ValueError(line)
     return row
 
 
@@ -102,20 +78,20 @@ def lines_of(reader: io.BufferedReader) -> Iterator[Tuple[int, bytes]]:
         raise TableError(f"line {number} is longer than a row can be")
 
 
-def take_rows(file: io.FileIO, keys: Sequence[str], is_json: bool, take: Callable[[Dict[str, Any]], None]) -> int:
+def take_rows(file: io.FileIO, form: Form, keys: Sequence[str], take: Callable[[Row], None]) -> int:
     """Gives each row of a table on. Answers the byte at which the last of them ends, 0 of an empty file."""
-    head, reader = head_of(keys, is_json), io.BufferedReader(file)
+    head, reader = form.head(keys).encode(), io.BufferedReader(file)
     try:
         reader.seek(0)
         first = reader.readline(len(head))
         if first != head:
             if first:
-                raise TableError(f"{WANTED}, with the first line {head.decode()[:-1]!r}; {OLDER}")
+                raise TableError(f"{WANTED}, with the first line {head.decode().rstrip()!r}; {OLDER}")
             return 0
         end = len(head)
         for number, line in lines_of(reader):
             try:
-                take(row_of(line[:-1], keys, is_json))
+                take(row_of(line, form, keys))
             except (ValueError, RecursionError):
                 raise TableError(f"line {number} is no row of this form of survey") from None
             end += len(line)

@@ -15,7 +15,9 @@ from typing import Generator, Iterable, Iterator, List, Optional
 
 from hunk.command import inputs, words
 from hunk.command.inputs import Found
-from hunk.command.judging import CLASSES, Row, judge
+from hunk.command.forms import Csv, Form, Json, Tabs
+from hunk.command.judging import CLASSES, Asked, Row, judge
+from hunk.command.progress import Progress
 from hunk.command.reasons import MEANINGS, NOT_JUDGED, OUT_OF_MEMORY
 from hunk.command.resumed import TableError
 from hunk.command.table import Table
@@ -36,22 +38,29 @@ a file, sorted by name, of these fields with a tab between them:
   byte    where the reason was met; - where there is none. Of class wide both are those without --wide
   rest    the bytes after a file that is accepted; - of any other
   sha256, first   with --sha256: the sum of the file, and the first name with the same; - where it is the first
+  file, program, memory, same, first   with --same: sums of the bytes, of the program without names, symbols
+          and debug data, and of what is loaded; the first of these that an earlier file has, and that file
+  what    with --what: what the file is by its first bytes, as `LhA archive`; - where that is not known
   name    what is no printable text of UTF-8 in it, and the backslash, is `\\x` and two digits for each byte
 
-With --json each row is an object of JSON on a line, null in the place of -. Standard error gets how many
+With --json each row is an object of JSON on a line, null in the place of -. With --csv the first line names the
+fields, these have commas between them, and - is left out. Standard error gets how many
 files each class has, and on a terminal how many are done. The status is 1 where a file was not judged.
 Links to files are followed, and those to folders are not."""
 
 # What takes less is not worth the time that processes need to begin.
 SECONDS_ALONE = 1.0
 CHUNK, CHUNKS_AHEAD = 32, 4
-SECONDS_BETWEEN = 0.1
 
 
 def add_arguments(parser: argparse.ArgumentParser) -> None:
     inputs.add_arguments(parser, wide=False)
-    parser.add_argument("--json", action="store_true", help="write each row as an object of JSON")
-    parser.add_argument("--sha256", action="store_true", help="tell the sum of each file, and which have the same bytes")
+    forms, sums = parser.add_mutually_exclusive_group(), parser.add_mutually_exclusive_group()
+    forms.add_argument("--json", action="store_true", help="write each row as an object of JSON")
+    forms.add_argument("--csv", action="store_true", help="write rows of CSV, with a first line that names the fields")
+    sums.add_argument("--sha256", action="store_true", help="tell the sum of each file, and which have the same bytes")
+    sums.add_argument("--same", action="store_true", help="tell three sums of each file, and which have the same program or memory")
+    parser.add_argument("--what", action="store_true", help="tell what each file is by its first bytes")
     parser.add_argument("--resume", metavar="TABLE",
                         help="write the rows to this file, and pass over what has one there: so an interrupted run goes on. "
                         "It is new or empty, or one that --resume began: its first line names the fields")
@@ -88,20 +97,20 @@ def chunks(found: Iterator[Found]) -> Iterator[List[Found]]:
         yield chunk
 
 
-def judge_alone(found: Iterable[Found], has_sum: bool, seconds: float = float("inf")) -> Iterator[List[Row]]:
+def judge_alone(found: Iterable[Found], asked: Asked, seconds: float = float("inf")) -> Iterator[List[Row]]:
     """The rows of the files of so many seconds."""
     begun = time.monotonic()
     for it in found:
-        yield [judge(it, has_sum)]
+        yield [judge(it, asked)]
         if time.monotonic() - begun > seconds:
             return
 
 
-def judge_chunk(chunk: List[Found], has_sum: bool) -> List[Row]:
-    return [judge(it, has_sum) for it in chunk]
+def judge_chunk(chunk: List[Found], asked: Asked) -> List[Row]:
+    return [judge(it, asked) for it in chunk]
 
 
-def judge_by(workers: Workers, found: Iterator[Found], has_sum: bool, ahead: int) -> Iterator[List[Row]]:
+def judge_by(workers: Workers, found: Iterator[Found], asked: Asked, ahead: int) -> Iterator[List[Row]]:
     """The rows of files that processes judge, of which so many chunks are waited for."""
     waiting: collections.deque[Part] = collections.deque()
 
@@ -113,7 +122,7 @@ def judge_by(workers: Workers, found: Iterator[Found], has_sum: bool, ahead: int
                 continue
             part = waiting.popleft()
             # What no process has judged is judged here.
-            yield from judge_alone(part.given, has_sum) if part.answer is None else [part.answer]
+            yield from judge_alone(part.given, asked) if part.answer is None else [part.answer]
 
     for chunk in chunks(found):
         waiting.append(Part(chunk))
@@ -127,59 +136,49 @@ def judge_by(workers: Workers, found: Iterator[Found], has_sum: bool, ahead: int
     yield from done(0)
 
 
-def workers_for(jobs: int, has_sum: bool) -> Optional[Workers]:
+def workers_for(jobs: int, asked: Asked) -> Optional[Workers]:
     """Processes that judge files; None where one is enough, or the system knows none."""
     if jobs > 1:
         with contextlib.suppress(ImportError, NotImplementedError, OSError, MemoryError):
-            return Workers(jobs, functools.partial(judge_chunk, has_sum=has_sum))
+            return Workers(jobs, functools.partial(judge_chunk, asked=asked))
     return None
 
 
-def rows_of(found: Iterator[Found], has_sum: bool, jobs: Optional[int]) -> Generator[List[Row], None, None]:
+def rows_of(found: Iterator[Found], asked: Asked, jobs: Optional[int]) -> Generator[List[Row], None, None]:
     """The rows of files, some at a time, in their order."""
     if jobs is None:
-        yield from judge_alone(found, has_sum, SECONDS_ALONE)
+        yield from judge_alone(found, asked, SECONDS_ALONE)
         jobs = processors()
     first = next(found, None)
     if first is None:
         return
-    found, workers = itertools.chain([first], found), workers_for(jobs, has_sum)
+    found, workers = itertools.chain([first], found), workers_for(jobs, asked)
     if workers is None:
-        yield from judge_alone(found, has_sum)
+        yield from judge_alone(found, asked)
         return
     with workers:
-        yield from judge_by(workers, found, has_sum, CHUNKS_AHEAD * min(jobs, MOST))
+        yield from judge_by(workers, found, asked, CHUNKS_AHEAD * min(jobs, MOST))
 
 
 # ---- What is told meanwhile.
 
 
-class Progress:
-    """How many files are done, on a terminal that shows nothing else."""
-
-    def __init__(self, is_shown: bool) -> None:
-        self.is_shown, self.last, self.begun = is_shown, 0.0, time.monotonic()
-
-    def tell(self, count: int) -> None:
-        now = time.monotonic()
-        if self.is_shown and now - self.last >= SECONDS_BETWEEN:
-            self.last = now
-            print(f"\r{words.counted(count, 'file')}, {now - self.begun:.0f} s ", end="", file=sys.stderr, flush=True)
-
-    def clear(self) -> None:
-        if self.is_shown and self.last:
-            print("\r\x1b[K", end="", file=sys.stderr, flush=True)
-
-
 def summary(table: Table) -> str:
     """How many files each class has."""
     told = f"{words.counted(sum(table.counts.values()), 'file')}: " + ", ".join(f"{table.counts[it]} {it}" for it in CLASSES)
-    return told + (f"; {table.copies} with the bytes of one before" if table.has_sum else "")
+    if table.asked.same:
+        return f"{told}; {table.copies} the same as one before"
+    return told + (f"; {table.copies} with the bytes of one before" if table.asked.sum else "")
+
+
+def form_of(options: argparse.Namespace) -> Form:
+    return Json() if options.json else Csv() if options.csv else Tabs()
 
 
 def run(options: argparse.Namespace) -> int:
+    asked = Asked(options.sha256, options.same, options.what)
     try:
-        table = Table(options.resume, options.json, options.sha256)
+        table = Table(options.resume, form_of(options), asked)
     except (TableError, OSError, MemoryError) as error:
         why = getattr(error, "strerror", None) or str(error) or MEANINGS[OUT_OF_MEMORY]
         print(f"hunk: {words.printed(os.fsencode(options.resume))}: {why}", file=sys.stderr)
@@ -187,11 +186,11 @@ def run(options: argparse.Namespace) -> int:
     progress = Progress(sys.stderr.isatty() and (options.resume is not None or not sys.stdout.isatty()))
     with table:
         missing = (it for it in found_below(options.names) if not table.has(it.name))
-        with contextlib.closing(rows_of(missing, options.sha256, options.jobs)) as judged:
+        with contextlib.closing(rows_of(missing, asked, options.jobs)) as judged:
             try:
                 for rows in judged:
                     table.write(rows)
-                    progress.tell(sum(table.counts.values()))
+                    progress.tell(words.counted(sum(table.counts.values()), "file"))
             finally:
                 progress.clear()
     sys.stdout.flush()

@@ -5,16 +5,43 @@ from __future__ import annotations
 import collections
 import contextlib
 import io
-import json
 import os
 import sys
-from typing import Any, Dict, List, Optional, Set
+from typing import Any, Dict, List, Optional, Sequence, Set, Tuple
 
 from hunk.command import resumed, words
-from hunk.command.judging import Row
+from hunk.command.forms import Form
+from hunk.command.forms import Row as Fields
+from hunk.command.judging import Asked, Row
 
-KEYS = ("class", "reason", "byte", "rest", "name")
-SUM_KEYS = (*KEYS[:4], "sha256", "first", "name")
+KEYS = ("class", "reason", "byte", "rest")
+SUMS = ("file", "program", "memory")
+
+
+def keys_of(asked: Asked) -> Tuple[str, ...]:
+    """The names of the fields of a row."""
+    sums = ("sha256", "first") if asked.sum else (*SUMS, "same", "first") if asked.same else ()
+    return (*KEYS, *sums, *(["what"] if asked.what else []), "name")
+
+
+class Firsts:
+    """The files that have a sum first, for each of the sums of a row."""
+
+    def __init__(self, fields: Sequence[str]) -> None:
+        self.fields = fields
+        self._names: List[Dict[str, str]] = [{} for _ in fields]
+
+    def found(self, sums: Sequence[Optional[str]]) -> Tuple[Optional[str], Optional[str]]:
+        """The first of the sums that an earlier file has, and that file."""
+        for field, value, names in zip(self.fields, sums, self._names):
+            if value and value in names:
+                return field, names[value]
+        return None, None
+
+    def note(self, sums: Sequence[Optional[str]], name: str) -> None:
+        for value, names in zip(sums, self._names):
+            if value:
+                names.setdefault(value, name)
 
 
 class Table:
@@ -22,26 +49,29 @@ class Table:
 
     Rows are written whole: a part of one at the end of the file, of a run that was ended in the middle, is cut off."""
 
-    def __init__(self, path: Optional[str], is_json: bool, has_sum: bool) -> None:
-        self.path, self.is_json, self.has_sum = path, is_json, has_sum
-        self.keys = SUM_KEYS if has_sum else KEYS
+    def __init__(self, path: Optional[str], form: Form, asked: Asked) -> None:
+        self.path, self.form, self.asked = path, form, asked
+        self.keys = keys_of(asked)
         self.counts: collections.Counter[str] = collections.Counter()
         self.copies = 0
+        self._sums = ("sha256",) if asked.sum else SUMS if asked.same else ()
+        self._firsts = Firsts(self._sums)
         self._names: Set[str] = set()
-        self._first: Dict[str, str] = {}
         self._file: Optional[io.FileIO] = None
         self._is_begun = False
         if path is not None:
             with contextlib.ExitStack() as undone:
                 file = undone.enter_context(resumed.opened(path))
-                end = resumed.take_rows(file, self.keys, is_json, self._take)
+                end = resumed.take_rows(file, form, self.keys, self._take)
                 file.truncate(end)
                 undone.pop_all()
             self._file, self._is_begun = file, end > 0
 
     def __enter__(self) -> Table:
-        if self._file and not self._is_begun:
-            self._write_to(self._file, resumed.head_of(self.keys, self.is_json))
+        if self._file is None and self.form.has_head:
+            sys.stdout.write(self.form.head(self.keys))
+        elif self._file and not self._is_begun:
+            self._write_to(self._file, self.form.head(self.keys).encode())
         return self
 
     def __exit__(self, *_: Any) -> None:
@@ -50,16 +80,18 @@ class Table:
 
     # ---- What is done.
 
-    def _take(self, row: Dict[str, Any]) -> None:
+    def _take(self, row: Fields) -> None:
         """Takes a row that is there for done."""
-        self._count(row)
+        self._note(row)
         self._names.add(row["name"])
 
-    def _count(self, row: Dict[str, Any]) -> None:
+    def _note(self, row: Fields) -> None:
         """Notes a row that is written."""
         self.counts[row["class"]] += 1
-        if self.has_sum and row["sha256"] not in (None, "-"):
-            self.copies += self._first.setdefault(row["sha256"], row["name"]) != row["name"]
+        sums = [row[it] for it in self._sums]
+        first = self._firsts.found(sums)[1]
+        self.copies += first is not None and first != row["name"]
+        self._firsts.note(sums, row["name"])
 
     def has(self, name: bytes) -> bool:
         """Whether the file has a row, or is the one in which the rows are."""
@@ -73,16 +105,13 @@ class Table:
     # ---- Writing.
 
     def _line(self, row: Row) -> str:
-        name = words.printed(row.name)
-        fields = [row.kind, row.reason, row.byte, row.rest, name]
-        if self.has_sum:
-            first = self._first.get(row.sum) if row.sum else None
-            fields[4:4] = [row.sum, first]
-        made = dict(zip(self.keys, fields))
-        self._count(made)
-        if self.is_json:
-            return json.dumps(made) + "\n"
-        return "\t".join("-" if it is None else str(it) for it in fields) + "\n"
+        same, first = self._firsts.found(row.sums)
+        known: Fields = dict(zip(KEYS, row[:4]))
+        known.update(zip(self._sums, row.sums))
+        known.update(same=same, first=first, what=row.what, name=words.printed(row.name))
+        made = {key: known[key] for key in self.keys}
+        self._note(made)
+        return self.form.line(made)
 
     def write(self, rows: List[Row]) -> None:
         text = "".join(map(self._line, rows))
