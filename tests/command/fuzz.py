@@ -17,13 +17,14 @@ import tempfile
 import time
 
 import compared
+import disks
 import files
 import resumes
 
 SEED, RUNS, SECONDS = 75, 240, 25
 # So that a run is short: what it gets, and how long it may take.
 MEMORY, LONGEST = 192 << 20, 60
-STATUSES = {"diff": {0, 1, 2}, "lint": {0, 1, 2}, "explain": {0, 2}}
+STATUSES = {"diff": {0, 1, 2}, "lint": {0, 1, 2}, "explain": {0, 2}, "find": {0, 1, 2, 3}}
 NUMBERS = ("0", "1", "4", "60", "1000", "00021000", "fffffff8", "ffffffff", "100000000", "4294967296", "16777216", "-1", "+1", "1_0",
            "0x10", "x", "", " ", "\N{ARABIC-INDIC DIGIT THREE}", str((1 << 64) - 1), str(1 << 64), "9" * 30, "9" * 5000)
 FLAGS = {
@@ -31,7 +32,8 @@ FLAGS = {
     "nm": ("--wide", "-A", "-g", "-n", "-u", "--base N"), "dump": ("--wide", "--base N", "--budget N"),
     "json": ("--wide", "--partial", "--lines"), "map": ("--wide", "--base N"), "diff": ("--wide", "--items"),
     "lint": ("--wide", "--json", "--ignore K", "--ignore K"),
-    "survey": ("--json", "--sha256", "--jobs N", "--resume T"), "explain": (),
+    "survey": ("--json", "--csv", "--sha256", "--same", "--what", "--jobs N", "--resume T"), "explain": (), "same": (),
+    "find": ("--wide", "--raw", "--extract F"),
 }
 KINDS = ("OddOffset", "overlap", "TWICE", "BadTarget", "BadOffset", "1", "")
 REASONS = ("24", "BadOffset", "noentry", "badtarget", "0", "none", "", "9" * 400)
@@ -40,7 +42,8 @@ LONGWORDS = (0, 1, 0x3E7, 0x3E9, 0x3EB, 0x3EC, 0x3EF, 0x3F0, 0x3F1, 0x3F2, 0x3F3
 NAMES = (b"a b", b"-x", b"\xe4\xff", b"line\nline", b"tab\tname", b"back\\slash", b"\x1b[31m", "grün".encode(), b"'\"`$(id)")
 # Words that a run never has on standard error, nor elsewhere.
 NEVER = ("Traceback", "Exception ignored", "Fatal Python", "Warning:", "resource_tracker")
-HEADS = (resumes.JSON_HEAD, resumes.HEAD, resumes.JSON_SUM_HEAD, resumes.SUM_HEAD)
+# How a table begins, of any form and fields.
+HEADS = ('{"fields": ["class", "reason", ', "class\treason\t", "class,reason,")
 
 
 def damaged(chance, data):
@@ -60,6 +63,14 @@ def damaged(chance, data):
     return bytes(made)
 
 
+def damaged_disk(chance, whole):
+    """A disk image in which something is wrong."""
+    image = disks.Image(chance.random() < 0.5)
+    for data in chance.sample(whole, 8):
+        image.file(chance.randbytes(3), data, chance.choice((disks.ROOT, image.folder(chance.randbytes(3)))))
+    return damaged(chance, image.bytes())
+
+
 def make_inputs(chance, folder):
     """Makes the files, and gives their names: of all kinds, and folders."""
     folder.mkdir()
@@ -68,7 +79,8 @@ def make_inputs(chance, folder):
     made = {f"w{i}": data for i, data in enumerate(chance.sample(whole, 12))}
     made.update({f"d{i}": damaged(chance, chance.choice(whole)) for i in range(24)})
     made.update({"empty": b"", "text": b"text\n", "table": f"{resumes.HEAD}\n".encode() + b"load\t-\t-\t0\tw0\nload\t-", "none.o": b"\x7fELF",
-                 "json": f"{resumes.JSON_HEAD}\n".encode() + b"[" * 5000 + b"\n", "large": chance.choice(whole) + bytes(1 << 20)})
+                 "json": f"{resumes.JSON_HEAD}\n".encode() + b"[" * 5000 + b"\n", "large": chance.choice(whole) + bytes(1 << 20),
+                 "disk": damaged_disk(chance, whole), "disks": b"x" + damaged_disk(chance, whole)})
     for name, data in made.items():
         (folder / name).write_bytes(data)
     sub = os.fsencode(folder / "sub")
@@ -91,8 +103,10 @@ def command_line(chance, names, number):
         flag, *value = flag.split()
         # A table is a new one, or one of the files, which are none.
         tables = (f"new-{number}", f"new-{number}", chance.choice(names), "/dev/full", "sub/pipe", "table", "json")
-        words += [flag, *(chance.choice({"N": NUMBERS, "K": KINDS}.get(it, tables)) for it in value)]
-    count = {"diff": 2, "explain": 1}.get(command, chance.randint(1, 4))
+        # What is found goes to a new folder, or to one that is there or is none.
+        folders = (f"found-{number}", "found", "sub", chance.choice(names))
+        words += [flag, *(chance.choice({"N": NUMBERS, "K": KINDS, "F": folders}.get(it, tables)) for it in value)]
+    count = {"diff": 2, "same": 2, "explain": 1}.get(command, chance.randint(1, 4))
     words += chance.choices(REASONS if command == "explain" else names, k=count if chance.random() < 0.9 else chance.randint(0, 3))
     if chance.random() < 0.05:
         words.insert(chance.randrange(len(words) + 1), chance.choice(("--help", "--version", "--", "--no", "-h")))

@@ -21,22 +21,24 @@ from hunk.command import (
     documents,
     dump,
     explain,
+    find,
     inputs,
     lint,
     nm,
     picture,
     relocs,
+    same,
     show,
     size,
     streams,
     survey,
 )
 
-SUBCOMMANDS = (show, size, nm, relocs, dump, documents, picture, differences, lint, survey, explain)
+SUBCOMMANDS = (show, size, nm, relocs, dump, documents, picture, differences, same, lint, survey, find, explain)
 NOT_READ, CANNOT_WRITE, INTERRUPTED, NOBODY_READS = 1, 3, 130, 141
 
 DESCRIPTION = "Tells what stands in hunk files of AmigaDOS, executables and object files."
-EPILOG = """All but diff and explain take files, folders with their subfolders, and - for standard input. `hunk SUBCOMMAND
+EPILOG = """All but diff, same and explain take files, folders with their subfolders, and - for standard input. `hunk SUBCOMMAND
 --help` says more.
 
 What can't be read or is refused is told on standard error, and the others go on:
@@ -45,8 +47,9 @@ What can't be read or is refused is told on standard error, and the others go on
 
 Exit status:
   0    done
-  1    a file was refused or could not be read; of diff: the files differ; of lint: something was told
-  2    the command line was refused; of diff and lint: a file was refused or could not be read
+  1    a file was refused or could not be read; of diff: the files differ; of same: nothing is the same;
+       of lint: something was told; of find: nothing was found
+  2    the command line was refused; of diff, same and lint: a file was refused or could not be read
   3    writing failed
   130  interrupted
   141  what reads the output has ended, as with | head"""
