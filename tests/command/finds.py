@@ -12,7 +12,7 @@ import sys
 import disks
 import files
 from compared import same
-from files import hunk
+from files import called, hunk
 
 sys.path.insert(0, str(files.TOP / "vectors"))
 import hunks  # noqa: E402
@@ -85,10 +85,9 @@ def lines_of(name, found):
     return "".join("\t".join(map(str, [*it, name])) + "\n" for it in found)
 
 
-def find(home, *words, **how):
+def find(*words, given=None):
     """What is printed, and what else is said, and the status."""
-    printed, said, status = hunk("find", *words, folder=home, **how)
-    return printed, said, status
+    return called(["find", *words]) if given is None else hunk("find", *words, folder=".", given=given)
 
 
 # ---- Any bytes.
@@ -125,14 +124,22 @@ def any_bytes(home):
             data = mixed(chance, its, size)
             (home / "mixed").write_bytes(data)
             found = hits_in(data, bool(words))
-            got = find(home, *words, "mixed")
+            got = find(*words, "mixed")
             counted = f"{len(found)} hunk file{'' if len(found) == 1 else 's'} in 1 file\n"
             same(f"find {words} {size}", got, (lines_of("mixed", found), counted, 0 if found else 1))
             if size == most:
-                same("find - of as many", find(home, *words, "-", given=data)[0], lines_of("-", found))
-                same("many are found", len(found) > most // 2, True)
+                same("find - of as many", find(*words, "-", given=data)[0], lines_of("-", found))
+                same("many are found", len(found) > most // 6, True)
+    object_file = bytes.fromhex(files.OBJECT)
+    tails = ("000003e8 00000001 61000000", "000003e9 00000001 4e714e71", "000003e9 00000001 4e714e71 000003f0", "000003f1 00000000 0000",
+             "000003e7 00000000", "000003e7 00000001 61000000 000003e7 00000000 000003eb 00000001 000003f2", "000003f2", "00")
+    for tail in tails:
+        data = b"x" + object_file + bytes.fromhex(tail)
+        found = hits_in(data)
+        same(f"an object file before {tail}", find("-", given=data)[0], lines_of("-", found))
+        same(f"an object file before {tail}", found[0][:2], [1, len(object_file) + (32 if tail.count("3e7") == 2 else 0)])
     for data in (b"", b"\0\0\3", b"\0\0\3\xf3", bytes(5000), b"\0\0\3\xf3" * 5000, b"\0\0\3\xe7" * 5000, b"\0\0\3\xe7\0\0\0\0" * 5000):
-        same(f"find in {data[:8]!r}", find(home, "-", given=data), ("", "0 hunk files in 1 file\n", 1))
+        same(f"find in {data[:8]!r}", find("-", given=data), ("", "0 hunk files in 1 file\n", 1))
 
 
 def wide_texts():
@@ -149,9 +156,9 @@ def large(home):
             made.seek(place)
             made.write(data)
     wanted = lines_of("large", [[place, len(data), "load", 2, 60, "-"] for place in places])
-    same("find in 100 MB", find(home, "large"), (wanted, "3 hunk files in 1 file\n", 0))
+    same("find in 100 MB", find("large"), (wanted, "3 hunk files in 1 file\n", 0))
     os.unlink(home / "large")
-    printed, said, status = find(home, "none", "sum")
+    printed, said, status = find("none", "sum")
     same("find of no file", (printed, said.splitlines()[0], status),
          (lines_of("sum", [[0, len(data), "load", 2, 60, "-"]]), "hunk: none: ENOENT: No such file or directory (not judged)", 1))
     with open("/dev/full", "wb") as full:
@@ -245,10 +252,10 @@ def images(home):
             (home / "a.adf").write_bytes(whole)
             # On FFS nothing says that the blocks of the last are a file, but what lies together is found.
             wanted = wanted_of("a.adf", wanted + deleted + (left_in(image, whole, blocks) if is_fast else []))
-            printed, said, status = find(home, "a.adf")
+            printed, said, status = find("a.adf")
             what = f"an image, {'FFS' if is_fast else 'OFS'}, {'in disorder' if order else 'in order'}"
             same(what, (told(printed), said, status), (wanted, f"{len(wanted)} hunk files in 1 file\n", 0))
-            same(f"{what}, --raw", find(home, "--raw", "a.adf")[0], lines_of("a.adf", hits_in(whole)))
+            same(f"{what}, --raw", find("--raw", "a.adf")[0], lines_of("a.adf", hits_in(whole)))
             by_unadf(home, image)
 
 
@@ -277,7 +284,7 @@ def damaged(home):
         longs[disks.ROOT][7] = disks.BLOCKS
         longs[header[4]][77] = header[5]
         (home / "b.adf").write_bytes(image.bytes())
-        printed, _, status = find(home, "b.adf")
+        printed, _, status = find("b.adf")
         names = {it[0] for it in told(printed) if list(it[1:]) == fields}
         whole = {f"b.adf!{'f/' if i % 2 else ''}n{i}" for i in (0, 1, 2, 3, 5)}
         same("a damaged image", (whole - names, status), (set(), 0))
@@ -285,7 +292,7 @@ def damaged(home):
         same("a damaged image", sum(it[2] == str(len(data)) for it in told(printed)), 6)
         image.wipe(disks.ROOT)
         (home / "b.adf").write_bytes(image.bytes())
-        names = {it[0] for it in told(find(home, "b.adf")[0])}
+        names = {it[0] for it in told(find("b.adf")[0])}
         same("no root", {f"b.adf!deleted/{header[i]}/n{i}" for i in (0, 1, 2, 3, 5)} - names, set())
         whole = image.bytes()
         for _ in range(12):
@@ -295,7 +302,7 @@ def damaged(home):
                 made[at : at + 4] = chance.choice((0, 2, 880, at // 512, 1759, 2**32 - 3, chance.getrandbits(32))).to_bytes(4, "big")
             made[:4] = whole[:4]
             (home / "b.adf").write_bytes(made)
-            same("an image with wrong longwords", find(home, "b.adf")[2] in (0, 1), True)
+            same("an image with wrong longwords", find("b.adf")[2] in (0, 1), True)
 
 
 # ---- The folder.
@@ -318,7 +325,7 @@ def extracted(home):
     (there / "sub/x.adf").write_bytes(image.bytes())
     (there / "prog").write_bytes(data)
     before = sorted(map(str, home.rglob("*")))
-    printed, said, status = find(home, "--extract", "out", "found-in")
+    printed, said, status = find("--extract", "out", "found-in")
     lines = printed.splitlines()
     made = kept_in(home / "out")
     count = 2 * (len(NAMES) + 2) + 1
@@ -326,30 +333,46 @@ def extracted(home):
     same("--extract", {*made.values()}, {data, object_file})
     same("names in the folder", [it for it in made if not re.fullmatch(r"[A-Za-z0-9_!][A-Za-z0-9._!-]*\+[0-9a-f]+(-\d+)?", it)], [])
     same("some names", {"prog+0", "x.adf!both+0", f"x.adf!both+{len(data):x}", "x.adf!same+0", "x.adf!same+0-2",
-                        "x.adf!.._x2fx+0".replace(".._x2f", ".._x2f")} - {*made}, set())
+                        "x.adf!.._x2fx+0"} - {*made}, set())
     same("nothing else", sorted(it for it in map(str, home.rglob("*")) if not it.startswith(str(home / "out"))), before)
-    again, said, status = find(home, "--extract", "out", "found-in")
+    again, said, status = find("--extract", "out", "found-in")
     same("--extract again", (again, said.count(": is there already\n"), status, kept_in(home / "out")), (printed, count, 0, made))
     (home / "out/prog+0").write_bytes(b"mine")
     os.unlink(home / "out/x.adf!both+0")
     os.symlink("../other", home / "out/x.adf!both+0")
-    printed, said, status = find(home, "--extract", "out", "found-in")
+    printed, said, status = find("--extract", "out", "found-in")
     kept = [line for line in said.splitlines() if line.endswith("another file has this name, and is kept")]
     same("others stay", (len(kept), status, (home / "out/prog+0").read_bytes(), (home / "other").exists()), (2, 1, b"mine", False))
     # What was written is not looked at, where the folder is in one that is.
     shutil.rmtree(home / "out")
-    same("its own folder", len(find(home, "--extract", "found-in/out", "found-in")[0].splitlines()), count)
-    same("its own folder", len(find(home, "--extract", "found-in/out", "found-in")[0].splitlines()), count)
+    same("its own folder", len(find("--extract", "found-in/out", "found-in")[0].splitlines()), count)
+    same("its own folder", len(find("--extract", "found-in/out", "found-in")[0].splitlines()), count)
     (home / "file").write_bytes(b"a file")
-    printed, said, status = find(home, "--extract", "file", "sum")
+    printed, said, status = find("--extract", "file", "sum")
     same("no folder", (printed.count("\n"), said.startswith("hunk: file/sum+0: writing failed: "), status), (1, True, 3))
     same("no folder", (home / "file").read_bytes(), b"a file")
 
 
+def half_written():
+    """A file that can't be written whole is not there, and the others are."""
+    with open("both", "wb") as made, open("sum", "rb") as small:
+        made.write(small.read() + bytes.fromhex("000003f3 00000000 00000001 00000000 00000000 00000200 000003e9 00000200"))
+        made.write(bytes(2048) + bytes.fromhex("000003f2"))
+    # Of 1 KiB.
+    line = 'ulimit -f 2 && exec "$0" -W error -m hunk find --extract half both'
+    ran = subprocess.run(["sh", "-c", line, sys.executable], env=files.ENVIRONMENT, capture_output=True, text=True, timeout=60)
+    said = "hunk: half/both+84: writing failed: File too large\n2 hunk files in 1 file\n"
+    same("a file that is too large", (ran.stdout.count("\n"), ran.stderr, ran.returncode, os.listdir("half")), (2, said, 3, ["both+0"]))
+    same("and without that limit", (find("--extract", "half", "both")[2], sorted(os.listdir("half"))), (0, ["both+0", "both+84"]))
+
+
 def tried(home):
+    os.chdir(home)
     any_bytes(home)
     large(home)
     terminal(home)
     images(home)
     damaged(home)
     extracted(home)
+    half_written()
+    os.chdir(files.TOP)
