@@ -10,8 +10,10 @@ import sys
 
 TOP = pathlib.Path(__file__).resolve().parents[2]
 COMMAND = [sys.executable, "-W", "error", "-m", "hunk"]
-# Prints how many bytes of addresses the command takes to begin.
-PEAK = 'import re, hunk.command; print(1024 * int(re.search(r"VmPeak:\\s*(\\d+)", open("/proc/self/status").read())[1]))'
+# Prints how many bytes of addresses the command takes to begin, with the modules of all that it can do.
+PEAK = """import re, hunk.command
+[*map(hunk.command.module_of, hunk.command.NAMES)]
+print(1024 * int(re.search(r"VmPeak:\\s*(\\d+)", open("/proc/self/status").read())[1]))"""
 ENVIRONMENT = {**os.environ, "PYTHONPATH": str(TOP / "bindings/python"), "PYTHONDONTWRITEBYTECODE": "1"}
 
 # A unit `a` of two hunks: CODE of 16 bytes in chip memory, with a relocation at 2 of what stands 8 bytes on in hunk 1, and an EXT

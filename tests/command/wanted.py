@@ -124,6 +124,7 @@ RUNS = [
 # Words that are refused.
 REFUSED_WORDS = ["", "none sum", "show", "show --no sum", "dump --base xyz sum", "dump --base 100000000 sum",
                  "dump --budget -1 sum", "diff sum", "survey --jobs x sum", "explain 0", "explain -1",
-                 "explain 26 32", "lint", "lint --ignore 1 sum", "lint --ignore none sum", "lint --ignore", "lint --no sum",
+                 "explain 26 32", "dump --base 0x sum", "dump --base +1 sum", "dump --base 1_0 sum", "nm --base x1000 sum", "- show sum",
+                 "lint", "lint --ignore 1 sum", "lint --ignore none sum", "lint --ignore", "lint --no sum",
                  "same", "same sum", "same sum sum sum", "find", "find --extract", "find --base 0 sum", "survey --csv --json sum",
                  "survey --same --sha256 sum"]

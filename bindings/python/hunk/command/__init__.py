@@ -1,44 +1,39 @@
 """The command `hunk`: what stands in hunk files of AmigaDOS.
 
-    hunk SUBCOMMAND FILE..
+    hunk COMMAND FILE..
     hunk explain REASON..
 
-Each subcommand is a module beside this one, with its name, its help, its arguments and its run, which answers the status: 0 where
+Each command is a module beside this one, with its name, its help, its arguments and its run, which answers the status: 0 where
 all is well, 1 where a file was refused or could not be read (the others are done), 2 of a command line that is refused, 3 where
-nothing more can be written, 130 of ^C, and 141 where nobody reads any more of what is printed.
+nothing more can be written, 130 of ^C, and 141 where nobody reads any more of what is printed. The module of a command is imported
+when that is called, so that no other takes time to begin.
 """
 
 from __future__ import annotations
 
 import argparse
 import contextlib
+import importlib
 import sys
-from typing import Any, Optional, Sequence
+from typing import Any, Iterator, Optional, Sequence
 
 import hunk
-from hunk.command import (
-    differences,
-    documents,
-    dump,
-    explain,
-    find,
-    inputs,
-    lint,
-    nm,
-    picture,
-    relocs,
-    same,
-    show,
-    size,
-    streams,
-    survey,
-)
+from hunk.command import inputs, streams
 
-SUBCOMMANDS = (show, size, nm, relocs, dump, documents, picture, differences, same, lint, survey, find, explain)
+# The commands, by what people want.
+GROUPS = (
+    ("See what stands in files", ("show", "size", "nm", "relocs", "dump", "json", "map")),
+    ("Find out what is wrong", ("lint", "explain")),
+    ("Sort, find and compare files", ("survey", "find", "diff", "same")),
+)
+NAMES = tuple(name for _, names in GROUPS for name in names)
+# The modules that have another name than their command.
+MODULES = {"json": "documents", "map": "picture", "diff": "differences"}
 NOT_READ, CANNOT_WRITE, INTERRUPTED, NOBODY_READS = 1, 3, 130, 141
 
+USAGE = "hunk [-h] [--version] COMMAND .."
 DESCRIPTION = "Tells what stands in hunk files of AmigaDOS, executables and object files."
-EPILOG = """All but diff, same and explain take files, folders with their subfolders, and - for standard input. `hunk SUBCOMMAND
+EPILOG = """All but diff, same and explain take files, folders with their subfolders, and - for standard input. `hunk COMMAND
 --help` says more.
 
 What can't be read or is refused is told on standard error, and the others go on:
@@ -55,6 +50,11 @@ Exit status:
   141  what reads the output has ended, as with | head"""
 
 
+def module_of(name: str) -> Any:
+    """The module of a command."""
+    return importlib.import_module(f"hunk.command.{MODULES.get(name, name)}")
+
+
 class Parser(argparse.ArgumentParser):
     """A parser that does not pass over what it can't print, as argparse does in some versions."""
 
@@ -62,22 +62,45 @@ class Parser(argparse.ArgumentParser):
         (file or sys.stderr).write(message)
 
 
-def make_parser() -> Parser:
+class TopParser(Parser):
+    """The parser of `hunk` itself. Its help has the commands in their groups."""
+
+    def format_help(self) -> str:
+        self.description = "\n\n".join([DESCRIPTION, *group_texts()])
+        return super().format_help()
+
+
+def group_texts() -> Iterator[str]:
+    """Each group of commands, with a line for each."""
+    width = max(map(len, NAMES))
+    for title, names in GROUPS:
+        yield "\n".join([f"{title}:", *(f"  {it:{width}}  {module_of(it).HELP}" for it in names)])
+
+
+def named(words: Sequence[str]) -> Sequence[str]:
+    """The command that a command line names; where it names none, all that it might."""
+    first = next((it for it in words if it == "-" or not it.startswith("-")), "")
+    return (first,) if first in NAMES else NAMES
+
+
+def make_parser(words: Sequence[str]) -> Parser:
+    """The parser of these words, which has just the command that they name."""
     form = argparse.RawDescriptionHelpFormatter
-    parser = Parser(prog="hunk", description=DESCRIPTION, epilog=EPILOG, formatter_class=form)
-    parser.add_argument("--version", action="version", version=f"hunk {hunk.__version__}")
-    made = parser.add_subparsers(title="subcommands", metavar="SUBCOMMAND", required=True)
-    for it in SUBCOMMANDS:
-        subparser = made.add_parser(it.NAME, help=it.HELP, description=it.DESCRIPTION, formatter_class=form)
-        it.add_arguments(subparser)
-        subparser.set_defaults(run=it.run)
+    parser = TopParser(prog="hunk", usage=USAGE, epilog=EPILOG, formatter_class=form)
+    parser.add_argument("--version", action="version", version=f"hunk {hunk.__version__}", help="print the version")
+    made = parser.add_subparsers(prog="hunk", metavar="COMMAND", required=True, help=argparse.SUPPRESS, parser_class=Parser)
+    for name in named(words):
+        module = module_of(name)
+        subparser = made.add_parser(name, description=module.DESCRIPTION, formatter_class=form)
+        module.add_arguments(subparser)
+        subparser.set_defaults(run=module.run)
     return parser
 
 
-def run(words: Optional[Sequence[str]]) -> int:
+def run(words: Sequence[str]) -> int:
     """Does what the words say, and answers the status. All that is printed is then written."""
     try:
-        options = make_parser().parse_args(words)
+        options = make_parser(words).parse_args(words)
         status = options.run(options)
     except SystemExit as ended:
         # Help was printed, or what is wrong with the words.
@@ -93,7 +116,7 @@ def main(words: Optional[Sequence[str]] = None) -> int:
     """Runs the command with these words, or those of the command line. Answers its status."""
     try:
         streams.prepare()
-        return run(words)
+        return run(sys.argv[1:] if words is None else words)
     except KeyboardInterrupt:
         with contextlib.suppress(OSError):
             sys.stdout.flush()

@@ -3,7 +3,6 @@
 from __future__ import annotations
 
 import argparse
-import difflib
 from typing import Dict, Iterator, List
 
 from hunk.command.judging import FINDINGS as OF_FINDINGS
@@ -55,11 +54,18 @@ def known() -> Dict[str, List[str]]:
     return found
 
 
+def names() -> List[str]:
+    """What is explained, by name."""
+    return [*dict.fromkeys([*(it.name for it in ROWS.values()), *FINDINGS, *KINDS])]
+
+
 def near(word: str) -> List[str]:
     """The names in which a word stands; where there are none, those that are spelled like it."""
-    names = {name.lower(): name for name in (*(it.name for it in ROWS.values()), *FINDINGS, *KINDS)}
-    having = [it for it in names if word and word in it]
-    return [names[it] for it in having or difflib.get_close_matches(word, names, cutoff=0.5)]
+    import difflib
+
+    found = {name.lower(): name for name in names()}
+    having = [it for it in found if word and word in it]
+    return [found[it] for it in having or difflib.get_close_matches(word, found, cutoff=0.5)]
 
 
 def text_of(word: str) -> str:
@@ -67,8 +73,8 @@ def text_of(word: str) -> str:
     texts = known().get(word.lower())
     if texts:
         return "\n".join(texts)
-    names = near(word.lower())
-    told = f"near it: {', '.join(names)}" if names else "hunk explain lists all"
+    found = near(word.lower())
+    told = f"near it: {', '.join(found)}" if found else "hunk explain lists all"
     raise argparse.ArgumentTypeError(f"{word!r} is no reason; {told}")
 
 

@@ -7,6 +7,8 @@ from functools import lru_cache
 
 import hunk
 
+HEX_DIGITS = "0123456789ABCDEFabcdef"
+
 
 def printed(name: bytes) -> str:
     """The name of a file on one line. What is no printable text of UTF-8, and the backslash, is `\\x` and two digits a byte."""
@@ -50,11 +52,10 @@ def place_text(which: str, offset: int) -> str:
 
 
 def address(text: str) -> int:
-    """An address of the command line, in hexadecimal digits."""
-    try:
-        value = int(text, 16)
-    except ValueError:
-        value = -1
+    """An address of the command line, in hexadecimal digits, with 0x in front of them or without."""
+    digits = text[2:] if text[:2] in ("0x", "0X") else text
+    # Python itself takes signs, spaces and digits of other scripts, too.
+    value = int(digits, 16) if digits and not digits.strip(HEX_DIGITS) else -1
     if not 0 <= value < 1 << 32:
         raise argparse.ArgumentTypeError(f"{text!r} is no address of 32 bits in hexadecimal digits")
     return value
