@@ -81,6 +81,19 @@ RUNS = [
      "Total        32\n\n\n", "", 0),
     ("size -A --base 1000 attributes", "attributes  :\nsection   size   addr   memory\n"
      "0:CODE       8   4096   attributes 0x00010004\n1:BSS        4   4104   any\nTotal       12\n\n\n", "", 0),
+    ("size --json -t sum part.o", '{"name": "sum", "text": 48, "data": 0, "bss": 12, "total": 60}\n'
+     '{"name": "part.o", "text": 16, "data": 0, "bss": 16, "total": 32}\n'
+     '{"name": null, "text": 64, "data": 0, "bss": 28, "total": 92}\n', "", 0),
+    ("size --json -A --base 1000 attributes", '{"name": "attributes", "unit": 0, "hunk": 0, "kind": "CODE", "bytes": 8,'
+     ' "address": 4096, "memory": "attributes", "attributes": 65540}\n{"name": "attributes", "unit": 0, "hunk": 1, "kind": "BSS",'
+     ' "bytes": 4, "address": 4104, "memory": "any", "attributes": 0}\n', "", 0),
+    ("nm --json -A text part.o", "".join(f'{{"name": "part.o", "value": {value}, "letter": "{letter}", "symbol": "{name}",'
+     f' "external": {external}}}\n' for value, letter, name, external in ((4, "T", "_a", "true"), ("null", "U", "_b", "true"),
+     (4660, "A", "_c", "true"), (16, "C", "_d", "true"), (24, "B", "buf", "false"))), f"hunk: text: {NO_HUNK_FILE}\n", 1),
+    ("relocs --json part.o symbol", "".join(f'{{"name": "part.o", "place": {place}, "unit": 0, "hunk": 0, "offset": {offset},'
+     f' "width": 4, "kind": "{kind}", "target": {target}, "value": {value}, "symbols": ["{name}"]}}\n'
+     for place, offset, kind, target, value, name in ((48, 2, "RELOC32", 1, 8, "buf"), (84, 8, "REF32", "null", 0, "_b"),
+     (116, 12, "COMMON", "null", 0, "_d"))), "", 0),
     ("nm part.o", "00000004 T _a\n         U _b\n00001234 A _c\n00000010 C _d\n00000018 B buf\n", "", 0),
     ("nm -n part.o", "         U _b\n00000010 C _d\n00000004 T _a\n00000018 B buf\n00001234 A _c\n", "", 0),
     ("nm -g --base 21000 part.o", "00021004 T _a\n         U _b\n00001234 A _c\n00000010 C _d\n", "", 0),

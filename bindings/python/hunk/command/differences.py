@@ -30,8 +30,7 @@ Items = Sequence[Tuple[Hashable, str]]
 def add_arguments(parser: argparse.ArgumentParser) -> None:
     parser.add_argument("first", metavar="A", help="a file; - is standard input")
     parser.add_argument("second", metavar="B", help="another")
-    parser.add_argument("--wide", action="store_true",
-                        help="read short relocations, and hunks whose END is left out, as their plain spelling")
+    parser.add_argument("--wide", action="store_true", help=inputs.WIDE)
     parser.add_argument("--items", action="store_true", help="list the items that only one of them has")
 
 

@@ -18,6 +18,7 @@ from hunk.command import reasons, words
 # The library itself has no limit; this is that of the program hunkinfo.
 LIMIT = 67108864
 STANDARD_INPUT = b"-"
+WIDE = "read short relocations, and hunks whose END is left out, as their plain spelling"
 # The first longword says whether a file begins as a hunk file, and so many bytes what it is else.
 LONGWORD, FIRST = 4, 1088
 PIECE = 1 << 20
@@ -49,12 +50,13 @@ class Found(NamedTuple):
     error: Optional[OSError] = None
 
 
-def add_arguments(parser: argparse.ArgumentParser, wide: bool = True, partial: bool = False) -> None:
-    """The arguments that subcommands have in common."""
+def add_arguments(parser: argparse.ArgumentParser, wide: bool = True, partial: bool = False, json: str = "") -> None:
+    """The arguments that commands have in common; --json where there is a row of this for each line of text."""
     parser.add_argument("names", metavar="FILE", nargs="+", help="a file, a folder with its subfolders, or - for standard input")
     if wide:
-        parser.add_argument("--wide", action="store_true",
-                            help="read short relocations, and hunks whose END is left out, as their plain spelling")
+        parser.add_argument("--wide", action="store_true", help=WIDE)
+    if json:
+        parser.add_argument("--json", action="store_true", help=f"write an object of JSON on a line for each {json}")
     if partial:
         parser.add_argument("--partial", action="store_true", help="of a file that is refused, tell what stands before the fault")
     else:

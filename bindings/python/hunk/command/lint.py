@@ -3,11 +3,10 @@
 from __future__ import annotations
 
 import argparse
-import json
-from typing import Any, Dict, Iterator
+from typing import Any, Dict, Iterator, Sequence
 
 import hunk
-from hunk.command import inputs, words
+from hunk.command import inputs, jsonlines, words
 from hunk.command.reasons import FINDINGS
 from hunk.command.warning_kinds import KINDS
 from hunk.rows import MEMORY
@@ -39,19 +38,23 @@ TEXTS = {
 }
 
 
+def kinds() -> Sequence[str]:
+    """What may be told, by name."""
+    return *KINDS, *FINDINGS
+
+
 def kind_named(text: str) -> str:
     """A kind of the command line, in small or capital letters."""
-    kinds = {it.lower(): it for it in (*KINDS, *FINDINGS)}
-    if text.lower() not in kinds:
-        raise argparse.ArgumentTypeError(f"{text!r} is none of {', '.join(kinds.values())}")
-    return kinds[text.lower()]
+    found = {it.lower(): it for it in kinds()}
+    if text.lower() not in found:
+        raise argparse.ArgumentTypeError(f"{text!r} is none of {', '.join(found.values())}")
+    return found[text.lower()]
 
 
 def add_arguments(parser: argparse.ArgumentParser) -> None:
-    inputs.add_arguments(parser)
+    inputs.add_arguments(parser, json="warning or finding")
     parser.add_argument("--ignore", metavar="KIND", action="append", default=[], type=kind_named,
                         help="do not tell of this kind; may be given more than once")
-    parser.add_argument("--json", action="store_true", help="write each as an object of JSON on a line")
 
 
 class Names:
@@ -106,6 +109,6 @@ def run(options: argparse.Namespace) -> int:
         for row in rows_of(file):
             if row["kind"] not in options.ignore:
                 status = TOLD
-                print(json.dumps({"name": name, **row}) if options.json else f"{name}: {line_of(row, file)}")
+                print(jsonlines.text_of({"name": name, **row}) if options.json else f"{name}: {line_of(row, file)}")
 
     return REFUSED if inputs.each(options, tell) else status

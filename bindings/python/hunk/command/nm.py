@@ -3,10 +3,10 @@
 from __future__ import annotations
 
 import argparse
-from typing import Iterator, NamedTuple, Optional
+from typing import Any, Dict, Iterator, NamedTuple, Optional
 
 import hunk
-from hunk.command import inputs, words
+from hunk.command import inputs, jsonlines, words
 from hunk.command.layout import COMMON, Layout
 
 NAME = "nm"
@@ -28,7 +28,7 @@ class Name(NamedTuple):
 
 
 def add_arguments(parser: argparse.ArgumentParser) -> None:
-    inputs.add_arguments(parser)
+    inputs.add_arguments(parser, json="name")
     parser.add_argument("-A", "-o", "--print-file-name", dest="with_file", action="store_true", help="the file before each name")
     parser.add_argument("-g", "--extern-only", dest="external", action="store_true", help="only names of EXT blocks")
     parser.add_argument("-n", "--numeric-sort", dest="by_value", action="store_true", help="sorted by value")
@@ -73,16 +73,22 @@ def line(name: Name) -> str:
     return f"{value} {name.letter} {words.text_of(name.name)}"
 
 
+def object_of(file: str, name: Name) -> Dict[str, Any]:
+    """The same as an object. A name of the file is taken for ISO 8859-1."""
+    value = None if name.letter == "U" else name.value
+    return {"name": file, "value": value, "letter": name.letter, "symbol": name.name.decode("latin-1"), "external": name.is_external}
+
+
 def print_names(name: str, file: hunk.File, options: argparse.Namespace, head: Optional[str]) -> None:
     """The names of a file that are asked for."""
     found = [*names_of(file, options.base)]
     if not found:
         inputs.say(name, "no symbols")
     found = [it for it in found if it.is_external >= options.external and (it.letter == "U" or not options.undefined)]
-    if head is not None and not options.with_file:
+    if head is not None and not options.with_file and not options.json:
         print(head)
     for it in sorted(found, key=by_value if options.by_value else None):
-        print(f"{name}:{line(it)}" if options.with_file else line(it))
+        print(jsonlines.text_of(object_of(name, it)) if options.json else f"{name}:{line(it)}" if options.with_file else line(it))
 
 
 def run(options: argparse.Namespace) -> int:

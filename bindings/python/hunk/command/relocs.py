@@ -3,10 +3,10 @@
 from __future__ import annotations
 
 import argparse
-from typing import Iterator
+from typing import Any, Dict, Iterator, Sequence
 
 import hunk
-from hunk.command import inputs
+from hunk.command import inputs, jsonlines
 from hunk.command.layout import Layout, Patch, patches
 from hunk.command.words import hunk_text, place_text, text_of
 
@@ -17,7 +17,9 @@ the kind, what the bytes point to, and the symbols that stand there. `1+0x4` is 
 an object file the hunk 2.1 is the hunk 1 of the unit 2. References of EXT blocks follow, with the name
 that they refer to. Where several files are named, `== NAME` stands before each."""
 
-add_arguments = inputs.add_arguments
+
+def add_arguments(parser: argparse.ArgumentParser) -> None:
+    inputs.add_arguments(parser, json="relocation or reference")
 
 
 class Targets:
@@ -27,15 +29,24 @@ class Targets:
         self.file, self.layout = file, Layout(file)
         self.names = self.layout.names()
 
-    def text(self, patch: Patch) -> str:
-        """What the bytes point to, and the symbols there."""
-        if patch.target < 0:
-            return text_of(patch.name)
+    def value(self, patch: Patch) -> int:
+        """The number that stands there, with its sign."""
         value = self.layout.value_at(self.layout.places[patch.unit, patch.hunk], patch.offset, patch.width)
         sign = 1 << (8 * patch.width - 1)
-        value = (value + sign) % (2 * sign) - sign
-        names = self.names.get((patch.unit, patch.target, value), [])
-        return " ".join([place_text(hunk_text(self.file, patch.unit, patch.target), value), *map(text_of, names)])
+        return (value + sign) % (2 * sign) - sign
+
+    def symbols(self, patch: Patch) -> Sequence[bytes]:
+        """The name that the bytes refer to, or the symbols that stand where they point to."""
+        if patch.target < 0:
+            return [patch.name]
+        return self.names.get((patch.unit, patch.target, self.value(patch)), [])
+
+    def text(self, patch: Patch) -> str:
+        """What the bytes point to, and the symbols there."""
+        names = [*map(text_of, self.symbols(patch))]
+        if patch.target < 0:
+            return names[0]
+        return " ".join([place_text(hunk_text(self.file, patch.unit, patch.target), self.value(patch)), *names])
 
 
 def lines(file: hunk.File) -> Iterator[str]:
@@ -45,10 +56,23 @@ def lines(file: hunk.File) -> Iterator[str]:
         yield f"{which:>5} 0x{it.offset:08x} {it.width} {it.kind.name:10} {targets.text(it)}"
 
 
+def objects(name: str, file: hunk.File) -> Iterator[Dict[str, Any]]:
+    """The same as objects. A reference has no target. Names of the file are taken for ISO 8859-1."""
+    targets = Targets(file)
+    for it in patches(file):
+        symbols = [each.decode("latin-1") for each in targets.symbols(it)]
+        yield {"name": name, "place": it.place, "unit": it.unit, "hunk": it.hunk, "offset": it.offset, "width": it.width,
+               "kind": it.kind.name, "target": None if it.target < 0 else it.target, "value": targets.value(it), "symbols": symbols}
+
+
 def run(options: argparse.Namespace) -> int:
     has_heads = inputs.are_many(options.names)
 
     def print_relocations(name: str, file: hunk.File) -> None:
+        if options.json:
+            for made in objects(name, file):
+                print(jsonlines.text_of(made))
+            return
         if has_heads:
             print("==", name)
         for line in lines(file):

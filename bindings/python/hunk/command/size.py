@@ -3,10 +3,10 @@
 from __future__ import annotations
 
 import argparse
-from typing import Optional
+from typing import Any, Dict, Iterator, Optional
 
 import hunk
-from hunk.command import inputs, words
+from hunk.command import inputs, jsonlines, words
 from hunk.command.layout import Layout
 
 NAME = "size"
@@ -15,14 +15,14 @@ DESCRIPTION = """Prints the bytes in memory of the hunks of each file in the Ber
 text, those of DATA data, and those of BSS bss, each with the zero bytes that the file does not have.
 With -A there is a line a hunk, with the memory that it asks for: any, chip, fast or attributes. A hunk
 has no address, so that is 0, unless --base says where the first lies. Of an object file the hunk 1.0
-is the hunk 0 of the unit 1."""
+is the hunk 0 of the unit 1. With --json the object of the totals has no name."""
 
 COLUMNS = (hunk.Kind.CODE, hunk.Kind.DATA, hunk.Kind.BSS)
 HEAD = "   text\t   data\t    bss\t    dec\t    hex\tfilename"
 
 
 def add_arguments(parser: argparse.ArgumentParser) -> None:
-    inputs.add_arguments(parser)
+    inputs.add_arguments(parser, json="file, with -A for each hunk")
     parser.add_argument("-A", dest="by_hunk", action="store_true", help="the SysV form: a line a hunk")
     parser.add_argument("-t", "--totals", action="store_true", help="the totals of all files, in the Berkeley form")
     parser.add_argument("--base", metavar="HEX", type=words.address, help="with -A: the address of the first hunk")
@@ -50,18 +50,46 @@ def print_hunks(name: str, file: hunk.File, base: Optional[int]) -> None:
     print("\n")
 
 
+def hunk_objects(name: str, file: hunk.File, base: Optional[int]) -> Iterator[Dict[str, Any]]:
+    """The same of each hunk as an object. Without a base it has no address."""
+    for place in Layout(file, base or 0).places.values():
+        it = place.hunk
+        kind = it.kind.name if it.kind else None
+        yield {"name": name, "unit": it.unit, "hunk": it.number, "kind": kind, "bytes": it.size,
+               "address": None if base is None else place.base, "memory": it.memory, "attributes": it.attributes}
+
+
+def size_text(sizes: list[int], name: Optional[str], is_json: bool) -> str:
+    """The line of a file, or of the totals, which have no name."""
+    if is_json:
+        return jsonlines.text_of({"name": name, **dict(zip(("text", "data", "bss"), sizes)), "total": sum(sizes)})
+    return row(sizes, "(TOTALS)" if name is None else name)
+
+
+def run_by_hunk(options: argparse.Namespace) -> int:
+    def tell(name: str, file: hunk.File) -> None:
+        if not options.json:
+            print_hunks(name, file, options.base)
+            return
+        for it in hunk_objects(name, file, options.base):
+            print(jsonlines.text_of(it))
+
+    return inputs.each(options, tell)
+
+
 def run(options: argparse.Namespace) -> int:
+    if options.by_hunk:
+        return run_by_hunk(options)
     totals = [0, 0, 0]
 
     def print_sizes(name: str, file: hunk.File) -> None:
         sizes = [sum(it.size for it in file.hunks if it.kind is kind) for kind in COLUMNS]
         totals[:] = map(int.__add__, totals, sizes)
-        print(row(sizes, name))
+        print(size_text(sizes, name, options.json))
 
-    if options.by_hunk:
-        return inputs.each(options, lambda name, file: print_hunks(name, file, options.base))
-    print(HEAD)
+    if not options.json:
+        print(HEAD)
     status = inputs.each(options, print_sizes)
     if options.totals:
-        print(row(totals, "(TOTALS)"))
+        print(size_text(totals, None, options.json))
     return status

@@ -56,7 +56,7 @@ CHUNK, CHUNKS_AHEAD = 32, 4
 def add_arguments(parser: argparse.ArgumentParser) -> None:
     inputs.add_arguments(parser, wide=False)
     forms, sums = parser.add_mutually_exclusive_group(), parser.add_mutually_exclusive_group()
-    forms.add_argument("--json", action="store_true", help="write each row as an object of JSON")
+    forms.add_argument("--json", action="store_true", help="write an object of JSON on a line for each file")
     forms.add_argument("--csv", action="store_true", help="write rows of CSV, with a first line that names the fields")
     sums.add_argument("--sha256", action="store_true", help="tell the sum of each file, and which have the same bytes")
     sums.add_argument("--same", action="store_true", help="tell three sums of each file, and which have the same program or memory")
