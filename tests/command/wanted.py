@@ -60,6 +60,19 @@ hunk: unknown: refused at byte 36: UnknownBlock: a type of block that is not kno
 hunk: none: ENOENT: No such file or directory (not judged)
 """
 
+# sum.hex as it lies at 00021000, by docs/CALLING.md and the two relocations of the file.
+RELOCATED_SUM = """hunk 0 base 0x00021000 48 bytes
+  41f90002102043f90002103472032018
+  d19151c9fffa201193c8d0894e754e71
+  11111111022222220033333300044444
+hunk 1 base 0x00021030 12 bytes
+  000000000000000000000000
+"""
+FINDINGS = """unit 0 hunk 0 offset 0x00000002 BadTarget
+unit 0 hunk 0 offset 0x00000002 OutsideHunk
+object file 1 units 2 findings
+"""
+
 RUNS = [
     ("show symbol", SHOWN_SYMBOL, "", 0),
     ("show part.o", SHOWN_OBJECT, "", 0),
@@ -89,7 +102,7 @@ RUNS = [
      ' "bytes": 4, "address": 4104, "memory": "any", "attributes": 0}\n', "", 0),
     ("nm --json -A text part.o", "".join(f'{{"name": "part.o", "value": {value}, "letter": "{letter}", "symbol": "{name}",'
      f' "external": {external}}}\n' for value, letter, name, external in ((4, "T", "_a", "true"), ("null", "U", "_b", "true"),
-     (4660, "A", "_c", "true"), (16, "C", "_d", "true"), (24, "B", "buf", "false"))), f"hunk: text: {NO_HUNK_FILE}\n", 1),
+     (4660, "A", "_c", "true"), (16, "C", "_d", "true"), (24, "B", "buf", "false"))), f"hunk: text: {NO_TEXT}\n", 1),
     ("relocs --json part.o symbol", "".join(f'{{"name": "part.o", "place": {place}, "unit": 0, "hunk": 0, "offset": {offset},'
      f' "width": 4, "kind": "{kind}", "target": {target}, "value": {value}, "symbols": ["{name}"]}}\n'
      for place, offset, kind, target, value, name in ((48, 2, "RELOC32", 1, 8, "buf"), (84, 8, "REF32", "null", 0, "_b"),
@@ -118,6 +131,22 @@ RUNS = [
      " allows (not judged)\n", 1),
     ("dump --base fffffff8 sum", "", "hunk: sum: refused at byte 28: NoBase of hunk 0: a hunk has no base, or would pass the"
      " address 2^32 (not judged)\n", 1),
+    ("validate symbol part.o", "== symbol\nload file 1 hunks 4 bytes\n== part.o\nobject file 1 units 0 findings\n", "", 0),
+    ("validate behind", "load file 1 hunks 4 bytes\nrest 7 bytes\n", "", 0),
+    ("validate findings.o", FINDINGS, "", 1),
+    ("validate text wide findings.o symbol", f"== findings.o\n{FINDINGS}== symbol\nload file 1 hunks 4 bytes\n",
+     f"hunk: text: {NO_TEXT}\nhunk: wide: refused at byte 40: ShortReloc: a block of short relocations, whose offsets have"
+     " 16 bits (not supported); its spelling is one that --wide reads\n", 1),
+    ("validate --wide wide", "load file 1 hunks 8 bytes\n", "hunk: wide: 1 block of short relocations, 1 END put in\n", 0),
+    ("validate --json behind findings.o", '{"name": "behind", "kind": "load", "units": 0, "hunks": 1, "memory": 4, "rest": 7,'
+     ' "findings": []}\n{"name": "findings.o", "kind": "object", "units": 1, "hunks": 1, "memory": 4, "rest": 0, "findings":'
+     ' [{"place": 32, "unit": 0, "hunk": 0, "offset": 2, "fault": "BadTarget"}, {"place": 32, "unit": 0, "hunk": 0,'
+     ' "offset": 2, "fault": "OutsideHunk"}]}\n', "", 1),
+    ("relocate --base 21000 sum", RELOCATED_SUM, "", 0),
+    ("relocate --base 0x21000 text sum", f"== sum\n{RELOCATED_SUM}", f"hunk: text: {NO_TEXT}\n", 1),
+    ("relocate --base 0X00021000 --budget 59 sum", "", "hunk: sum: refused at byte 24: Budget: the hunks declare more bytes than"
+     " the budget allows (not judged)\n", 1),
+    ("relocate --base 1000 --to bin symbol", "NuNq", "", 0),
     ("diff sum sum", "", "", 0),
     ("diff sum text", "", f"hunk: text: {NO_TEXT}\n", 2),
     ("diff part.o sum", "A is an object file, B a load file\n", "", 1),
@@ -137,7 +166,9 @@ RUNS = [
 # Words that are refused.
 REFUSED_WORDS = ["", "none sum", "show", "show --no sum", "dump --base xyz sum", "dump --base 100000000 sum",
                  "dump --budget -1 sum", "diff sum", "survey --jobs x sum", "explain 0", "explain -1",
-                 "explain 26 32", "dump --base 0x sum", "dump --base +1 sum", "dump --base 1_0 sum", "nm --base x1000 sum", "- show sum",
-                 "lint", "lint --ignore 1 sum", "lint --ignore none sum", "lint --ignore", "lint --no sum",
+                 "explain 26 32", "dump --base 0x sum", "dump --base +1 sum", "dump --base 1_0 sum", "nm --base x1000 sum",
+                 "relocate sum", "relocate --base 1000 --to elf sum", "relocate --base 1000 --to bin sum sum",
+                 "relocate --base 1000 --to bin .", "validate", "strip", "strip sum", "strip sum out out",
+                 "- show sum", "lint", "lint --ignore 1 sum", "lint --ignore none sum", "lint --ignore", "lint --no sum",
                  "same", "same sum", "same sum sum sum", "find", "find --extract", "find --base 0 sum", "survey --csv --json sum",
                  "survey --same --sha256 sum"]

@@ -23,8 +23,9 @@ from hunk.command import inputs, streams
 # The commands, by what people want.
 GROUPS = (
     ("See what stands in files", ("show", "size", "nm", "relocs", "dump", "json", "map")),
-    ("Find out what is wrong", ("lint", "explain")),
+    ("Find out what is wrong", ("validate", "lint", "explain")),
     ("Sort, find and compare files", ("survey", "find", "diff", "same")),
+    ("Make other files of them", ("relocate", "strip")),
 )
 NAMES = tuple(name for _, names in GROUPS for name in names)
 # The modules that have another name than their command.
@@ -32,9 +33,9 @@ MODULES = {"json": "documents", "map": "picture", "diff": "differences"}
 NOT_READ, CANNOT_WRITE, INTERRUPTED, NOBODY_READS = 1, 3, 130, 141
 
 USAGE = "hunk [-h] [--version] COMMAND .."
-DESCRIPTION = "Tells what stands in hunk files of AmigaDOS, executables and object files."
-EPILOG = """All but diff, same and explain take files, folders with their subfolders, and - for standard input. `hunk COMMAND
---help` says more.
+DESCRIPTION = "Tells what stands in hunk files of AmigaDOS, executables and object files, and makes other files of them."
+EPILOG = """strip takes a file IN, and writes a file OUT; diff and same take two files. All others but explain take files,
+folders with their subfolders, and - for standard input. `hunk COMMAND --help` says more.
 
 What can't be read or is refused is told on standard error, and the others go on:
   hunk: NAME: refused at byte N: REASON: what it means (no hunk file, not supported, damaged or not judged)
@@ -42,8 +43,8 @@ What can't be read or is refused is told on standard error, and the others go on
 
 Exit status:
   0    done
-  1    a file was refused or could not be read; of diff: the files differ; of same: nothing is the same;
-       of lint: something was told; of find: nothing was found
+  1    a file was refused or could not be read; of validate also: it has findings; of diff: the files differ;
+       of same: nothing is the same; of lint: something was told; of find: nothing was found
   2    the command line was refused; of diff, same and lint: a file was refused or could not be read
   3    writing failed
   130  interrupted

@@ -10,6 +10,7 @@ import os
 import stat
 from typing import Any, Callable, Iterator, Sequence, Tuple
 
+from hunk.command import streams
 from hunk.command.forms import NUMBERS, Form, Row
 from hunk.command.judging import CLASSES
 
@@ -30,9 +31,9 @@ def refuse_other(state: os.stat_result) -> None:
     """Refuses what is no file proper, and what standard output or error go to."""
     if not stat.S_ISREG(state.st_mode):
         raise TableError(f"{WANTED}: this is no regular file")
-    for number, what in ((1, "output"), (2, "error")):
-        if os.path.samestat(state, os.fstat(number)):
-            raise TableError(f"{WANTED}: this is standard {what}")
+    what = streams.stream_of(state)
+    if what:
+        raise TableError(f"{WANTED}: this is standard {what}")
 
 
 def opened(path: str) -> io.FileIO:

@@ -68,10 +68,22 @@ def hunk_lines(file: hunk.File, unit: int, hunks: Iterator[hunk.Hunk], blocks: I
             yield from block_lines(file, block, items)
 
 
+def head(file: hunk.File) -> str:
+    """The line of a file."""
+    if file.is_object:
+        return f"object file {len(file.units)} units"
+    return f"load file {len(file.hunks)} hunks {sum(it.size for it in file.hunks)} bytes"
+
+
+def rest_lines(file: hunk.File) -> Iterator[str]:
+    """The line of what follows a load file, where something does."""
+    if file.size < len(file.data):
+        yield f"rest {len(file.data) - file.size} bytes"
+
+
 def lines(file: hunk.File) -> Iterator[str]:
     """The lines of `hunkinfo show`."""
-    total = sum(it.size for it in file.hunks)
-    yield f"object file {len(file.units)} units" if file.is_object else f"load file {len(file.hunks)} hunks {total} bytes"
+    yield head(file)
     relocations = iter(file.relocations)
     items: dict[hunk.Kind, Iterator[Any]] = dict.fromkeys(hunk.Kind, relocations)
     items.update({hunk.Kind.SYMBOL: iter(file.symbols), hunk.Kind.EXT: iter(file.entries)})
@@ -83,8 +95,8 @@ def lines(file: hunk.File) -> Iterator[str]:
     yield from hunk_lines(file, 0, hunks, blocks, items)
     if file.refusal:
         yield str(file.refusal)
-    elif file.size < len(file.data):
-        yield f"rest {len(file.data) - file.size} bytes"
+    else:
+        yield from rest_lines(file)
 
 
 def run(options: argparse.Namespace) -> int:

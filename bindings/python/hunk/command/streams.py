@@ -6,7 +6,7 @@ import contextlib
 import io
 import os
 import sys
-from typing import Any
+from typing import Any, Optional
 
 # Each descriptor, and what it gets where it is closed, so that no file gets its number: what can't be read, what can't be
 # written, and what goes nowhere.
@@ -46,6 +46,11 @@ def prepare() -> None:
         sys.stdout = open(1, "w", encoding="utf-8", closefd=False)
     if isinstance(sys.stdout, io.TextIOWrapper):
         sys.stdout.reconfigure(encoding="utf-8", newline="\n")
+
+
+def stream_of(state: os.stat_result) -> Optional[str]:
+    """The standard stream, by its name, that goes to what has this state."""
+    return next((what for number, what in ((1, "output"), (2, "error")) if os.path.samestat(state, os.fstat(number))), None)
 
 
 def give_up_output() -> None:
