@@ -24,17 +24,25 @@ import resumes
 SEED, RUNS, SECONDS = 75, 240, 25
 # So that a run is short: what it gets, and how long it may take.
 MEMORY, LONGEST = 192 << 20, 60
-STATUSES = {"diff": {0, 1, 2}, "lint": {0, 1, 2}, "explain": {0, 2}, "find": {0, 1, 2, 3}}
+# Those that write a file have the status 3 where they can't.
+STATUSES = {"explain": {0, 2}, "strip": {0, 1, 2, 3}, "convert": {0, 1, 2, 3}, "find": {0, 1, 2, 3}}
 NUMBERS = ("0", "1", "4", "60", "1000", "00021000", "fffffff8", "ffffffff", "100000000", "4294967296", "16777216", "-1", "+1", "1_0",
            "0x10", "x", "", " ", "\N{ARABIC-INDIC DIGIT THREE}", str((1 << 64) - 1), str(1 << 64), "9" * 30, "9" * 5000)
 FLAGS = {
-    "show": ("--wide", "--partial"), "size": ("--wide", "-A", "-t", "--base N"), "relocs": ("--wide",),
-    "nm": ("--wide", "-A", "-g", "-n", "-u", "--base N"), "dump": ("--wide", "--base N", "--budget N"),
+    "show": ("--wide", "--partial"), "size": ("--wide", "-A", "-t", "--base N", "--json"), "relocs": ("--wide", "--json"),
+    "nm": ("--wide", "-A", "-g", "-n", "-u", "--base N", "--json"), "validate": ("--wide", "--json"), "strip": ("--wide",),
+    "relocate": ("--wide", "--base N", "--budget N", "--to F"), "convert": ("--wide", "--base N", "--to F"), "dump": ("--wide", "--base N", "--budget N"),
     "json": ("--wide", "--partial", "--lines"), "map": ("--wide", "--base N"), "diff": ("--wide", "--items"),
     "lint": ("--wide", "--json", "--ignore K", "--ignore K"),
     "survey": ("--json", "--csv", "--sha256", "--same", "--what", "--jobs N", "--resume T"), "explain": (), "same": (),
-    "find": ("--wide", "--raw", "--extract F"),
+    "find": ("--wide", "--raw", "--extract D"),
 }
+FORMATS = ("elf", "bin", "srec", "ihex", "text", "coff", "")
+# Those without which a command line is always refused.
+NEEDED = {"relocate": ("--base", "1000"), "convert": ("--to", "elf")}
+WRITERS = ("strip", "convert")
+# Each with a row of JSON on a line.
+HAS_ROWS = ("size", "nm", "relocs", "validate", "lint")
 KINDS = ("OddOffset", "overlap", "TWICE", "BadTarget", "BadOffset", "1", "")
 REASONS = ("24", "BadOffset", "noentry", "badtarget", "0", "none", "", "9" * 400)
 LONGWORDS = (0, 1, 0x3E7, 0x3E9, 0x3EB, 0x3EC, 0x3EF, 0x3F0, 0x3F1, 0x3F2, 0x3F3, 0x3FC, 0xFFFF, 0x10001, 0x3FFFFFFF, 0x40000001,
@@ -95,9 +103,9 @@ def make_inputs(chance, folder):
 
 
 def command_line(chance, names, number):
-    """A subcommand with its words; now and then with one of another."""
-    command = chance.choice([*FLAGS, "json", "survey", "survey"])
-    words = [command]
+    """A command with its words; now and then with one of another."""
+    command = chance.choice([*FLAGS, "json", "survey", "survey", "convert"])
+    words = [command, *(NEEDED.get(command, ()) if chance.random() < 0.9 else ())]
     every = [it for its in FLAGS.values() for it in its]
     for flag in chance.sample(FLAGS[command], chance.randint(0, len(FLAGS[command]))) + [chance.choice(every)] * (chance.random() < 0.1):
         flag, *value = flag.split()
@@ -105,9 +113,14 @@ def command_line(chance, names, number):
         tables = (f"new-{number}", f"new-{number}", chance.choice(names), "/dev/full", "sub/pipe", "table", "json")
         # What is found goes to a new folder, or to one that is there or is none.
         folders = (f"found-{number}", "found", "sub", chance.choice(names))
-        words += [flag, *(chance.choice({"N": NUMBERS, "K": KINDS, "F": folders}.get(it, tables)) for it in value)]
-    count = {"diff": 2, "same": 2, "explain": 1}.get(command, chance.randint(1, 4))
-    words += chance.choices(REASONS if command == "explain" else names, k=count if chance.random() < 0.9 else chance.randint(0, 3))
+        words += [flag, *(chance.choice({"N": NUMBERS, "K": KINDS, "F": FORMATS, "D": folders}.get(it, tables)) for it in value)]
+    count = {"diff": 2, "same": 2, "explain": 1, **dict.fromkeys(WRITERS, 2)}.get(command, chance.randint(1, 4))
+    count = count if chance.random() < 0.9 else chance.randint(0, 3)
+    if command in WRITERS:
+        # OUT is none of the files, which stay as they are.
+        outs = (f"new-{number}", f"new-{number}", f"new-{number}", "-", "/dev/full", "/dev/null", "sub", "nothing/x", "new/", "", "y" * 5000)
+        return words + chance.choices(names, k=min(count, 1)) + chance.choices(outs, k=max(count - 1, 0))
+    words += chance.choices(REASONS if command == "explain" else names, k=count)
     if chance.random() < 0.05:
         words.insert(chance.randrange(len(words) + 1), chance.choice(("--help", "--version", "--", "--no", "-h")))
     return words
@@ -172,9 +185,9 @@ def changed(home, before):
 
 
 def is_json(words, printed):
-    """Whether what `hunk json` or `hunk lint --json` has printed is JSON: one text, or one on each line."""
+    """Whether what a command has printed is JSON: one text, or one on each line."""
     try:
-        for text in printed.splitlines() if words[0] == "lint" or "--lines" in words else [printed] if printed else []:
+        for text in printed.splitlines() if words[0] in HAS_ROWS or "--lines" in words else [printed] if printed else []:
             json.loads(text)
     except ValueError:
         return False
@@ -191,7 +204,7 @@ def faults(words, how, got):
     if status not in wanted:
         yield f"the status {status}"
     yield from (f"{it!r}" for it in NEVER if it in printed + said)
-    makes_json = words[:1] == ["json"] or words[:1] == ["lint"] and "--json" in words
+    makes_json = words[:1] == ["json"] or words[:1] and words[0] in HAS_ROWS and "--json" in words
     if makes_json and how["out"] == "read" and status in (0, 1) and not {"-h", "--help", "--version"} & {*words}:
         if not is_json(words, printed):
             yield "no JSON"
@@ -205,7 +218,10 @@ def try_one(chance, home, names, number, begins):
     for it in faults(words, how, got):
         compared.wrong(what, f"{it}: {got[1][-600:]!r}")
     new = home / f"new-{number}"
-    if new.exists() and not new.read_text().startswith(HEADS):
+    if words[0] in WRITERS:
+        if new.exists() and got[2] == 1 or [*home.glob(".hunk-*")]:
+            compared.wrong(what, "OUT, or a part of it, is there")
+    elif new.exists() and not new.read_text().startswith(HEADS):
         compared.wrong(what, f"a table that begins with {new.read_text()[:80]!r}")
     if how["err"] != "read" and not how["memory"]:
         new.unlink(missing_ok=True)

@@ -72,6 +72,9 @@ FINDINGS = """unit 0 hunk 0 offset 0x00000002 BadTarget
 unit 0 hunk 0 offset 0x00000002 OutsideHunk
 object file 1 units 2 findings
 """
+# Of the memory of symbol at 1000, with sums that were added up by hand.
+S_RECORDS = "S007000048554E4BC2\nS309000010004E754E7164\nS70500001000EA\n"
+HEX_TEXT = ":041000004E754E716A\n:0400000500001000E7\n:00000001FF\n"
 
 RUNS = [
     ("show symbol", SHOWN_SYMBOL, "", 0),
@@ -147,6 +150,10 @@ RUNS = [
     ("relocate --base 0X00021000 --budget 59 sum", "", "hunk: sum: refused at byte 24: Budget: the hunks declare more bytes than"
      " the budget allows (not judged)\n", 1),
     ("relocate --base 1000 --to bin symbol", "NuNq", "", 0),
+    ("convert --to srec --base 1000 symbol -", S_RECORDS, "", 0),
+    ("convert --to ihex --base 0x1000 symbol -", HEX_TEXT, "", 0),
+    ("convert --to bin --base 1000 symbol -", "NuNq", "", 0),
+    ("convert --to ihex --base 21000 symbol -", ":020000040002F8\n:041000004E754E716A\n:0400000500021000E5\n:00000001FF\n", "", 0),
     ("diff sum sum", "", "", 0),
     ("diff sum text", "", f"hunk: text: {NO_TEXT}\n", 2),
     ("diff part.o sum", "A is an object file, B a load file\n", "", 1),
@@ -168,7 +175,8 @@ REFUSED_WORDS = ["", "none sum", "show", "show --no sum", "dump --base xyz sum",
                  "dump --budget -1 sum", "diff sum", "survey --jobs x sum", "explain 0", "explain -1",
                  "explain 26 32", "dump --base 0x sum", "dump --base +1 sum", "dump --base 1_0 sum", "nm --base x1000 sum",
                  "relocate sum", "relocate --base 1000 --to elf sum", "relocate --base 1000 --to bin sum sum",
-                 "relocate --base 1000 --to bin .", "validate", "strip", "strip sum", "strip sum out out",
-                 "- show sum", "lint", "lint --ignore 1 sum", "lint --ignore none sum", "lint --ignore", "lint --no sum",
-                 "same", "same sum", "same sum sum sum", "find", "find --extract", "find --base 0 sum", "survey --csv --json sum",
-                 "survey --same --sha256 sum"]
+                 "relocate --base 1000 --to bin .", "validate", "strip", "strip sum", "strip sum out out", "convert sum out",
+                 "convert --to elf sum", "convert --to coff sum out", "convert --to bin sum out", "convert --to srec sum out",
+                 "convert --to ihex sum out", "- show sum", "lint", "lint --ignore 1 sum", "lint --ignore none sum", "lint --ignore",
+                 "lint --no sum", "same", "same sum", "same sum sum sum", "find", "find --extract", "find --base 0 sum",
+                 "survey --csv --json sum", "survey --same --sha256 sum"]
