@@ -3,6 +3,7 @@ import { type Block, entryKindName, HunkError, Hunk, type Input, KINDS, kindName
 import { type Rows, type Warning, type WarningKind, warningName, WARNINGS } from "hunk-files";
 import { open as openInline } from "hunk-files/inline";
 import { Hunk as Plain, type Source, takesMemory64 } from "hunk-files/hunk.js";
+import { type ElfInput, NoForm, program, relocatable } from "hunk-files/sections.js";
 
 async function lists(hunk: Hunk, bytes: Uint8Array): Promise<string[]> {
   const input: Input = hunk.put(bytes);
@@ -39,6 +40,18 @@ function loads(hunk: Hunk, bytes: Uint8Array, ram: Input): Uint8Array {
   return hunk.wide(bytes, (plain) => hunk.loadPacked(plain, 0x21000).memory);
 }
 
+/** A file of ELF, of rows as the library lists them. */
+function elfOf(hunk: Hunk, bytes: Uint8Array, base: number): Uint8Array {
+  const symbols = Array.from(hunk.symbols(bytes).rows, (it) => ({ ...it, name: nameOf(bytes, it) }));
+  const hunks = [{ bytes: 4, memory: "any" as const, kind: KINDS.CODE, content: bytes.subarray(32, 36) }];
+  const file: ElfInput = { units: [], findings: [], hunks, symbols, relocations: [...hunk.relocations(bytes).rows], entries: [] };
+  try {
+    return relocatable(file);
+  } catch (error) {
+    return error instanceof NoForm && error.place > 0 ? bytes : program(file, base, [hunk.loadPacked(bytes, base).memory]);
+  }
+}
+
 const told = (error: HunkError): string => `${error.place} ${error.reason} ${error.number} ${error.text}`;
 
 export async function main(source: Source): Promise<void> {
@@ -48,6 +61,7 @@ export async function main(source: Source): Promise<void> {
   const bytes = plain.strip(new Uint8Array()).text;
   try {
     await lists(hunk, loads(hunk, bytes, hunk.alloc(16)));
+    elfOf(hunk, bytes, 0x21000);
   } catch (error) {
     if (error instanceof HunkError) told(error);
   }
