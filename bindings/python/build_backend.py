@@ -44,7 +44,7 @@ def version() -> str:
 def sources() -> Iterator[str]:
     """The files of the package, by their path."""
     for path in sorted((FOLDER / "hunk").rglob("*")):
-        if path.suffix in (".py", ".typed", ".json"):
+        if path.suffix in (".py", ".typed", ".json") or path.parent.name == "completions":
             yield path.relative_to(FOLDER).as_posix()
 
 

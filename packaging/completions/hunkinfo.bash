@@ -5,13 +5,13 @@ _hunkinfo() {
   case $command:$before in
     relocate:--base | relocate:--budget) return ;;
   esac
-  case $command:$word in
+  case $command:$before:$word in
     :*) words='show validate relocate rewrite help --help --version' ;;
+    show:*:-*) words='--hex --wide --help' ;;
+    validate:*:-*) words='--hex --wide --help' ;;
+    relocate:*:-*) words='--hex --wide --base --budget --help' ;;
+    rewrite:*:-*) words='--strip --wide --help' ;;
     help:*) words='show validate relocate rewrite' ;;
-    show:-*) words='--hex --wide --help' ;;
-    validate:-*) words='--hex --wide --help' ;;
-    relocate:-*) words='--hex --wide --base --budget --help' ;;
-    rewrite:-*) words='--strip --wide --help' ;;
     *)
       compopt -o filenames 2> /dev/null
       mapfile -t COMPREPLY < <(compgen -f -- "$word")

@@ -30,9 +30,10 @@ GROUPS = (
 NAMES = tuple(name for _, names in GROUPS for name in names)
 # The modules that have another name than their command.
 MODULES = {"json": "documents", "map": "picture", "diff": "differences"}
+COMPLETIONS = {"bash": "hunk.bash", "zsh": "_hunk", "fish": "hunk.fish"}
 NOT_READ, CANNOT_WRITE, INTERRUPTED, NOBODY_READS = 1, 3, 130, 141
 
-USAGE = "hunk [-h] [--version] COMMAND .."
+USAGE = "hunk [-h] [--version] [--completions SHELL] COMMAND .."
 DESCRIPTION = "Tells what stands in hunk files of AmigaDOS, executables and object files, and makes other files of them."
 EPILOG = """strip and convert take a file IN, and write a file OUT; diff and same take two files. All others but explain
 take files, folders with their subfolders, and - for standard input. `hunk COMMAND --help` says more.
@@ -63,6 +64,17 @@ class Parser(argparse.ArgumentParser):
         (file or sys.stderr).write(message)
 
 
+class PrintCompletions(argparse.Action):
+    """Prints what a shell completes of a command line of `hunk`, and ends."""
+
+    def __call__(self, parser: Any, options: Any, shell: Any, word: Any = None) -> None:
+        import pkgutil
+
+        sys.stdout.write((pkgutil.get_data("hunk", f"completions/{COMPLETIONS[shell]}") or b"").decode())
+        sys.stdout.flush()
+        parser.exit()
+
+
 class TopParser(Parser):
     """The parser of `hunk` itself. Its help has the commands in their groups."""
 
@@ -89,6 +101,8 @@ def make_parser(words: Sequence[str]) -> Parser:
     form = argparse.RawDescriptionHelpFormatter
     parser = TopParser(prog="hunk", usage=USAGE, epilog=EPILOG, formatter_class=form)
     parser.add_argument("--version", action="version", version=f"hunk {hunk.__version__}", help="print the version")
+    parser.add_argument("--completions", action=PrintCompletions, choices=tuple(COMPLETIONS), metavar="SHELL",
+                        help="print what bash, zsh or fish completes of a command line")
     made = parser.add_subparsers(prog="hunk", metavar="COMMAND", required=True, help=argparse.SUPPRESS, parser_class=Parser)
     for name in named(words):
         module = module_of(name)
