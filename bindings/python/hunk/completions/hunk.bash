@@ -4,14 +4,14 @@ _hunk() {
   [ "$COMP_CWORD" -gt 1 ] || command=
   [ "$command" != --completions ] || command=
   case $command:$before in
-    size:--base | nm:--base | dump:--base | dump:--budget | map:--base | survey:--jobs | relocate:--base | relocate:--budget | convert:--base) return ;;
+    size:--base | nm:--base | dump:--base | dump:--budget | map:--base | survey:--jobs | find:--extract | relocate:--base | relocate:--budget | convert:--base) return ;;
   esac
   case $command:$before:$word in
     lint:--ignore:*) words='OddOffset Twice Overlap InBss OutsideTarget SymbolOutside NoEntry MemoryIgnored BadTarget OutsideHunk' ;;
     relocate:--to:*) words='text bin' ;;
     convert:--to:*) words='elf bin srec ihex' ;;
     :--completions:*) words='bash zsh fish' ;;
-    :*) words='show size nm relocs dump json map validate lint explain survey diff relocate strip convert --help --version --completions' ;;
+    :*) words='show size nm relocs dump json map validate lint explain survey find diff same relocate strip convert --help --version --completions' ;;
     show:*:-*) words='--help --wide --partial' ;;
     size:*:-*) words='--help --wide --json -A --totals --base' ;;
     nm:*:-*) words='--help --wide --json --print-file-name --extern-only --numeric-sort --undefined-only --base' ;;
@@ -22,8 +22,10 @@ _hunk() {
     validate:*:-*) words='--help --wide --json' ;;
     lint:*:-*) words='--help --wide --json --ignore' ;;
     explain:*:-*) words='--help' ;;
-    survey:*:-*) words='--help --json --sha256 --resume --jobs' ;;
+    survey:*:-*) words='--help --json --csv --sha256 --same --what --resume --jobs' ;;
+    find:*:-*) words='--help --wide --raw --extract' ;;
     diff:*:-*) words='--help --wide --items' ;;
+    same:*:-*) words='--help' ;;
     relocate:*:-*) words='--help --wide --base --budget --to' ;;
     strip:*:-*) words='--help --wide' ;;
     convert:*:-*) words='--help --to --base --wide' ;;
