@@ -3,10 +3,11 @@
 // ONE_OF inputs is dropped; pictures go into the folder PICTURES, and files into WORK.
 
 import { execFileSync } from "node:child_process";
-import { copyFileSync, mkdirSync, readFileSync, statSync, writeFileSync } from "node:fs";
+import { copyFileSync, mkdirSync, readFileSync, writeFileSync } from "node:fs";
 import { createServer } from "node:http";
-import { pathToFileURL } from "node:url";
 import { compareOpening } from "./opening.mjs";
+import { tryLarge } from "./large.mjs";
+import { BASE, Page } from "./page.mjs";
 import { tryMany } from "./many.mjs";
 import { compareCursor } from "./cursor.mjs";
 import { compareMap, comparePictures } from "./pictures.mjs";
@@ -17,9 +18,7 @@ import { takePictures } from "./photos.mjs";
 
 const [browserName, pagePath, program, everyPath, oneOf, pictures, work] = process.argv.slice(2);
 const { Chromium, Firefox } = { ...(await import("./chromium.mjs")), ...(await import("./firefox.mjs")) };
-const url = pathToFileURL(pagePath).href;
 const root = new URL("../../", import.meta.url).pathname;
-const BASE = "00021000";
 
 let compared = 0;
 let failed = 0;
@@ -84,68 +83,6 @@ const SHOWN = `
   if (verdict.startsWith("A load file")) return "accepted " + number(/: (\\d+) hunks? (\\d+) bytes? in memory/);
   if (verdict.startsWith("An object file")) return "accepted " + number(/: (\\d+) units? (\\d+) findings?/);
   return "refused " + number(/at byte (\\d+) .*\\((\\d+)\\)\\.$/);`;
-
-class Page {
-  constructor(browser) {
-    this.browser = browser;
-  }
-
-  in(body, ...values) {
-    return this.browser.runIn(body, ...values);
-  }
-
-  /** Does what makes the page show something new, and waits for it. */
-  async shows(doing) {
-    const before = await this.in("return document.body.dataset.shows ?? '0'");
-    await doing();
-    await this.in(
-      `for (let i = 0; (document.body.dataset.shows ?? "0") === values[0]; i++) {
-         if (i > 6000) throw new Error("nothing new is shown");
-         await new Promise((done) => setTimeout(done, 5));
-       }`,
-      before,
-    );
-  }
-
-  async open(hash = "", from = url) {
-    await this.browser.go("about:blank");
-    await this.browser.go(from + hash);
-    await this.in(`while (!(document.body && "ready" in document.body.dataset)) await new Promise((done) => setTimeout(done, 5));`);
-  }
-
-  hex(digits) {
-    return this.shows(() => this.in(`location.hash = values[0]`, `#hex=${digits}&base=${BASE}&at=${compared}`));
-  }
-
-  /** Drops files, [name, digits], as one that comes from the desktop would be. */
-  drop(files) {
-    return this.shows(() =>
-      this.in(
-        `const transfer = new DataTransfer();
-         for (const [name, digits] of values[0]) {
-           const bytes = Uint8Array.from(digits.match(/../g) ?? [], (it) => parseInt(it, 16));
-           transfer.items.add(new File([bytes], name));
-         }
-         document.body.dispatchEvent(new DragEvent("drop", { dataTransfer: transfer, bubbles: true, cancelable: true }));`,
-        files,
-      ),
-    );
-  }
-
-  /** What a button saves, as digits. */
-  saved(id) {
-    return this.in(
-      `const was = URL.createObjectURL;
-       let blob;
-       URL.createObjectURL = (it) => { blob = it; return "#"; };
-       HTMLAnchorElement.prototype.click = () => {};
-       document.getElementById(values[0]).click();
-       URL.createObjectURL = was;
-       return Array.from(new Uint8Array(await blob.arrayBuffer()), (it) => it.toString(16).padStart(2, "0")).join("");`,
-      id,
-    );
-  }
-}
 
 // ---- What is compared.
 
@@ -291,35 +228,9 @@ async function compareUse(page) {
   hold("a narrow window", true, await page.in("return document.documentElement.scrollWidth <= innerWidth"));
 }
 
-/** Large files: how long the page takes, by its own clock. */
-async function large(page) {
-  for (const [kind, size] of [["code", "64"], ["hunks", "2"]]) {
-    const path = `${work}/large-${kind}`;
-    execFileSync("python3", [`${root}bench/make.py`, kind, size, path]);
-    await page.shows(() => page.browser.upload("#pick", [path]));
-    const [first, time] = await page.in(`return [document.getElementById("verdict").textContent, document.getElementById("time").textContent]`);
-    const rows = await page.in(`return document.querySelectorAll("[data-row], .line").length`);
-    hold(`${kind}, rows that are rendered, fewer than 120`, true, rows < 120);
-    console.log(`${browserName}: ${first} ${time}`);
-    const wanted = (Math.ceil(statSync(path).size / 16) * 16 - 16).toString(16).padStart(8, "0");
-    const ways = { "the key End": `box.dispatchEvent(new KeyboardEvent("keydown", { key: "End" }))`, scrolling: "box.scrollTop = 1e9" };
-    for (const [name, way] of Object.entries(ways)) {
-      const last = await page.in(
-        `const box = document.getElementById("file-hex");
-         box.scrollTop = 0;
-         await new Promise((done) => setTimeout(done, 100));
-         ${way};
-         await new Promise((done) => setTimeout(done, 100));
-         return [...box.querySelectorAll(".at")].at(-1).textContent`,
-      );
-      hold(`${kind}, the last line by ${name}`, wanted, last);
-    }
-  }
-}
-
 const browser = await (browserName === "chromium" ? Chromium : Firefox).open(work);
 try {
-  const page = new Page(browser);
+  const page = new Page(browser, pagePath);
   await page.open();
   console.log(`${browserName}: ${await page.in("return document.getElementById('module').textContent")}`);
   for (const row of [...rowsOf("load"), ...rowsOf("objects")]) await compareRow(page, row);
@@ -339,7 +250,7 @@ try {
   await compareWidths(page, hold);
   await compareKeyboard(page, hold);
   if (oneOf === "1") {
-    await large(page);
+    await tryLarge(page, hold, work);
     await compareMap(page, hold, work);
   }
   await takePictures(page, root, `${pictures}/${browserName}`);

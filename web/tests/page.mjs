@@ -1,0 +1,70 @@
+// The page as tests see it: opened in a browser, given files, and asked what it shows.
+
+import { pathToFileURL } from "node:url";
+
+/** The address that memory is shown from. */
+export const BASE = "00021000";
+
+export class Page {
+  constructor(browser, path) {
+    this.browser = browser;
+    this.url = pathToFileURL(path).href;
+    this.links = 0;
+  }
+
+  in(body, ...values) {
+    return this.browser.runIn(body, ...values);
+  }
+
+  /** Does what makes the page show something new, and waits for it. */
+  async shows(doing) {
+    const before = await this.in("return document.body.dataset.shows ?? '0'");
+    await doing();
+    await this.in(
+      `for (let i = 0; (document.body.dataset.shows ?? "0") === values[0]; i++) {
+         if (i > 6000) throw new Error("nothing new is shown");
+         await new Promise((done) => setTimeout(done, 5));
+       }`,
+      before,
+    );
+  }
+
+  async open(hash = "", from = this.url) {
+    await this.browser.go("about:blank");
+    await this.browser.go(from + hash);
+    await this.in(`while (!(document.body && "ready" in document.body.dataset)) await new Promise((done) => setTimeout(done, 5));`);
+  }
+
+  hex(digits) {
+    return this.shows(() => this.in(`location.hash = values[0]`, `#hex=${digits}&base=${BASE}&at=${++this.links}`));
+  }
+
+  /** Drops files, [name, digits], as one that comes from the desktop would be. */
+  drop(files) {
+    return this.shows(() =>
+      this.in(
+        `const transfer = new DataTransfer();
+         for (const [name, digits] of values[0]) {
+           const bytes = Uint8Array.from(digits.match(/../g) ?? [], (it) => parseInt(it, 16));
+           transfer.items.add(new File([bytes], name));
+         }
+         document.body.dispatchEvent(new DragEvent("drop", { dataTransfer: transfer, bubbles: true, cancelable: true }));`,
+        files,
+      ),
+    );
+  }
+
+  /** What a button saves, as digits. */
+  saved(id) {
+    return this.in(
+      `const was = URL.createObjectURL;
+       let blob;
+       URL.createObjectURL = (it) => { blob = it; return "#"; };
+       HTMLAnchorElement.prototype.click = () => {};
+       document.getElementById(values[0]).click();
+       URL.createObjectURL = was;
+       return Array.from(new Uint8Array(await blob.arrayBuffer()), (it) => it.toString(16).padStart(2, "0")).join("");`,
+      id,
+    );
+  }
+}
