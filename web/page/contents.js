@@ -2,6 +2,7 @@
 
 import { KINDS } from "../../bindings/javascript/kinds.js";
 import { blockName, lastOf } from "./names.js";
+import { textPlace } from "./places.js";
 
 const isContent = (kind) => kind >= KINDS.CODE && kind <= KINDS.BSS;
 
@@ -52,17 +53,20 @@ export class Contents {
     return number < this.count ? blockName(this.get(number, "kind")) : "";
   }
 
-  /** The byte of the file that comes to this offset of a hunk; nothing where that is not in the file. */
+  /** The byte that comes to this offset of a hunk; nothing where that is not in the file. */
   place(number, offset) {
     if (!(number < this.count) || offset >= this.get(number, "contentBytes")) return undefined;
-    return this.get(number, "content") + offset;
+    return textPlace(this.get(number, "content") + offset);
   }
 
-  /** Where a hunk begins: the block of its content in the file, and its first byte in the memory. */
+  /** Where a hunk stands: the block of its content in the file, and all of it in the memory. */
   target(number) {
-    const { table, starts } = this.file;
-    const place = number < this.count ? this.get(number, "place") : undefined;
-    return { place, memory: table?.rows.get(number, "bytes") > 0 ? starts[number] : undefined };
+    const { file } = this;
+    const place = textPlace(number < this.count ? this.get(number, "place") : 0);
+    return {
+      file: number < this.count ? file.range(place, this.get(number, "bytes")) : undefined,
+      memory: file.inMemory(number, 0, this.bytes(number)),
+    };
   }
 }
 

@@ -65,17 +65,19 @@ export function fieldAt(file, row, offset) {
   return field ?? between(offset, around.end, around.next);
 }
 
-/** An offset of a hunk, as a place to go to. */
-export function placeIn(file, unit, hunk, offset) {
+/** An offset of a hunk, as a place to go to: so many bytes from there on.
+ * @returns {import("./places.js").Lead | null} */
+export function placeIn(file, unit, hunk, offset, bytes = LONG) {
   const contents = file.contents();
   const number = contents.number(unit, hunk);
   if (number === undefined) return null;
   const isInside = offset < contents.bytes(number);
   const address = file.isLoadable ? ` = ${hex((file.base + file.starts[hunk] + offset) >>> 0)}` : "";
+  const place = contents.place(number, offset);
   return {
     text: `hunk ${hunk} + ${hex(offset)}${address}${isInside ? "" : ", outside of it"}`,
-    place: contents.place(number, offset),
-    memory: file.isLoadable && isInside ? file.starts[hunk] + offset : undefined,
+    file: place === undefined ? undefined : file.range(place, bytes),
+    memory: file.inMemory(hunk, offset, bytes),
   };
 }
 

@@ -5,7 +5,7 @@ import { Contents } from "./contents.js";
 import { Front } from "./front.js";
 import { Labels } from "./labels.js";
 import { Parts } from "./parts.js";
-import { refusalOf } from "./reasons.js";
+import { filePlace, memoryPlace, memoryRange, textPlace } from "./places.js";
 
 /** The most bytes of memory, blocks and other items that are shown of a file. */
 const MOST_MEMORY = 1 << 28;
@@ -99,6 +99,27 @@ export class Examined {
   /** Whether it can be loaded: all of it, and not only what stands before a fault. */
   get isLoadable() {
     return this.table !== null && this.front === null;
+  }
+
+  /** The byte of the file at which a byte of what is read stands.
+   * @param {import("./places.js").TextPlace} place */
+  inFile(place) {
+    return filePlace(place);
+  }
+
+  /** The bytes of the file at which so many bytes of what is read stand.
+   * @param {import("./places.js").TextPlace} place
+   * @param {number} bytes
+   * @returns {import("./places.js").FileRange} */
+  range(place, bytes) {
+    return { from: this.inFile(place), to: this.inFile(textPlace(place + bytes)) };
+  }
+
+  /** So many bytes of the memory from an offset of a hunk on, as far as they are in it; nothing where none is.
+   * @returns {import("./places.js").MemoryRange | undefined} */
+  inMemory(hunk, offset, bytes) {
+    const rest = this.isLoadable ? this.table.rows.get(hunk, "bytes") - offset : 0;
+    return rest > 0 ? memoryRange(memoryPlace(this.starts[hunk] + offset), Math.min(bytes, rest)) : undefined;
   }
 
   /** Reads what stands before the fault; whether that is anything. */

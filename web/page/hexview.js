@@ -61,6 +61,12 @@ export class HexView {
     this.go(from);
   }
 
+  /** Marks no bytes as picked any more. */
+  unpick() {
+    this.picked = null;
+    this.scroller.refresh();
+  }
+
   /** Tells of the item at the caret again, as after a change of the base. */
   retell() {
     this.#tell(this.caret);

@@ -3,6 +3,12 @@
 import { fieldAt, placeIn } from "./fields.js";
 import { hex, lastAt, longAt } from "./names.js";
 
+/** The bytes of the file that were loaded to there. */
+function originOf(file, place, bytes) {
+  const range = file.range(place, bytes);
+  return { text: `byte ${hex(range.from)} of the file`, file: range };
+}
+
 /** The longword to which a byte of the memory belongs, or what is relocated there. */
 export function itemOfMemory(file, memory, at) {
   const hunk = lastAt(file.starts, at);
@@ -14,7 +20,7 @@ export function itemOfMemory(file, memory, at) {
   const where = [`hunk ${hunk} + ${hex(field.offset)}`, contents.name(hunk)].filter(Boolean).join(", ");
   const label = file.labels().before(from);
   const item = { from, to: Math.min(from + field.width, memory.length), where };
-  const origin = place === undefined ? null : { text: `byte ${hex(place)} of the file`, place };
+  const origin = place === undefined ? null : originOf(file, place, field.width);
   if (field.target === undefined) {
     const name = origin || !file.hasBlocks ? "" : "zero, not in the file";
     return { ...item, name, says: label, targets: [origin] };

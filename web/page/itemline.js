@@ -16,7 +16,7 @@ function textsOf({ from, to, where, name, says }, { bytes, start }) {
   return texts.filter((it) => it.textContent);
 }
 
-const isReached = ({ place, memory }) => place !== undefined || memory !== undefined;
+const isReached = ({ file, memory }) => file !== undefined || memory !== undefined;
 
 export class ItemLine {
   /** `jump(target)` is called for a target that is followed. */

@@ -62,14 +62,17 @@ function contentItem(file, row, where, at) {
   const from = row.content + field.offset;
   const to = Math.min(from + field.width, row.content + row.contentBytes);
   const name = `content at offset ${hex(field.offset)}`;
-  const memory = file.table ? file.starts[row.hunk] + field.offset : undefined;
-  const texts = [file.table && file.labels().before(memory), field.says];
+  const texts = [file.table && file.labels().before(file.starts[row.hunk] + field.offset), field.says];
   const isWhole = to - from === field.width;
-  const targets = [isWhole && leadsTo(file, row, field, longAt(file.bytes, from)), file.isLoadable && memoryTarget(file, memory)];
+  const targets = [isWhole && leadsTo(file, row, field, longAt(file.bytes, from)), memoryTarget(file, row.hunk, field)];
   return { from, to, where, name, says: texts.filter(Boolean).join(", "), targets: targets.filter(Boolean) };
 }
 
-const memoryTarget = (file, memory) => ({ text: `memory ${hex((file.base + memory) >>> 0)}`, memory });
+/** Where a field is loaded to. */
+function memoryTarget(file, hunk, { offset, width }) {
+  const memory = file.inMemory(hunk, offset, width);
+  return memory && { text: `memory ${hex((file.base + memory.from) >>> 0)}`, memory };
+}
 
 /** The size of a block and what it is of: a longword, or the content from `row.content` on. */
 function sizedItem(file, row, where, at) {

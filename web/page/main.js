@@ -16,12 +16,14 @@ import { FIRST, Opening, entitle } from "./opening.js";
 import { unpacked } from "./packed.js";
 import { Picture } from "./picture.js";
 import { fileLegend, fileScene, memoryScene } from "./pictures.js";
+import { memoryPlace, memoryRange, textPlace } from "./places.js";
 import { bytesOf, PARTIAL, unreadText } from "./reading.js";
 import { classOf, toneOf, whyText } from "./reasons.js";
 import { sourceOfFile, sourceOfMemory } from "./sources.js";
 import { showReadings } from "./spellings.js";
 import { MODULES } from "./data.js";
 
+const LONG = 4;
 const $ = (id) => document.getElementById(id);
 
 let hunk;
@@ -105,7 +107,7 @@ function showFile() {
   fileView.show(bytes, 0, length, sourceOfFile(file));
   if (refusal) fileView.pick(refusal.place, refusal.place + 4);
   const isDrawn = file.hasBlocks;
-  filePicture.show(isDrawn ? fileScene(file, (at) => jump({ place: at })) : null);
+  filePicture.show(isDrawn ? fileScene(file, (at) => jump({ file: file.range(textPlace(at), LONG) })) : null);
   $("file-legend").innerHTML = isDrawn ? legendOf(fileLegend(file)) : "";
 }
 
@@ -138,22 +140,23 @@ function showMemory() {
   memory = loaded;
   $("memory-note").textContent = memory ? "" : noMemory(error);
   for (const id of ["memory-legend", "memory-hex", "memory-item", "save-memory"]) $(id).hidden = !memory;
-  memoryPicture.show(memory ? memoryScene(file, memory, (at) => jump({ memory: at })) : null);
+  memoryPicture.show(memory ? memoryScene(file, memory, (at) => jump({ memory: memoryRange(memoryPlace(at), LONG) })) : null);
   if (memory) memoryView.show(memory, file.base, memory.length, sourceOfMemory(file, memory));
 }
 
-/** Shows a byte of the file, one of the memory, or both. */
-function jump({ place, bytes = 4, memory: at }) {
-  if (place !== undefined) fileView.pick(place, place + bytes);
-  if (memory && at !== undefined) memoryView.pick(at, at + 4);
+/** Shows where a target stands, in both views.
+ * @param {import("./places.js").Target} target */
+function jump({ file: inFile, memory: inMemory }) {
+  if (inFile) fileView.pick(inFile.from, inFile.to);
+  if (memory && inMemory) memoryView.pick(inMemory.from, inMemory.to);
 }
 
-/** Shows an item of a list where it stands. */
-function pick(item) {
-  const { place, bytes, hunk, offset } = item;
-  // A hunk itself has no offset, and is no item of one.
-  const isInside = file.table && offset !== undefined && offset < file.table.rows.get(hunk, "bytes");
-  jump({ place, bytes, memory: isInside ? file.starts[hunk] + offset : item.memory });
+/** Shows the bytes of a row, and in a view that has none of them no others.
+ * @param {import("./places.js").Target} target */
+function pick(target) {
+  fileView.unpick();
+  memoryView.unpick();
+  jump(target);
 }
 
 // ---- What is shown.

@@ -7,7 +7,7 @@ import { bytesOf, unreadText } from "./reading.js";
 import { toneOf } from "./reasons.js";
 
 const COLUMNS = [
-  { field: "file", name: "file", least: 10 },
+  { field: "file", name: "file", isRest: true, least: 10 },
   { field: "bytes", name: "bytes", isNumber: true },
   { field: "class", name: "class" },
   { field: "hunks", name: "hunks", isNumber: true },

@@ -14,8 +14,8 @@ const drawing = new OffscreenCanvas(1, 1).getContext("2d");
 const measured = (text) => Math.ceil(drawing.measureText(String(text).replace(/\d/g, "0")).width) + SLACK;
 
 export class Widths {
-  /** `columns`: {name, isNumber, least}, of which the one with `least` has the rest of the room, and that many ems of its longer
-   *  texts at least. */
+  /** `columns`: {name, isNumber, isRest, least}, of which the one with `isRest` has the rest of the room. Its texts are whole, or
+   *  where it says so have that many ems at least. */
   constructor(box, columns, isSorted) {
     const { fontFamily } = getComputedStyle(box);
     drawing.font = `600 12px ${fontFamily}`;
@@ -52,7 +52,7 @@ export class Widths {
   }
 
   #apply() {
-    const columns = this.widths.map((width, i) => (this.columns[i].least ? `minmax(${width}px, 1fr)` : `${width}px`));
+    const columns = this.widths.map((width, i) => (this.columns[i].isRest ? `minmax(${width}px, 1fr)` : `${width}px`));
     this.box.style.setProperty("--columns", columns.join(" "));
     this.box.style.setProperty("--least", `${this.widths.reduce((sum, width) => sum + width, 0)}px`);
   }

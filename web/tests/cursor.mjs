@@ -164,8 +164,8 @@ async function compareSymbols(page, hold) {
   hold("a byte of a hunk without symbols", behind, await pointed(page, "memory", 12));
   const pick = (row) => page.in(`${MARKED} document.querySelectorAll("#list-panel [data-row]")[values[0]].click();
     return [marked("memory", "picked"), marked("file", "picked")].join()`, row);
-  hold("a symbol that is picked", "21004 21005 21006 21007,40 41 42 43", await pick(0));
-  hold("a symbol in hunk 1", "21008 21009 2100a 2100b,84 85 86 87", await pick(2));
+  hold("a symbol that is picked", "21004 21005 21006 21007,40 41 42 43 44 45 46 47 48 49 4a 4b", await pick(0));
+  hold("a symbol in hunk 1", "21008 21009 2100a 2100b,84 85 86 87 88 89 8a 8b 8c 8d 8e 8f", await pick(2));
 }
 
 /** Another base, by which addresses are others. */

@@ -177,7 +177,8 @@ async function tryNoMemory(page, hold) {
     transfer.items.add(new File([Uint8Array.from(values[0].match(/../g), (it) => parseInt(it, 16))], "small"));
     document.body.dispatchEvent(new DragEvent("drop", { dataTransfer: transfer, bubbles: true, cancelable: true }));`;
   await page.shows(() => page.in(drop, TEXT));
-  hold("a file without memory for it", "1 could not be read: large (no room).", await page.in(NOTE));
+  const told = "1 could not be read: large (the module's memory can't grow from ";
+  hold("a file without memory for it", told, (await page.in(NOTE)).slice(0, told.length));
   const wanted = "large,,not judged,unread,,,,,,,Read,30\r\nsmall,20,no hunk file,refused,other file,,,,,0,NotLoadFile,1\r\n";
   hold("its line, and the next", wanted, (await textOf(page, "save-csv")).replace(/.*\r\n/, ""));
 }

@@ -13,6 +13,7 @@ import { compareCursor } from "./cursor.mjs";
 import { compareMap, comparePictures } from "./pictures.mjs";
 import { compareRefused } from "./refused.mjs";
 import { compareKeyboard } from "./keyboard.mjs";
+import { compareTargets } from "./targets.mjs";
 import { compareWidths } from "./widths.mjs";
 import { takePictures } from "./photos.mjs";
 
@@ -249,6 +250,7 @@ try {
   await comparePictures(page, hold);
   await compareWidths(page, hold);
   await compareKeyboard(page, hold);
+  await compareTargets(page, hold);
   if (oneOf === "1") {
     await tryLarge(page, hold, work);
     await compareMap(page, hold, work);
