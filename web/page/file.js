@@ -6,6 +6,7 @@ import { Front } from "./front.js";
 import { Labels } from "./labels.js";
 import { Parts } from "./parts.js";
 import { filePlace, memoryPlace, memoryRange, textPlace } from "./places.js";
+import { Spelled } from "./spelled.js";
 
 /** The most bytes of memory, blocks and other items that are shown of a file. */
 const MOST_MEMORY = 1 << 28;
@@ -55,7 +56,7 @@ function plainReading(hunk, input, { refusal }) {
   if (spelling.shortBlocks + spelling.ends === 0) return null;
   const bytes = hunk.plain(input);
   const about = { ...summary(hunk, bytes), spelling, strict: refusal };
-  return { bytes, about, place: about.refusal && hunk.inputPlace(input, about.refusal.place) };
+  return { bytes, about, fault: about.refusal && hunk.inputPlace(input, about.refusal.place) };
 }
 
 /** The same, where it is accepted. */
@@ -76,13 +77,19 @@ export class Examined {
   constructor(hunk, input, name, which) {
     const about = summary(hunk, input);
     const plain = plainReading(hunk, input, about);
-    this.readings = [{ bytes: input, about, place: about.refusal?.place }, ...(plain ? [plain] : [])];
-    this.reading = this.readings[which ?? (plain && !plain.about.refusal ? 1 : 0)];
+    this.readings = [{ bytes: input, about, fault: about.refusal?.place }, ...(plain ? [plain] : [])];
+    this.which = which ?? (plain && !plain.about.refusal ? 1 : 0);
+    this.reading = this.readings[this.which];
     this.hunk = hunk;
     this.input = input;
     this.bytes = this.reading.bytes;
     this.name = name;
     this.about = this.reading.about;
+    /** Where it is refused. */
+    this.fault = this.about.refusal ? filePlace(this.reading.fault) : undefined;
+    /** How its bytes stand to those that are read, where that is not as they are.
+     * @type {Spelled | null} */
+    this.spelled = null;
     this.lists = {};
     this.table = null;
     this.front = null;
@@ -94,6 +101,7 @@ export class Examined {
     const units = this.table ? null : this.list("units");
     this.hasBlocks = rows.length === count && units?.rows.length === units?.count;
     this.blockPlaces = Float64Array.from({ length: rows.length }, (_, i) => rows.get(i, "place"));
+    if (this.about.spelling) this.spelled = new Spelled(input, rows);
   }
 
   /** Whether it can be loaded: all of it, and not only what stands before a fault. */
@@ -104,7 +112,23 @@ export class Examined {
   /** The byte of the file at which a byte of what is read stands.
    * @param {import("./places.js").TextPlace} place */
   inFile(place) {
-    return filePlace(place);
+    return this.spelled ? this.spelled.inFile(place) : filePlace(place);
+  }
+
+  /** The byte of what is read that stands at one of the file.
+   * @param {import("./places.js").FilePlace} place */
+  inText(place) {
+    return this.spelled ? this.spelled.inText(place) : textPlace(place);
+  }
+
+  /** Where what is read ends in the file, and what is after it or after a fault begins. */
+  get end() {
+    return this.inFile(textPlace(this.about.length));
+  }
+
+  /** The type of a block as the file has it; nothing for one that is put in. */
+  typeOf({ place, kind }) {
+    return this.spelled ? this.spelled.typeOf(textPlace(place), kind) : kind;
   }
 
   /** The bytes of the file at which so many bytes of what is read stand.

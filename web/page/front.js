@@ -58,13 +58,11 @@ function openText({ front, blocks, table }) {
   return ` of unit ${last.unit}, hunk ${last.hunk}`;
 }
 
-const byteText = (file, place) => `byte ${place} (${hex(place)})${file.about.spelling ? " of the plain spelling" : ""}`;
-
 function whereText(file) {
-  const { front, bytes, about } = file;
-  const begins = byteText(file, front.length);
+  const { front, input, about } = file;
+  const begins = `byte ${file.end} (${hex(file.end)})`;
   if (about.refusal.place === front.length) return `where a block${openText(file)} would begin, at ${begins}`;
-  const kind = longAt(bytes, front.length) & 0x1fffffff;
+  const kind = longAt(input, file.end) & 0x1fffffff;
   const what = kind === KINDS.UNIT ? "UNIT" : `${blockName(kind)} block${openText(file)}`;
   return `in the ${what}, which begins at ${begins}`;
 }
@@ -88,7 +86,7 @@ export function beforeText(file) {
   const parts = file.table
     ? `the header, ${blocks}, ${front.whole.toLocaleString("en")} of ${counted(front.hunks, "hunk")} whole`
     : `${counted(file.list("units").count, "unit")}, ${blocks}`;
-  return `The fault is ${whereText(file)}. Before it stand ${counted(front.length, "byte")}, which are shown: ${parts}.`;
+  return `The fault is ${whereText(file)}. Before it stand ${counted(file.end, "byte")}, which are shown: ${parts}.`;
 }
 
 /** How much of a hunk of a load file stands before the fault. */
@@ -102,32 +100,32 @@ export function stateOfHunk({ front, blocks }, hunk) {
 // ---- Among the bytes.
 
 /** How a byte is drawn that is of the fault or comes after it; nothing for one that stands before its block. */
-export function markAtFault({ about: { refusal, length }, front }, at) {
-  if (at >= refusal.place && at < refusal.place + LONG) return { tone: "refused", title: "refused here" };
-  if (!front || at < length) return null;
-  if (at < refusal.place) return { tone: "broken", title: "in the block that is refused" };
+export function markAtFault({ fault, front, end }, at) {
+  if (at >= fault && at < fault + LONG) return { tone: "refused", title: "refused here" };
+  if (!front || at < end) return null;
+  if (at < fault) return { tone: "broken", title: "in the block that is refused" };
   return { tone: "after", title: "after the fault, not read" };
 }
 
 /** The part of the strip to which a byte belongs that does not stand before the fault's block. */
-export function partAtFault({ about: { refusal, length }, bytes }, at) {
-  const end = Math.min(refusal.place + LONG, bytes.length);
-  const isAfter = at >= end;
-  const [from, to] = isAfter ? [end, bytes.length] : [length, end];
+export function partAtFault({ fault, end, input }, at) {
+  const after = Math.min(fault + LONG, input.length);
+  const isAfter = at >= after;
+  const [from, to] = isAfter ? [after, input.length] : [end, after];
   const what = isAfter ? "after the fault, not read" : "the block that is refused, up to the fault";
   return { from, to, text: `${what}, ${counted(to - from, "byte")} from ${hex(from)}` };
 }
 
 /** Draws the fault into the strip of the file, and its block up to it. */
-export function drawFault(canvas, { about: { refusal, length }, bytes }) {
+export function drawFault(canvas, { fault, end, input }) {
   const drawing = canvas.getContext("2d");
-  const scale = canvas.width / bytes.length;
+  const scale = canvas.width / input.length;
   const narrowest = NARROWEST * (canvas.width / canvas.clientWidth);
   const width = Math.max(narrowest, LONG * scale);
-  const at = Math.min(refusal.place * scale, canvas.width - width);
+  const at = Math.min(fault * scale, canvas.width - width);
   drawing.fillStyle = getComputedStyle(canvas).getPropertyValue("--bad");
   drawing.globalAlpha = 0.35;
-  drawing.fillRect(length * scale, 0, at - length * scale, canvas.height);
+  drawing.fillRect(end * scale, 0, at - end * scale, canvas.height);
   drawing.globalAlpha = 1;
   drawing.fillRect(at, 0, width, canvas.height);
 }

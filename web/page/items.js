@@ -9,6 +9,7 @@ import { fieldAt, leadsTo } from "./fields.js";
 import { markAtFault } from "./front.js";
 import * as names from "./names.js";
 import { entryItem, groupItem, symbolItem } from "./parts.js";
+import { textPlace } from "./places.js";
 
 const { counted, hex, lastAt, lastOf, longAt } = names;
 
@@ -91,7 +92,8 @@ function dataItem(file, row, where, at) {
 function blockWord(file, row, where) {
   const flags = names.flagsText(row.flags);
   const items = row.items > 0 ? counted(row.items, "item") : "";
-  const says = [flags, `a block of ${counted(row.bytes, "byte")}`, items].filter(Boolean).join(", ");
+  const { from, to } = file.range(textPlace(row.place), row.bytes);
+  const says = [flags, `a block of ${counted(to - from, "byte")}`, items].filter(Boolean).join(", ");
   return { from: row.place, to: row.place + 4, where, name: "block word", says };
 }
 
@@ -104,7 +106,7 @@ function partItem(file, row, where, at, itemOf) {
 }
 
 function blockItem(file, row, at) {
-  const where = `${names.whereText(file, row)}, ${names.blockName(row.kind)}`;
+  const where = `${names.whereText(file, row)}, ${names.blockName(file.typeOf(row) ?? row.kind)}`;
   if (at < row.place + 4) return blockWord(file, row, where);
   const { kind } = row;
   if (kind === KINDS.NAME) return nameItem(file, where, at - (at % 4), row.place + 8, row.contentBytes);
@@ -118,17 +120,27 @@ function blockItem(file, row, at) {
 /** A longword of which no more is known. */
 const plainItem = (from, where) => ({ from, to: from + 4, where, name: "", says: "" });
 
-function refusedItem(file, from) {
-  const { place, reason } = file.about.refusal;
-  return plainItem(from, from === place ? `refused here, ${reason}` : (markAtFault(file, from)?.title ?? ""));
+function refusedItem(file, at) {
+  const { fault } = file;
+  if (at >= fault && at < fault + 4) return plainItem(fault, `refused here, ${file.about.refusal.reason}`);
+  const from = at - (at % 4);
+  return plainItem(from, markAtFault(file, from)?.title ?? "");
 }
 
-/** The item of a file to which a byte belongs. */
+/** The item of a file to which a byte belongs.
+ * @param {import("./file.js").Examined} file
+ * @param {import("./places.js").FilePlace} at */
 export function itemOfFile(file, at) {
-  const { refusal, length } = file.about;
+  if (at >= file.end) return file.about.refusal ? refusedItem(file, at) : plainItem(at - (at % 4), "after the file");
+  const item = itemOfText(file, file.inText(at));
+  return { ...item, from: file.inFile(textPlace(item.from)), to: file.inFile(textPlace(item.to)) };
+}
+
+/** The item of what is read to which a byte belongs.
+ * @param {import("./file.js").Examined} file
+ * @param {import("./places.js").TextPlace} at */
+function itemOfText(file, at) {
   const from = at - (at % 4);
-  if (refusal && at >= length) return refusedItem(file, from);
-  if (at >= length) return plainItem(from, "after the file");
   if (!file.hasBlocks) return plainItem(from, "");
   const block = lastAt(file.blockPlaces, at);
   if (block >= 0 && at < file.blockPlaces[block] + file.blocks.get(block, "bytes")) {

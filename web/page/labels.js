@@ -8,11 +8,18 @@ function placesBetween(rows, from, to, call) {
   for (let i = lastOf(rows.length, place, from - 1) + 1; i < rows.length && place(i) < to; i++) call(i, place(i));
 }
 
-/** What begins in these bytes of a file: its header, units and blocks. */
-export function namesInFile(file, from, to) {
+/** What begins in these bytes of a file: its header, units and blocks.
+ * @param {import("./file.js").Examined} file
+ * @param {import("./places.js").FilePlace} first
+ * @param {import("./places.js").FilePlace} end */
+export function namesInFile(file, first, end) {
+  const [from, to] = [file.inText(first), end < file.end ? file.inText(end) : file.about.length];
   const found = file.table && from === 0 ? [[0, "HEADER"]] : [];
   if (!file.table) placesBetween(file.list("units").rows, from, to, (_, place) => found.push([place, "UNIT"]));
-  placesBetween(file.blocks, from, to, (i, place) => found.push([place, blockName(file.blocks.get(i, "kind"))]));
+  placesBetween(file.blocks, from, to, (i, place) => {
+    const type = file.typeOf(file.blocks.at(i));
+    if (type !== undefined) found.push([place, blockName(type)]);
+  });
   return found.sort(([one], [other]) => one - other).map(([, name]) => name);
 }
 

@@ -64,8 +64,11 @@ function blockRows(file) {
     },
     cells(i) {
       const row = rows.at(i);
-      const kind = { text: names.blockName(row.kind), chip: names.blockColour(row.kind) };
-      return [placeText(file, row), whereOf(file, row), kind, row.bytes.toLocaleString("en"), blockText(file, row)];
+      const { from, to } = inFile(file, row, row.bytes);
+      const type = file.typeOf(row);
+      const kind = { text: names.blockName(type ?? row.kind), chip: names.blockColour(row.kind) };
+      const said = type === undefined ? "left out in the file" : blockText(file, row);
+      return [hex(from), whereOf(file, row), kind, (to - from).toLocaleString("en"), said];
     },
   };
 }

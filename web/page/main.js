@@ -16,9 +16,9 @@ import { FIRST, Opening, entitle } from "./opening.js";
 import { unpacked } from "./packed.js";
 import { Picture } from "./picture.js";
 import { fileLegend, fileScene, memoryScene } from "./pictures.js";
-import { memoryPlace, memoryRange, textPlace } from "./places.js";
+import { filePlace, memoryPlace, memoryRange } from "./places.js";
 import { bytesOf, PARTIAL, unreadText } from "./reading.js";
-import { classOf, toneOf, whyText } from "./reasons.js";
+import { classOf, toneOf, whyOf, whyText } from "./reasons.js";
 import { sourceOfFile, sourceOfMemory } from "./sources.js";
 import { showReadings } from "./spellings.js";
 import { MODULES } from "./data.js";
@@ -59,13 +59,13 @@ function otherwiseText({ shortBlocks, ends }) {
 function refusalTexts({ kind, refusal, spelling }, place) {
   const what = BEGINS[kind] ?? "Neither a load file nor an object file";
   if (!spelling) return [`${what}: ${refusedText(refusal, place)}`];
-  return [`${otherwiseText(spelling)}.`, `Its plain spelling is shown: ${refusedText(refusal, place)}`];
+  return [`${otherwiseText(spelling)}.`, `Read as that, it is ${refusedText(refusal, place)}`];
 }
 
 /** Of a file that is shown in its plain spelling: what it has otherwise, and why it is refused as it is. */
 function spelledTexts({ spelling, strict }, what) {
   const asItIs = `As it is, it is ${refusedText(strict, strict.place)}`;
-  return [`${otherwiseText(spelling)}, ${what}.`, `Its plain spelling is shown. ${asItIs}`];
+  return [`${otherwiseText(spelling)}, ${what}.`, `It is shown as readers of this spelling take it. ${asItIs}`];
 }
 
 function acceptedTexts(about) {
@@ -74,7 +74,8 @@ function acceptedTexts(about) {
       ? `a load file: ${counted(about.hunks, "hunk")}, ${counted(about.declared, "byte")} in memory`
       : `an object file: ${counted(about.units, "unit")}, ${counted(about.findings, "finding")}`;
   if (about.strict) return spelledTexts(about, what);
-  const rest = about.length < file.bytes.length ? `; ${counted(file.bytes.length - about.length, "byte")} after it are not read` : "";
+  const after = file.input.length - file.end;
+  const rest = after > 0 ? `; ${counted(after, "byte")} after it are not read` : "";
   return [`A${what.slice(1)}${rest}.`];
 }
 
@@ -87,11 +88,10 @@ function tellVerdict([first, ...others], tone) {
 
 function showVerdict() {
   const { about } = file;
-  tellVerdict(about.refusal ? refusalTexts(about, file.reading.place) : acceptedTexts(about), toneOf(classOf(about)));
+  tellVerdict(about.refusal ? refusalTexts(about, file.fault) : acceptedTexts(about), toneOf(classOf(about)));
   showReadings($("readings"), file, (which) => show(file.input, file.name, which));
   $("before").textContent = beforeText(file);
-  const refusal = about.refusal ?? about.strict;
-  showLines($("why"), refusal ? whyText(refusal) : "");
+  showLines($("why"), whyOf(about));
   $("file-name").textContent = `${file.name}, ${counted(file.input.length, "byte")}`;
 }
 
@@ -101,13 +101,12 @@ const chip = ([colour, text]) => `<span><i style="background:${colour}"></i>${te
 const legendOf = (colours) => colours.map(chip).join("");
 
 function showFile() {
-  const { about, bytes } = file;
-  const { refusal } = about;
-  const length = refusal ? Math.max(bytes.length, refusal.place + 4) : bytes.length;
-  fileView.show(bytes, 0, length, sourceOfFile(file));
-  if (refusal) fileView.pick(refusal.place, refusal.place + 4);
+  const { fault, input } = file;
+  const length = fault === undefined ? input.length : Math.max(input.length, fault + LONG);
+  fileView.show(input, 0, length, sourceOfFile(file));
+  if (fault !== undefined) fileView.pick(fault, fault + LONG);
   const isDrawn = file.hasBlocks;
-  filePicture.show(isDrawn ? fileScene(file, (at) => jump({ file: file.range(textPlace(at), LONG) })) : null);
+  filePicture.show(isDrawn ? fileScene(file, (at) => jump({ file: { from: filePlace(at), to: filePlace(at + LONG) } })) : null);
   $("file-legend").innerHTML = isDrawn ? legendOf(fileLegend(file)) : "";
 }
 
@@ -191,6 +190,7 @@ function showWhole(bytes, name, which) {
   showMap();
   if (isListed) lists.show(file);
   $("save-stripped").hidden = Boolean(file.about.refusal);
+  $("save-plain").hidden = !file.about.strict || Boolean(file.about.refusal);
   $("saved").textContent = "";
   $("copied").textContent = "";
   $("link").hidden = true;
@@ -317,6 +317,7 @@ function listen() {
     copyLink(linkOf({ example, bytes: file.input, base: file.table && base.text }), $("link"), $("copied"));
   });
   $("save-stripped").addEventListener("click", saveStripped);
+  $("save-plain").addEventListener("click", () => save(file.bytes, `${file.name}.plain`));
   $("save-memory").addEventListener("click", () => save(memory, `${file.name}.memory`));
   $("save-csv").addEventListener("click", () => save(many.csv(), "hunks.csv", "text/csv"));
   whenSchemeChanges(() => file && show(file.input, file.name));

@@ -3,6 +3,7 @@
 import { KINDS } from "../../bindings/javascript/kinds.js";
 import { drawFault, partAtFault } from "./front.js";
 import { blockColour, blockName, counted, hex, hunkColour, lastAt, lastOf, nameText, whereText } from "./names.js";
+import { filePlace, textPlace } from "./places.js";
 
 /** Sizes a canvas to the pixels that it has on the screen. */
 export function prepared(canvas) {
@@ -53,11 +54,12 @@ function drawMemory(canvas, file, memory) {
 function drawFile(canvas, file) {
   const drawing = prepared(canvas);
   const { width, height } = canvas;
-  const length = file.bytes.length;
+  const { length } = file.input;
+  const { end } = file;
   let before = -1;
   for (let x = 0; x < width && length > 0; x++) {
-    const at = Math.floor((x * length) / width);
-    const block = at < file.about.length ? lastAt(file.blockPlaces, at) : -2;
+    const at = filePlace(Math.floor((x * length) / width));
+    const block = at < end ? lastAt(file.blockPlaces, file.inText(at)) : -2;
     const kind = block >= 0 ? file.blocks.get(block, "kind") : null;
     const isNew = block !== before && length < 4 * width;
     drawing.fillStyle = block === -2 ? "transparent" : blockColour(kind, isNew ? 35 : 68);
@@ -86,22 +88,30 @@ function nextPlace(file, at, block) {
   return unit < rows.length ? Math.min(next, rows.get(unit, "place")) : next;
 }
 
-/** The block of a file to which a byte belongs, or its header, or what comes after it: {from, to, text}. */
+/** The block of a file to which a byte belongs, or its header, or what comes after it: {from, to, text}.
+ * @param {import("./file.js").Examined} file
+ * @param {import("./places.js").FilePlace} at */
 export function partOfFile(file, at) {
-  const { length } = file.about;
-  const end = file.bytes.length;
-  if (at >= length && file.about.refusal) return partAtFault(file, at);
-  if (at >= length) return { from: length, to: end, text: `after the file, ${bytesText(length, end)}` };
+  const { length } = file.input;
+  if (at >= file.end && file.about.refusal) return partAtFault(file, at);
+  if (at >= file.end) return { from: file.end, to: length, text: `after the file, ${bytesText(file.end, length)}` };
+  const part = partOfText(file, file.inText(at));
+  const from = file.inFile(textPlace(part.from));
+  const to = file.inFile(textPlace(part.to));
+  return { from, to, text: `${part.text}, ${bytesText(from, to)}` };
+}
+
+function partOfText(file, at) {
   const block = lastAt(file.blockPlaces, at);
   const from = block < 0 ? 0 : file.blockPlaces[block];
   const behind = block < 0 ? 0 : from + file.blocks.get(block, "bytes");
   if (block >= 0 && at < behind) {
     const row = file.blocks.at(block);
-    return { from, to: behind, text: `${blockName(row.kind)}, ${whereText(file, row)}, ${bytesText(from, behind)}` };
+    return { from, to: behind, text: `${blockName(file.typeOf(row) ?? row.kind)}, ${whereText(file, row)}` };
   }
   const begins = file.table ? behind : unitPlace(file, at);
   const to = nextPlace(file, at, block);
-  return { from: begins, to, text: `${headText(file, begins)}, ${bytesText(begins, to)}` };
+  return { from: begins, to, text: headText(file, begins) };
 }
 
 function unitPlace(file, at) {
@@ -110,7 +120,7 @@ function unitPlace(file, at) {
 }
 
 export function fileScene(file, go) {
-  const { length } = file.bytes;
+  const { length } = file.input;
   const draw = (canvas) => {
     drawFile(canvas, file);
     if (file.about.refusal) drawFault(canvas, file);

@@ -36,6 +36,16 @@ const TONES = {
 };
 export const toneOf = (shown) => TONES[shown] ?? "soft";
 
+/** Why a file is refused, and what to do about it. One that is shown in its other spelling is read so already, and that is not
+ * advised again. */
+export function whyOf({ refusal, strict }) {
+  if (refusal) return whyText(refusal);
+  return strict ? `${PLAIN_NEEDED}: ${strict.text}.\n${SAVE_PLAIN}` : "";
+}
+
+const PLAIN_NEEDED = "Not every reader takes it";
+const SAVE_PLAIN = "Developer: its plain spelling, which can be saved below, is taken by every reader.";
+
 export function whyText(refusal) {
   const [shown, developer, archive, meaning] = reasonOf(refusal);
   const text = refusal.what ? `${refusal.what}, by its first bytes` : (meaning ?? refusal.text);

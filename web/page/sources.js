@@ -10,13 +10,14 @@ import { blockColour, blockName, hunkColour, lastAt } from "./names.js";
 
 const RELOCATED = 4;
 
-function markOfBlock(file, at) {
+function markOfBlock(file, place) {
+  const at = file.inText(place);
   const block = lastAt(file.blockPlaces, at);
   if (block < 0 || at >= file.blockPlaces[block] + file.blocks.get(block, "bytes")) {
     return { colour: blockColour(null), title: "header" };
   }
-  const kind = file.blocks.get(block, "kind");
-  return { colour: blockColour(kind), title: `${blockName(kind)}, hunk ${file.blocks.get(block, "hunk")}` };
+  const row = file.blocks.at(block);
+  return { colour: blockColour(row.kind), title: `${blockName(file.typeOf(row) ?? row.kind)}, hunk ${row.hunk}` };
 }
 
 function sourceOfRefused(file) {
@@ -31,7 +32,7 @@ export function sourceOfFile(file) {
   const mark = (at) => {
     const finding = lastAt(findings, at);
     if (finding >= 0 && at < findings[finding] + 4) return { tone: "finding", title: "a finding" };
-    return at >= file.about.length ? { tone: "after", title: "after the file" } : markOfBlock(file, at);
+    return at >= file.end ? { tone: "after", title: "after the file" } : markOfBlock(file, at);
   };
   return { mark, item: (at) => itemOfFile(file, at), names: (from, to) => namesInFile(file, from, to) };
 }

@@ -4,9 +4,9 @@ import { counted } from "./names.js";
 
 const NAMES = ["As it is", "In its plain spelling"];
 
-function resultText({ about, place }) {
+function resultText({ about, fault }) {
   const { refusal, hunks, declared, units, findings } = about;
-  if (refusal) return `refused at byte ${place}, ${refusal.reason}`;
+  if (refusal) return `refused at byte ${fault}, ${refusal.reason}`;
   if (hunks > 0) return `a load file: ${counted(hunks, "hunk")}, ${counted(declared, "byte")} in memory`;
   return `an object file: ${counted(units, "unit")}, ${counted(findings, "finding")}`;
 }

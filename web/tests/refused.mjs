@@ -35,6 +35,12 @@ const BEFORE_SHORT =
   "The fault is where a block of hunk 0 would begin, at byte 40 (00000028). " +
   "Before it stand 40 bytes, which are shown: the header, 1 block, 0 of 1 hunk whole.";
 
+/** WIDE in its plain spelling. */
+const PLAIN = `${WIDE.slice(0, 2 * 40)}${digits("000003ec 00000001 00000000 00000000 00000000 000003f2")}`;
+
+/** All digits of a view. */
+const BYTES = `return [...document.querySelectorAll("#" + values[0] + "-hex .line > :is(span, b):not(.at, .text, .names)")]
+  .map((it) => it.textContent).join("").trim()`;
 const TEXT = `return document.getElementById(values[0]).textContent`;
 const HIDDEN = `return values[0].filter((id) => document.getElementById(id).closest("[hidden]")).join()`;
 const TABS = `return [...document.querySelectorAll("[role=tab]")].map((it) => it.textContent).join()`;
@@ -143,8 +149,9 @@ class Refused {
     const strict = "As it is refused at byte 40, ShortReloc";
     const plain = `In its plain spelling ${accepted}`;
     const refused = SHORT.slice("Begins as a load file: ".length);
-    const shown = `${OTHERWISE}, ${accepted}. Its plain spelling is shown. As it is, it is ${refused}`;
+    const shown = `${OTHERWISE}, ${accepted}. It is shown as readers of this spelling take it. As it is, it is ${refused}`;
     await this.show("another spelling", WIDE, shown, "");
+    await this.placesOfSpelling();
     await this.same("its readings", `false ${strict},true ${plain}`, READINGS);
     await this.same("its marks", "0,0,0", MARKED);
     await this.choose(0);
@@ -159,21 +166,30 @@ class Refused {
     this.hold("another spelling, plain again", shown, await this.text("verdict"));
   }
 
-  async why() {
-    return (await this.text("why")).split("\n")[0];
-  }
-
-  async foreign() {
-    for (const [what, file, reason, why] of FOREIGN) {
-      await this.show(what, file, `Neither a load file nor an object file: refused at byte 0 (00000000), ${reason}.`, "");
-      this.hold(`${what}, why`, why, await this.why());
+  /** What is shown is the file, and its places are those of the file: of 52 bytes, with the short block at 28. */
+  async placesOfSpelling() {
+    await this.same("its bytes", WIDE, BYTES, "file");
+    const blocks = "00000018 0 CODE 16,00000028 0 RELOC32SHORT 12,00000034 0 END 0";
+    await this.same("its blocks", blocks, ROWS, "blocks", 4);
+    await this.same("its relocations", "00000030 0 00000000 0", ROWS, "relocations", 4);
+    const picked = `document.querySelector("#list-panel [data-row]").click();
+      return [...document.querySelectorAll("#file-hex .picked")].map((it) => it.textContent).join()`;
+    await this.same("the bytes of its relocation", "00,00", picked);
+    const lines = {
+      0x2d: "0000002c | hunk 0, RELOC32SHORT: count | 0001 | 1 offset for hunk 0",
+      0x30: "00000030 | hunk 0, RELOC32SHORT: offset 1 of 1 | 0000 | the base of hunk 0 is added there | → hunk 0 + 00000000 = 00021000",
+      0x32: "00000032 | hunk 0, RELOC32SHORT: end | 0000 | no more follow in this block",
+    };
+    for (const [byte, wanted] of Object.entries(lines)) {
+      this.hold(`another spelling, byte ${byte}`, wanted, await pointed(this.page, "file", Number(byte)));
     }
-    const fault = "The fault is where a block of hunk 0 would begin, at byte 24 (00000018).";
-    const before = "Before it stand 24 bytes, which are shown: the header, no block, 0 of 1 hunk whole.";
-    const verdict = "Begins as a load file: refused at byte 24 (00000018), UnknownBlock (16).";
-    await this.show("PowerPC code", POWERPC, verdict, `${fault} ${before}`);
-    const told = "Not supported: a program with PowerPC code, in a CODE block of its own type.";
-    this.hold("PowerPC code, why", told, await this.why());
+    const memory = "00021000 | hunk 0 + 00000000, CODE | 00021000 | the base of hunk 0 is added" +
+      " | → hunk 0 + 00000000 = 00021000 | → byte 00000020 of the file";
+    this.hold("another spelling, its memory", memory, await pointed(this.page, "memory", 1));
+    const names = `return [...document.querySelectorAll("#file-hex .names")].map((it) => it.textContent).join()`;
+    await this.same("the names beside its bytes", "HEADER,CODE,RELOC32SHORT", names);
+    await this.same("what is advised", false, `return /--wide/.test(document.getElementById("why").textContent)`);
+    this.hold("its plain spelling, saved", PLAIN, await this.page.saved("save-plain"));
   }
 
   async badSpelling() {
@@ -181,10 +197,13 @@ class Refused {
     const refused = "In its plain spelling refused at byte 46, BadTarget";
     await this.same("its readings", `true As it is refused at byte 40, ShortReloc,false ${refused}`, READINGS);
     await this.choose(1);
-    const plain = `${OTHERWISE}. Its plain spelling is shown: refused at byte 46 (0000002e), BadTarget (23).`;
+    const plain = `${OTHERWISE}. Read as that, it is refused at byte 46 (0000002e), BadTarget (23).`;
     this.hold("a bad target in plain spelling", plain, await this.text("verdict"));
-    const fault = "The fault is in the RELOC32 block of hunk 0, which begins at byte 40 (00000028) of the plain spelling.";
+    const fault = "The fault is in the RELOC32SHORT block of hunk 0, which begins at byte 40 (00000028).";
     this.hold("its fault in plain spelling", fault, (await this.text("before")).split(" Before")[0]);
+    await this.same("its bytes", BAD_WIDE, BYTES, "file");
+    const said = await pointed(this.page, "file", 46);
+    this.hold("what stands at its fault", "0000002e | refused here, BadTarget | 00050000", said);
   }
 }
 

@@ -105,7 +105,8 @@ async function compareRow(page, row) {
     const isSpelled = await page.in(`return document.getElementById("verdict").textContent.startsWith("In another spelling")`);
     hold(`${row.name}, the bytes that are marked`, isSpelled ? 0 : 4, marked);
     const why = await page.in(`return document.getElementById("why").textContent`);
-    hold(`${row.name}, why`, whyOf(row.answer), why[0].toLowerCase() + why.slice(1));
+    if (isSpelled) hold(`${row.name}, advice that was followed`, false, why.includes("--wide"));
+    else hold(`${row.name}, why`, whyOf(row.answer), why[0].toLowerCase() + why.slice(1));
     return;
   }
   printed("rewrite", "--strip", path, `${path}.stripped`);
