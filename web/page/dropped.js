@@ -54,7 +54,9 @@ async function walkFolder(entry, handle, found) {
 }
 
 const COLLATOR = new Intl.Collator("en", { numeric: true });
-const byName = (one, other) => COLLATOR.compare(one.name, other.name);
+/** Whether a name comes before another: as people sort them, with numbers by their size. */
+export const inOrder = (one, other) => COLLATOR.compare(one, other);
+const byName = (one, other) => inOrder(one.name, other.name);
 
 /** What a drop brought, folders by name, and whether the browser may have left names out. */
 export async function droppedFiles(transfer) {

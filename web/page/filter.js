@@ -44,7 +44,8 @@ const FINDS = {
 
 /** A box above a list, which leaves the rows in which something is found. */
 export class Filter {
-  /** `show(found)` is called with the numbers of these rows, rising; with null where all are left. */
+  /** `show(found, isSame)` is called with the numbers of these rows, rising; with null where all are left. `isSame` says that the
+   *  same is sought again. */
   constructor(list, file, show) {
     this.list = list;
     this.file = file;
@@ -68,7 +69,7 @@ export class Filter {
   }
 
   /** Leaves the rows in which this is found. */
-  async look(said) {
+  async look(said, isSame = false) {
     const run = ++this.run;
     const text = said.trim().toLowerCase();
     this.field.value = said;
@@ -76,7 +77,7 @@ export class Filter {
     if (run !== this.run) return;
     const { length } = this.file.list(this.list).rows;
     this.told.textContent = found ? `${found.length.toLocaleString("en")} of ${length.toLocaleString("en")}` : "";
-    this.show(found);
+    this.show(found, isSame);
   }
 
   /** The rows that are sought, unless something else is sought by then. */

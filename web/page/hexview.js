@@ -48,6 +48,18 @@ export class HexView {
     this.scroller.setCount(Math.ceil(length / this.per));
   }
 
+  /** Shows other bytes at other addresses in the place of these: the caret, what is picked and what is seen stay. */
+  renew(bytes, start, source) {
+    Object.assign(this, { bytes, start, source });
+    this.refresh();
+  }
+
+  /** Draws anew, and tells of the item at the caret. */
+  refresh() {
+    this.#tell(this.caret);
+    this.scroller.refresh();
+  }
+
   /** Scrolls to a byte. */
   go(at) {
     this.scroller.go(Math.floor(at / this.per) - 3);

@@ -1,5 +1,6 @@
 // What the table of many files has of each: a line is an object with some of FIELDS.
 
+import { inOrder } from "./dropped.js";
 import { inPlain, summary } from "./file.js";
 import { classOf } from "./reasons.js";
 
@@ -26,11 +27,13 @@ export function lineOf(hunk, name, bytes) {
 /** The line of a file that could not be read, by the reason of the library that says so. */
 export const unreadLine = (name) => ({ file: name, class: "not judged", answer: "unread", reason: "Read", number: 30 });
 
+const byValue = (one, other) => (typeof one === "string" ? inOrder(one, other) : one - other);
+
 /** Sorts lines by a field, in the direction 1 or -1. Those that have none stay last. */
 export function sortLines(lines, field, direction) {
   lines.sort(({ [field]: one }, { [field]: other }) => {
     if (one === undefined || other === undefined) return (one === undefined) - (other === undefined);
-    return direction * (one < other ? -1 : one > other ? 1 : 0);
+    return direction * byValue(one, other);
   });
 }
 

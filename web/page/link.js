@@ -11,17 +11,12 @@ export function readLink() {
   return { example: said.get("example"), hex: said.get("hex"), base: said.get("base") };
 }
 
-/** Takes away what the address says, when something else is shown. */
-export function forgetLink() {
-  if (location.hash) history.replaceState(null, "", here());
-}
-
-/** Has an address that says what is shown say this base. */
-export function moveLink(base) {
+/** What the address says of what is shown, with this base; nothing where it says nothing. */
+export function linkAt(base) {
   const said = new URLSearchParams(location.hash.slice(1));
-  if (!said.has("example") && !said.has("hex")) return;
+  if (!said.has("example") && !said.has("hex")) return null;
   said.set("base", base);
-  history.replaceState(null, "", `#${said}`);
+  return `#${said}`;
 }
 
 /** A link to an example, or with these bytes in it; null where they are too many. */

@@ -13,6 +13,7 @@ export class Lists {
     this.tabs.addEventListener("keydown", (event) => this.#key(event));
   }
 
+  /** Shows the lists of a file, of which that is opened that was open before, if there is one of that name. */
   show(file) {
     this.file = file;
     this.tabs.replaceChildren();
@@ -20,7 +21,9 @@ export class Lists {
       const count = list.count(file);
       if (count > 0) this.tabs.append(this.#tab(list, count));
     }
-    if (this.tabs.firstChild) this.open(this.tabs.firstChild);
+    const tabs = [...this.tabs.children];
+    const tab = tabs.find((it) => it.id === this.wanted) ?? tabs[0];
+    if (tab) this.#open(tab);
     else this.panel.replaceChildren();
   }
 
@@ -36,41 +39,53 @@ export class Lists {
     return tab;
   }
 
+  /** Opens a list, which other files that have it are then opened with, too. */
   open(tab) {
+    this.wanted = tab.id;
+    this.#open(tab);
+  }
+
+  #open(tab) {
     for (const it of this.tabs.children) {
-      it.setAttribute("aria-selected", it === tab);
+      it.setAttribute("aria-selected", String(it === tab));
       it.tabIndex = it === tab ? 0 : -1;
     }
     this.tab = tab;
+    this.filter = null;
+    this.grid = null;
     this.panel.setAttribute("aria-labelledby", tab.id);
-    this.refresh();
-  }
-
-  /** Makes the open list anew, as after a change of the base. */
-  refresh() {
-    if (!this.tab?.isConnected) return;
-    const rows = this.tab.list.rows(this.file);
     const box = document.createElement("div");
     this.panel.replaceChildren(box);
-    if (rows.count < this.tab.count) {
-      box.textContent = `These are ${this.tab.count.toLocaleString("en")}: more than this page lists.`;
-      return;
-    }
-    const grid = new Grid(box, this.tab.textContent, rows.columns);
-    const pick = (i) => this.pick(rows.target(i));
-    const all = { ...rows, pick };
-    grid.show(all);
-    if (!Filter.isFor(this.tab.list.id)) return;
-    const only = (found) => ({ count: found.length, cells: (i) => rows.cells(found[i]), pick: (i) => pick(found[i]) });
-    this.#addFilter((found) => grid.show(found ? only(found) : all));
+    this.#make(box, tab);
   }
 
-  /** A box to filter the open list by, with what it has said before. */
-  #addFilter(show) {
-    const said = this.tab.filter?.field.value ?? "";
-    this.tab.filter = new Filter(this.tab.list.id, this.file, show);
-    this.panel.prepend(this.tab.filter.box);
-    if (said) this.tab.filter.look(said);
+  #make(box, { list, count }) {
+    const rows = list.rows(this.file);
+    if (rows.count < count) {
+      box.textContent = `These are ${count.toLocaleString("en")}: more than this page lists.`;
+      return;
+    }
+    this.grid = new Grid(box, this.tab.textContent, rows.columns);
+    this.#fill(null, false);
+    if (!Filter.isFor(list.id)) return;
+    this.filter = new Filter(list.id, this.file, (found, isSame) => this.#fill(found, isSame));
+    this.panel.prepend(this.filter.box);
+  }
+
+  /** Shows the rows of the open list that were found, or all of them; at the same place where they are the same. */
+  #fill(found, isSamePlace) {
+    const rows = this.tab.list.rows(this.file);
+    const all = found ?? { length: rows.count };
+    const at = (i) => (found ? found[i] : i);
+    const pick = (i) => this.pick(rows.target(at(i)));
+    this.grid.show({ count: all.length, cells: (i) => rows.cells(at(i)), pick }, isSamePlace);
+  }
+
+  /** Shows the open list again, as after a change of the base, at its place. */
+  refresh() {
+    if (!this.tab?.isConnected || !this.grid) return;
+    if (this.filter?.field.value) this.filter.look(this.filter.field.value, true);
+    else this.#fill(null, true);
   }
 
   #key(event) {

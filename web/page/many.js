@@ -51,6 +51,8 @@ export class Many {
     this.filter.addEventListener("input", () => this.#arrange());
     this.lines = [];
     this.run = 0;
+    /** What it is the table of. */
+    this.visit = null;
   }
 
   /** The button that leaves one class, or with "" all. */

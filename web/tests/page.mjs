@@ -32,7 +32,12 @@ export class Page {
   async open(hash = "", from = this.url) {
     await this.browser.go("about:blank");
     await this.browser.go(from + hash);
-    await this.in(`while (!(document.body && "ready" in document.body.dataset)) await new Promise((done) => setTimeout(done, 5));`);
+    await this.in(
+      `for (let i = 0; !(document.body && "ready" in document.body.dataset); i++) {
+         if (i > 600) throw new Error("the page does not open");
+         await new Promise((done) => setTimeout(done, 5));
+       }`,
+    );
   }
 
   hex(digits) {

@@ -13,6 +13,7 @@ import { compareCursor } from "./cursor.mjs";
 import { compareMap, comparePictures } from "./pictures.mjs";
 import { compareRefused } from "./refused.mjs";
 import { compareKeyboard } from "./keyboard.mjs";
+import { compareStaying } from "./staying.mjs";
 import { compareTargets } from "./targets.mjs";
 import { compareWidths } from "./widths.mjs";
 import { takePictures } from "./photos.mjs";
@@ -252,6 +253,7 @@ try {
   await compareWidths(page, hold);
   await compareKeyboard(page, hold);
   await compareTargets(page, hold);
+  await compareStaying(page, hold);
   if (oneOf === "1") {
     await tryLarge(page, hold, work);
     await compareMap(page, hold, work);

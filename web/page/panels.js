@@ -1,0 +1,139 @@
+// A file that is shown: its pictures, its views of bytes, and its lists, which lead to each other.
+
+import { HexView } from "./hexview.js";
+import { ItemLine } from "./itemline.js";
+import { Lists } from "./lists.js";
+import { HunkMap, mapLegend, mapScene } from "./map.js";
+import { Picture } from "./picture.js";
+import { fileLegend, fileScene, memoryScene } from "./pictures.js";
+import { filePlace, memoryPlace, memoryRange } from "./places.js";
+import { whyText } from "./reasons.js";
+import { sourceOfFile, sourceOfMemory } from "./sources.js";
+
+/** @typedef {import("./places.js").Target} Target */
+
+const LONG = 4;
+const $ = (id) => document.getElementById(id);
+
+const chip = ([colour, text]) => `<span><i style="background:${colour}"></i>${text}</span>`;
+const legendOf = (colours) => colours.map(chip).join("");
+
+/** Why there is no memory to be shown. */
+function noMemory(file, error) {
+  if (file.isTooLarge) return "It declares more memory than this page shows.";
+  return `Not loaded: ${error.reason}. ${whyText(error)}`;
+}
+
+export class Panels {
+  constructor() {
+    /** @param {Target} target */
+    const jump = (target) => this.jump(target);
+    /** @type {import("./file.js").Examined | null} */
+    this.file = null;
+    this.memory = null;
+    this.memoryView = new HexView($("memory-hex"), "Memory, as hexadecimal digits", new ItemLine($("memory-item"), jump));
+    this.fileView = new HexView($("file-hex"), "File, as hexadecimal digits", new ItemLine($("file-item"), jump));
+    this.mapPicture = new Picture($("map-picture"), "The hunks, and which base is added in which");
+    this.memoryPicture = new Picture($("memory-picture"), "The memory, by hunks");
+    this.filePicture = new Picture($("file-picture"), "The file, by blocks");
+    this.lists = new Lists($("lists"), (target) => this.pick(target));
+  }
+
+  /** Shows a file, loaded from the address that is its base.
+   * @param {import("./file.js").Examined} file */
+  show(file) {
+    this.file = file;
+    const isListed = !file.about.refusal || file.front !== null;
+    $("lists").hidden = !isListed;
+    this.#showFile();
+    this.#showMemory();
+    this.#showMap();
+    if (isListed) this.lists.show(file);
+  }
+
+  close() {
+    this.file = null;
+    this.memory = null;
+  }
+
+  /** Shows the memory from another base. All stays at its place. */
+  rebase() {
+    this.#load();
+    if (this.memory) this.memoryView.renew(this.memory, this.file.base, sourceOfMemory(this.file, this.memory));
+    this.fileView.retell();
+    this.lists.refresh();
+  }
+
+  /** Draws all anew, as after a change of the colours. */
+  recolour() {
+    if (!this.file) return;
+    for (const picture of [this.mapPicture, this.memoryPicture, this.filePicture]) picture.draw();
+    for (const view of [this.memoryView, this.fileView]) view.refresh();
+    this.#tellLegends();
+    this.lists.refresh();
+  }
+
+  #showFile() {
+    const { file } = this;
+    const { fault, input } = file;
+    const length = fault === undefined ? input.length : Math.max(input.length, fault + LONG);
+    this.fileView.show(input, 0, length, sourceOfFile(file));
+    if (fault !== undefined) this.fileView.pick(fault, fault + LONG);
+    const go = (at) => this.jump({ file: { from: filePlace(at), to: filePlace(at + LONG) } });
+    this.filePicture.show(file.hasBlocks ? fileScene(file, go) : null);
+    this.#tellLegends();
+  }
+
+  /** The map of the hunks, where the blocks are listed. */
+  #showMap() {
+    const { file } = this;
+    const began = performance.now();
+    const isDrawn = !file.about.refusal && file.hasBlocks && file.contents().count > 0;
+    $("hunks").hidden = !isDrawn;
+    this.map = isDrawn ? new HunkMap(file) : null;
+    const go = (number) => this.jump(file.contents().target(number));
+    this.mapPicture.show(this.map && mapScene(this.map, $("map-picture"), go));
+    $("map-arcs").hidden = !this.map || this.map.arcs.length === 0;
+    this.#tellLegends();
+    performance.measure("the map of hunks", { start: began });
+  }
+
+  #tellLegends() {
+    $("file-legend").innerHTML = this.file.hasBlocks ? legendOf(fileLegend(this.file)) : "";
+    $("map-legend").innerHTML = this.map ? legendOf(mapLegend(this.map)) : "";
+  }
+
+  #load() {
+    const { file } = this;
+    $("memory").hidden = !file.isLoadable;
+    this.memory = null;
+    if (!file.isLoadable) return;
+    const [loaded, error] = file.isTooLarge ? [null, null] : file.load(file.base);
+    this.memory = loaded;
+    $("memory-note").textContent = loaded ? "" : noMemory(file, error);
+    for (const id of ["memory-legend", "memory-hex", "memory-item", "save-memory"]) $(id).hidden = !loaded;
+    const go = (at) => this.jump({ memory: memoryRange(memoryPlace(at), LONG) });
+    this.memoryPicture.show(loaded ? memoryScene(file, loaded, go) : null);
+  }
+
+  #showMemory() {
+    this.#load();
+    const { file, memory } = this;
+    if (memory) this.memoryView.show(memory, file.base, memory.length, sourceOfMemory(file, memory));
+  }
+
+  /** Shows where a target stands, in both views.
+   * @param {Target} target */
+  jump({ file, memory }) {
+    if (file) this.fileView.pick(file.from, file.to);
+    if (this.memory && memory) this.memoryView.pick(memory.from, memory.to);
+  }
+
+  /** Shows the bytes of a row, and in a view that has none of them no others.
+   * @param {Target} target */
+  pick(target) {
+    this.fileView.unpick();
+    this.memoryView.unpick();
+    this.jump(target);
+  }
+}
