@@ -1,5 +1,7 @@
-// A table of any length, by Scroller: its rows are picked by a click, or by the arrow keys and Enter.
+// A table of any length, by Scroller: its rows are picked by a click, or by the arrow keys and Enter, and copied with tabs between
+// their cells.
 
+import { copiesFrom, textOfRows } from "./copying.js";
 import { Scroller, escaped, rowOfKey } from "./scroller.js";
 import { Widths } from "./widths.js";
 
@@ -7,17 +9,24 @@ import { Widths } from "./widths.js";
 const HEIGHT = matchMedia("(pointer: coarse)").matches ? 36 : 22;
 let grids = 0;
 
+/** @typedef {{ text: any, chip?: string, tone?: string } | string | number} Cell */
+/** @typedef {{ count: number, cells: (i: number) => Cell[], pick: (i: number) => void }} GridRows */
+
 export class Grid {
-  /** `columns`: {name, isNumber, least}, as Widths takes them. `rows.cells(i)` gives the texts of a row; `rows.pick(i)` is called
-   *  for it. */
-  constructor(box, label, columns, onSort) {
+  /** `columns`: {name, isNumber, isRest, least}, as Widths takes them. `rows.cells(i)` gives the texts of a row; `rows.pick(i)` is
+   *  called for it. `onSort(column)` is called for a head that is pressed, where it is given. */
+  constructor(box, label, columns, onSort = null) {
     this.id = `grid${grids++}`;
     this.columns = columns;
+    /** @type {GridRows} */
     this.rows = { count: 0, cells: () => [], pick: () => {} };
     this.active = 0;
+    /** The rows from here to the active one are those that are copied. */
+    this.anchor = 0;
     box.classList.add("grid");
     box.setAttribute("role", "grid");
     box.setAttribute("aria-label", label);
+    box.setAttribute("aria-multiselectable", "true");
     box.setAttribute("aria-colcount", columns.length);
     box.tabIndex = 0;
     box.style.setProperty("--row", `${HEIGHT}px`);
@@ -32,13 +41,20 @@ export class Grid {
     this.body.tabIndex = -1;
     this.body.addEventListener("focus", () => box.focus({ preventScroll: true }));
     box.append(this.body);
-    this.scroller = new Scroller(this.body, HEIGHT, (first, count) => this.#draw(first, count));
-    box.addEventListener("keydown", (event) => this.#key(event));
-    this.body.addEventListener("click", (event) => this.#click(event));
-    this.body.addEventListener("pointerover", (event) => this.#tellCut(event.target));
+    this.scroller = new Scroller(this.body, HEIGHT, (first, count) => this.#draw(first, count), () => this.#nameActive());
+    this.#listen();
+    copiesFrom(box, () => this.text(...this.#chosen));
     // A scrollbar of the body comes and goes; the head has the width of the rows.
     const fit = () => box.style.setProperty("--bar", `${this.body.offsetWidth - this.body.clientWidth}px`);
     new ResizeObserver(fit).observe(this.scroller.tall);
+  }
+
+  #listen() {
+    this.box.addEventListener("keydown", (event) => this.#key(event));
+    this.body.addEventListener("click", (event) => this.#click(event));
+    this.body.addEventListener("pointerdown", (event) => this.#pressed(event));
+    this.body.addEventListener("pointermove", (event) => this.#pointed(event));
+    this.body.addEventListener("pointerover", (event) => this.#tellCut(event.target));
   }
 
   #addHeads(onSort) {
@@ -56,11 +72,13 @@ export class Grid {
     this.box.append(this.head);
   }
 
-  /** Shows rows, where it was scrolled to when they are the same with some more. */
+  /** Shows rows, where it was scrolled to when they are the same with some more.
+   * @param {GridRows} rows */
   show(rows, isSamePlace = false) {
     this.rows = rows;
     if (!isSamePlace) {
       this.active = 0;
+      this.anchor = 0;
       this.widths.clear();
     }
     this.widths.sample(rows.cells, rows.count);
@@ -73,22 +91,50 @@ export class Grid {
     this.scroller.reveal(this.active);
   }
 
+  /** The first row that is chosen, and the one behind the last. */
+  get #chosen() {
+    return [Math.min(this.active, this.anchor), Math.min(Math.max(this.active, this.anchor) + 1, this.rows.count)];
+  }
+
+  /** Rows as text, with the heads where it is all of them. */
+  text(from = 0, to = this.rows.count, hasHeads = false) {
+    const rows = Array.from({ length: Math.max(0, to - from) }, (_, i) => this.rows.cells(from + i));
+    return textOfRows(hasHeads ? [this.columns.map(({ name }) => name), ...rows] : rows);
+  }
+
   #draw(first, count) {
     const rows = Array.from({ length: count }, (_, i) => this.rows.cells(first + i));
     this.widths.include(rows);
-    this.box.setAttribute("aria-activedescendant", `${this.id}-${this.active}`);
     return rows.map((cells, i) => this.#row(first + i, cells)).join("");
   }
 
   #row(i, cells) {
     const drawn = cells.map((cell, column) => {
-      const { text, chip, tone } = typeof cell === "object" ? cell : { text: cell };
+      const { text, chip, tone } = typeof cell === "object" ? cell : { text: cell, chip: "", tone: "" };
       const kind = [this.columns[column].isNumber && "number", tone].filter(Boolean).join(" ");
       const mark = chip ? `<i style="background:${chip}"></i>` : "";
       return `<span role="gridcell" class="${kind}">${mark}${escaped(text)}</span>`;
     });
-    const states = `aria-rowindex="${i + 2}" aria-selected="${i === this.active}"`;
+    const states = `aria-rowindex="${i + 2}" aria-selected="${this.#isChosen(i)}"`;
     return `<div role="row" id="${this.id}-${i}" ${states} data-row="${i}">${drawn.join("")}</div>`;
+  }
+
+  #isChosen(i) {
+    const [from, to] = this.#chosen;
+    return i >= from && i < to;
+  }
+
+  /** Marks the rows that are chosen, in the elements that are there: what is selected in them stays so. */
+  #mark() {
+    for (const row of this.scroller.layer.children) row.setAttribute("aria-selected", this.#isChosen(Number(row.dataset.row)));
+    this.#nameActive();
+  }
+
+  /** Names the active row, where it is drawn. */
+  #nameActive() {
+    const name = `${this.id}-${this.active}`;
+    if (document.getElementById(name)) this.box.setAttribute("aria-activedescendant", name);
+    else this.box.removeAttribute("aria-activedescendant");
   }
 
   #key(event) {
@@ -97,19 +143,51 @@ export class Grid {
       if (this.rows.count > 0) this.rows.pick(this.active);
       return;
     }
-    const row = rowOfKey(event.key, this.active, this.scroller.seen, this.rows.count);
+    const isAll = event.key === "a" && (event.ctrlKey || event.metaKey);
+    const row = isAll ? this.rows.count - 1 : rowOfKey(event.key, this.active, this.scroller.seen, this.rows.count);
     if (row === undefined) return;
     event.preventDefault();
+    if (isAll) {
+      [this.active, this.anchor] = [0, row];
+      this.#mark();
+      return;
+    }
     this.active = row;
+    if (!event.shiftKey) this.anchor = row;
     this.scroller.reveal(row);
   }
 
+  #rowAt(event) {
+    const row = event.target.closest?.("[data-row]");
+    return row ? Number(row.dataset.row) : undefined;
+  }
+
+  #pressed(event) {
+    this.drawn = false;
+    this.pressed = event.button === 0 && event.pointerType === "mouse" ? this.#rowAt(event) : undefined;
+  }
+
+  /** A pointer that is drawn over rows chooses them; within one the browser selects text. */
+  #pointed(event) {
+    const row = this.#rowAt(event);
+    if (this.pressed === undefined || row === undefined || !(event.buttons & 1)) return;
+    if (row === this.pressed && !this.drawn) return;
+    this.drawn = true;
+    getSelection().removeAllRanges();
+    [this.anchor, this.active] = [this.pressed, row];
+    this.#mark();
+  }
+
   #click(event) {
-    const row = event.target.closest("[data-row]");
-    if (!row) return;
-    this.active = Number(row.dataset.row);
-    this.scroller.refresh();
-    this.rows.pick(this.active);
+    const row = this.#rowAt(event);
+    if (row === undefined || this.drawn) return;
+    const { isCollapsed, anchorNode } = getSelection();
+    if (!isCollapsed && this.body.contains(anchorNode) && !event.shiftKey) return;
+    this.active = row;
+    if (event.shiftKey) getSelection().removeAllRanges();
+    else this.anchor = row;
+    this.#mark();
+    if (!event.shiftKey) this.rows.pick(row);
   }
 
   /** A text that is cut is told whole under the pointer. */

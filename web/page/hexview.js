@@ -1,15 +1,15 @@
-// Bytes as hexadecimal digits, of any number. A caret stands at one of them, and the item is told to which it belongs.
+// Bytes as hexadecimal digits, of any number. A caret stands at one of them, and the item is told to which it belongs. Bytes that
+// are picked are marked, and can be copied.
 
-import { hex } from "./names.js";
-import { Scroller, escaped } from "./scroller.js";
+import { copiesFrom, textOfBytes } from "./copying.js";
+import { isIn, lineHtml } from "./hexlines.js";
+import { Scroller } from "./scroller.js";
 
 const HEIGHT = 19;
 /** Of fewer pixels, a line has 8 bytes. */
 const NARROW = 616;
-/** The most names that stand behind a line. */
-const NAMES = 4;
-
-const isIn = (at, range) => range !== null && at >= range.from && at < range.to;
+/** The most bytes that are copied. */
+const MOST_COPIED = 2 ** 20;
 
 export class HexView {
   /** `line` is told of the item under the pointer, or else at the caret. */
@@ -22,14 +22,17 @@ export class HexView {
     this.line = line;
     this.bytes = new Uint8Array();
     this.length = 0;
-    this.source = { mark: () => null, item: () => null, names: () => [] };
+    this.source = { mark: (at) => null, item: (at) => null, names: (from, to, most) => [] };
     this.start = 0;
     this.per = 16;
     this.caret = 0;
+    /** Where what is picked by keys or a pointer began. */
+    this.anchor = 0;
     this.item = null;
     this.picked = null;
     this.scroller = new Scroller(box, HEIGHT, (first, count) => this.#draw(first, count));
     this.#listen();
+    copiesFrom(box, () => this.copied());
     new ResizeObserver(() => this.#fit()).observe(box);
   }
 
@@ -37,12 +40,7 @@ export class HexView {
    *  `source.item(i)` to which item it belongs, and `source.names(from, to)` what begins in these bytes. Bytes up to `length`
    *  that are not there are drawn where they are marked. */
   show(bytes, start, length, source) {
-    this.bytes = bytes;
-    this.start = start;
-    this.length = length;
-    this.source = source;
-    this.picked = null;
-    this.caret = 0;
+    Object.assign(this, { bytes, start, length, source, picked: null, caret: 0, anchor: 0 });
     this.#tell(0);
     this.#fit();
     this.scroller.setCount(Math.ceil(length / this.per));
@@ -67,8 +65,7 @@ export class HexView {
 
   /** Marks bytes as those that were picked, and goes there. */
   pick(from, to) {
-    this.picked = { from, to };
-    this.caret = from;
+    Object.assign(this, { picked: { from, to }, caret: from, anchor: from });
     this.#tell(from);
     this.go(from);
   }
@@ -79,16 +76,34 @@ export class HexView {
     this.scroller.refresh();
   }
 
+  /** The line of the caret, where it is drawn. */
+  get caretLine() {
+    return this.scroller.layer.children[Math.floor(this.caret / this.per) - this.scroller.top];
+  }
+
+  /** The bytes that are picked, as text; nothing where they are none, or too many. */
+  copied() {
+    const { from, to } = this.picked ?? { from: 0, to: 0 };
+    return to - from > MOST_COPIED ? "" : textOfBytes(this.bytes.subarray(from, to));
+  }
+
   /** Tells of the item at the caret again, as after a change of the base. */
   retell() {
     this.#tell(this.caret);
   }
 
-  /** Moves the caret, and scrolls as little as needed. */
-  #move(at) {
+  /** Moves the caret, and scrolls as little as needed. Bytes are picked from where it stood, or from where they are already. */
+  #move(at, isPicking) {
     this.caret = Math.min(Math.max(0, at), Math.max(0, this.length - 1));
+    this.#pickTo(isPicking);
     this.#tell(this.caret);
     this.scroller.reveal(Math.floor(this.caret / this.per));
+  }
+
+  #pickTo(isPicking) {
+    const { anchor, caret } = this;
+    if (!isPicking) this.anchor = caret;
+    this.picked = isPicking ? { from: Math.min(anchor, caret), to: Math.max(anchor, caret) + 1 } : null;
   }
 
   #tell(at) {
@@ -99,9 +114,10 @@ export class HexView {
   #listen() {
     const { box } = this;
     box.addEventListener("keydown", (event) => this.#key(event));
-    box.addEventListener("pointermove", (event) => this.#hover(this.#byteAt(event)));
+    box.addEventListener("pointermove", (event) => this.#pointed(event));
     box.addEventListener("pointerleave", () => this.#hover(this.caret));
-    box.addEventListener("click", (event) => this.#clicked(this.#byteAt(event)));
+    box.addEventListener("pointerdown", (event) => this.#pressed(event));
+    box.addEventListener("click", (event) => this.#clicked(event));
     box.addEventListener("dblclick", () => this.line.follow());
   }
 
@@ -109,6 +125,12 @@ export class HexView {
     if (event.key === "Enter") {
       this.#tell(this.caret);
       this.line.follow();
+      return;
+    }
+    if (event.key === "a" && (event.ctrlKey || event.metaKey)) {
+      event.preventDefault();
+      this.picked = { from: 0, to: this.bytes.length };
+      this.scroller.refresh();
       return;
     }
     const page = this.per * this.scroller.seen;
@@ -119,17 +141,37 @@ export class HexView {
     }[event.key];
     if (to === undefined) return;
     event.preventDefault();
-    this.#move(to);
+    this.#move(to, event.shiftKey);
+    this.line.speak();
   }
 
   /** The byte of which the digits or the letter are under the pointer. */
   #byteAt(event) {
-    const part = event.target.closest(".line > *");
+    const part = event.target.closest?.(".line > *");
     if (!part) return undefined;
     const row = this.scroller.top + [...part.parentNode.parentNode.children].indexOf(part.parentNode);
     const cell = [...part.parentNode.children].indexOf(part) - 1;
     if (part.className === "text") return row * this.per + Math.floor((event.offsetX * this.per) / Math.max(1, part.offsetWidth));
     return cell >= 0 && cell < this.per ? row * this.per + cell : undefined;
+  }
+
+  /** The button of a mouse begins to pick; a finger scrolls. */
+  #pressed(event) {
+    const at = this.#byteAt(event);
+    this.drawn = false;
+    this.pressed = event.button === 0 && event.pointerType === "mouse" && !event.shiftKey && at < this.length ? at : undefined;
+  }
+
+  #pointed(event) {
+    const at = this.#byteAt(event);
+    const isDrawing = this.pressed !== undefined && (event.buttons & 1) > 0 && at < this.length;
+    if (!isDrawing || (at === this.pressed && !this.drawn)) {
+      this.#hover(at);
+      return;
+    }
+    this.drawn = true;
+    this.anchor = this.pressed;
+    this.#move(at, true);
   }
 
   #hover(at) {
@@ -139,15 +181,21 @@ export class HexView {
     this.#paint("item", true);
   }
 
-  #clicked(at) {
-    if (at === undefined || at >= this.length) return;
+  #clicked(event) {
+    const at = this.#byteAt(event);
+    if (at === undefined || at >= this.length || this.drawn) return;
+    if (event.shiftKey || this.picked) {
+      this.#move(at, event.shiftKey);
+      return;
+    }
     this.#cell(this.caret)?.classList.remove("caret");
     this.caret = at;
+    this.anchor = at;
     this.#cell(at)?.classList.add("caret");
     this.#hover(at);
   }
 
-  /** The element of a byte, where it is drawn. The elements stay as they are under a pointer, so that text can be selected. */
+  /** The element of a byte, where it is drawn. */
   #cell(at) {
     const line = this.scroller.layer.children[Math.floor(at / this.per) - this.scroller.top];
     return line?.children[1 + (at % this.per)];
@@ -172,38 +220,9 @@ export class HexView {
     this.scroller.go(at / per);
   }
 
-  #byte(i) {
-    const isThere = i < this.bytes.length;
-    const mark = i < this.length ? this.source.mark(i) : null;
-    if (!isThere && !mark) return "<span>  </span>";
-    const text = isThere ? hex(this.bytes[i], 2) : "··";
-    const states = [mark?.tone, isIn(i, this.item) && "item", isIn(i, this.picked) && "picked", i === this.caret && "caret"];
-    const tone = states.filter(Boolean).join(" ");
-    if (!mark) return `<span class="${tone}">${text}</span>`;
-    const colour = mark.colour ? ` style="background:${mark.colour}"` : "";
-    const title = mark.title ? ` title="${escaped(mark.title)}"` : "";
-    return `<b class="${tone}"${colour}${title}>${text}</b>`;
-  }
-
-  #line(row) {
-    const from = row * this.per;
-    let digits = "";
-    let text = "";
-    for (let i = from; i < from + this.per; i++) {
-      digits += this.#byte(i) + (i % 8 === 7 ? "  " : " ");
-      const byte = this.bytes[i];
-      if (byte !== undefined) text += byte > 31 && byte < 127 ? escaped(String.fromCharCode(byte)) : "·";
-    }
-    const begins = escaped(this.source.names(from, from + this.per, NAMES).join(" "));
-    const names = begins && `<span class="names" title="${begins}">${begins}</span>`;
-    const rest = " ".repeat(Math.max(0, from + this.per - this.bytes.length));
-    const address = `<span class="at">${hex(this.start + from)}</span>`;
-    return `<div class="line">${address}  ${digits}<span class="text">${text}${rest}</span>${names}</div>`;
-  }
-
   #draw(first, count) {
     let lines = "";
-    for (let row = first; row < first + count; row++) lines += this.#line(row);
+    for (let row = first; row < first + count; row++) lines += lineHtml(this, row);
     return lines;
   }
 }

@@ -22,10 +22,12 @@ export class ItemLine {
   /** `jump(target)` is called for a target that is followed. */
   constructor(box, jump) {
     box.classList.add("item-line");
-    box.setAttribute("role", "status");
     this.texts = part("p", "");
     this.leads = part("p", "");
-    box.append(this.texts, this.leads);
+    // What is under a pointer is seen, and is not spoken; what keys lead to is.
+    this.spoken = part("p", "", "spoken");
+    this.spoken.setAttribute("role", "status");
+    box.append(this.texts, this.leads, this.spoken);
     this.jump = jump;
     this.targets = [];
   }
@@ -39,6 +41,11 @@ export class ItemLine {
     this.texts.replaceChildren(...texts);
     this.texts.title = texts.map((it) => it.textContent).join(" ");
     this.leads.replaceChildren(...targets.map((target) => this.#target(target)));
+  }
+
+  /** Has screen readers speak what is shown. */
+  speak() {
+    this.spoken.textContent = this.texts.title;
   }
 
   #target(target) {

@@ -4,8 +4,9 @@
 const TALLEST = 8000000;
 
 export class Scroller {
-  /** `draw(first, count)` gives the HTML of rows; each is `height` pixels high. */
-  constructor(box, height, draw) {
+  /** `draw(first, count)` gives the HTML of rows; each is `height` pixels high. `drawn()` is called once they are there. */
+  constructor(box, height, draw, drawn = () => {}) {
+    this.drawn = drawn;
     this.box = box;
     this.height = height;
     this.draw = draw;
@@ -80,6 +81,7 @@ export class Scroller {
     this.layer.style.transform = `translateY(${shift}px)`;
     const count = Math.min(this.count - this.top, this.seen + 2);
     this.layer.innerHTML = this.draw(this.top, Math.max(0, count));
+    this.drawn();
   }
 }
 
