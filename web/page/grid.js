@@ -7,6 +7,9 @@ import { Widths } from "./widths.js";
 
 /** A finger takes more room than a pointer. */
 const HEIGHT = matchMedia("(pointer: coarse)").matches ? 36 : 22;
+/** Between two columns; and at the sides, with a scrollbar and the border. */
+const GAP = 10;
+const AROUND = 36;
 let grids = 0;
 
 /** @typedef {{ text: any, chip?: string, tone?: string } | string | number} Cell */
@@ -37,13 +40,12 @@ export class Grid {
     this.body = document.createElement("div");
     this.body.className = "body";
     this.body.setAttribute("role", "rowgroup");
-    // Browsers stop at what is scrolled, but the keys are those of the grid.
+    // Browsers would stop at what is scrolled, too. A press of a mouse leaves the focus there, so that text can be selected.
     this.body.tabIndex = -1;
-    this.body.addEventListener("focus", () => box.focus({ preventScroll: true }));
     box.append(this.body);
     this.scroller = new Scroller(this.body, HEIGHT, (first, count) => this.#draw(first, count), () => this.#nameActive());
     this.#listen();
-    copiesFrom(box, () => this.text(...this.#chosen));
+    for (const it of [box, this.body]) copiesFrom(it, () => this.text(...this.#chosen));
     // A scrollbar of the body comes and goes; the head has the width of the rows.
     const fit = () => box.style.setProperty("--bar", `${this.body.offsetWidth - this.body.clientWidth}px`);
     new ResizeObserver(fit).observe(this.scroller.tall);
@@ -84,6 +86,11 @@ export class Grid {
     this.widths.sample(rows.cells, rows.count);
     this.box.setAttribute("aria-rowcount", rows.count + 1);
     this.scroller.setCount(rows.count, isSamePlace ? this.scroller.top : 0);
+  }
+
+  /** The width in which nothing is cut. */
+  get wanted() {
+    return this.widths.sum + GAP * (this.columns.length - 1) + AROUND;
   }
 
   /** Scrolls to the row that is picked. */
@@ -138,7 +145,7 @@ export class Grid {
   }
 
   #key(event) {
-    if (event.target !== this.box) return;
+    if (event.target !== this.box && event.target !== this.body) return;
     if (event.key === "Enter") {
       if (this.rows.count > 0) this.rows.pick(this.active);
       return;

@@ -81,9 +81,8 @@ export class HexView {
     return this.scroller.layer.children[Math.floor(this.caret / this.per) - this.scroller.top];
   }
 
-  /** The bytes that are picked, as text; nothing where they are none, or too many. */
-  copied() {
-    const { from, to } = this.picked ?? { from: 0, to: 0 };
+  /** Bytes as text, those that are picked or others; nothing where they are none, or too many. */
+  copied(from = this.picked?.from ?? 0, to = this.picked?.to ?? 0) {
     return to - from > MOST_COPIED ? "" : textOfBytes(this.bytes.subarray(from, to));
   }
 

@@ -1,8 +1,10 @@
 // The tabs of the lists, and the list that is open.
 
+import { copyText } from "./copying.js";
 import { Filter } from "./filter.js";
 import { Grid } from "./grid.js";
 import { LISTS } from "./listed.js";
+import { counted } from "./names.js";
 
 export class Lists {
   /** `pick(target)` is called for the target of a row that is picked. */
@@ -11,6 +13,11 @@ export class Lists {
     this.tabs = box.querySelector("[role=tablist]");
     this.panel = box.querySelector("[role=tabpanel]");
     this.tabs.addEventListener("keydown", (event) => this.#key(event));
+    const told = box.querySelector("#copied-list");
+    box.querySelector("#copy-list").addEventListener("click", () => {
+      if (this.grid) copyText(this.grid.text(0, this.grid.rows.count, true), `${counted(this.grid.rows.count, "row")} copied.`, told);
+    });
+    this.columns = box.parentElement;
   }
 
   /** Shows the lists of a file, of which that is opened that was open before, if there is one of that name. */
@@ -67,6 +74,7 @@ export class Lists {
     }
     this.grid = new Grid(box, this.tab.textContent, rows.columns);
     this.#fill(null, false);
+    this.columns.style.setProperty("--wanted", `${this.grid.wanted}px`);
     if (!Filter.isFor(list.id)) return;
     this.filter = new Filter(list.id, this.file, (found, isSame) => this.#fill(found, isSame));
     this.panel.prepend(this.filter.box);

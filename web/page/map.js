@@ -7,8 +7,9 @@ import { prepared } from "./pictures.js";
 
 /** The most bars of a map: of more hunks some stand in one bar. */
 const MOST_BARS = 64;
-/** The most arcs: those of most relocations. */
-const MOST_ARCS = 250;
+/** The most arcs that are drawn of all hunks, those of most relocations, and of the one under the pointer. */
+const MOST_ARCS = 40;
+const MOST_OF_ONE = 250;
 const BAR = 24;
 const BAND = 6;
 const GAP = 2;
@@ -180,6 +181,23 @@ function heightOf(map) {
   return arcs + BAR + 2 * (BAND + GAP);
 }
 
+const isOf = ({ from, to }, bar) => from === bar || to === bar;
+
+/** The arcs that are drawn, those of fewest relocations first. */
+function arcsOf(map, bar) {
+  const some = map.arcs.slice(0, MOST_ARCS);
+  const own = map.arcs.slice(MOST_ARCS).filter((it) => isOf(it, bar));
+  return [...some, ...own.slice(0, MOST_OF_ONE)].reverse();
+}
+
+/** What the arcs mean, and how many of them are drawn. */
+export function arcsText({ arcs }) {
+  if (arcs.length === 0) return "";
+  const what = "an arc leads to the hunk whose base is added, in its colour; it is thicker where that is more often";
+  const left = `; of ${arcs.length.toLocaleString("en")} the ${MOST_ARCS} of most relocations are drawn, and all of the hunk under the pointer`;
+  return what + (arcs.length > MOST_ARCS ? left : "");
+}
+
 function drawMap(canvas, map, chosen) {
   canvas.style.height = `${heightOf(map) + 2}px`;
   const drawing = prepared(canvas);
@@ -191,8 +209,8 @@ function drawMap(canvas, map, chosen) {
   lay(map, canvas.clientWidth);
   const base = canvas.clientHeight - BAR - 2 * (BAND + GAP);
   const bar = chosen === null ? -1 : map.barOf(chosen);
-  for (const arc of map.arcs.slice(0, MOST_ARCS).reverse()) {
-    drawing.globalAlpha = bar < 0 ? 0.75 : arc.from === bar || arc.to === bar ? 1 : 0.1;
+  for (const arc of arcsOf(map, bar)) {
+    drawing.globalAlpha = bar < 0 ? 0.75 : isOf(arc, bar) ? 1 : 0.1;
     drawArc(drawing, map, arc, base);
   }
   drawing.globalAlpha = 1;

@@ -1,13 +1,16 @@
 // A file that is shown: its pictures, its views of bytes, and its lists, which lead to each other.
 
+import { copyText } from "./copying.js";
 import { HexView } from "./hexview.js";
 import { ItemLine } from "./itemline.js";
 import { Lists } from "./lists.js";
-import { HunkMap, mapLegend, mapScene } from "./map.js";
+import { HunkMap, arcsText, mapLegend, mapScene } from "./map.js";
+import { counted } from "./names.js";
 import { Picture } from "./picture.js";
 import { fileLegend, fileScene, memoryScene } from "./pictures.js";
 import { filePlace, memoryPlace, memoryRange } from "./places.js";
 import { whyText } from "./reasons.js";
+import { bringIntoSight } from "./sight.js";
 import { sourceOfFile, sourceOfMemory } from "./sources.js";
 
 /** @typedef {import("./places.js").Target} Target */
@@ -37,12 +40,24 @@ export class Panels {
     this.memoryPicture = new Picture($("memory-picture"), "The memory, by hunks");
     this.filePicture = new Picture($("file-picture"), "The file, by blocks");
     this.lists = new Lists($("lists"), (target) => this.pick(target));
+    for (const [id, view] of [["memory", this.memoryView], ["file", this.fileView]]) this.#addCopying(id, view);
+  }
+
+  /** A button that copies the bytes of a view that are picked. */
+  #addCopying(id, view) {
+    $(`copy-${id}`).addEventListener("click", () => {
+      const { from, to } = view.picked ?? view.item ?? { from: 0, to: 0 };
+      const text = view.copied(from, to);
+      if (text) copyText(text, `${counted(to - from, "byte")} copied.`, $(`copied-${id}`));
+      else $(`copied-${id}`).textContent = "There is nothing to copy, or too much.";
+    });
   }
 
   /** Shows a file, loaded from the address that is its base.
    * @param {import("./file.js").Examined} file */
   show(file) {
     this.file = file;
+    for (const id of ["copied-memory", "copied-file", "copied-list"]) $(id).textContent = "";
     const isListed = !file.about.refusal || file.front !== null;
     $("lists").hidden = !isListed;
     this.#showFile();
@@ -93,7 +108,8 @@ export class Panels {
     this.map = isDrawn ? new HunkMap(file) : null;
     const go = (number) => this.jump(file.contents().target(number));
     this.mapPicture.show(this.map && mapScene(this.map, $("map-picture"), go));
-    $("map-arcs").hidden = !this.map || this.map.arcs.length === 0;
+    $("map-arcs").textContent = this.map ? arcsText(this.map) : "";
+    $("map-arcs").hidden = $("map-arcs").textContent === "";
     this.#tellLegends();
     performance.measure("the map of hunks", { start: began });
   }
@@ -127,6 +143,8 @@ export class Panels {
   jump({ file, memory }) {
     if (file) this.fileView.pick(file.from, file.to);
     if (this.memory && memory) this.memoryView.pick(memory.from, memory.to);
+    const views = [file && this.fileView, this.memory && memory && this.memoryView].filter(Boolean);
+    bringIntoSight(views.map((it) => it.caretLine).filter(Boolean));
   }
 
   /** Shows the bytes of a row, and in a view that has none of them no others.

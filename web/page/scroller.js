@@ -3,6 +3,18 @@
 // Browsers lay out no element that is taller than some 17 million pixels. A list that would be is scrolled by its share.
 const TALLEST = 8000000;
 
+/** The most rows that are printed of a list. */
+const PRINTED = 1000;
+
+/** By their boxes: for printing. */
+const scrollers = new WeakMap();
+
+function print(is) {
+  for (const box of document.querySelectorAll("[data-scrolls]")) scrollers.get(box)?.print(is);
+}
+addEventListener("beforeprint", () => print(true));
+addEventListener("afterprint", () => print(false));
+
 export class Scroller {
   /** `draw(first, count)` gives the HTML of rows; each is `height` pixels high. `drawn()` is called once they are there. */
   constructor(box, height, draw, drawn = () => {}) {
@@ -12,6 +24,9 @@ export class Scroller {
     this.draw = draw;
     this.count = 0;
     this.top = 0;
+    this.isPrinted = false;
+    scrollers.set(box, this);
+    box.dataset.scrolls = "";
     this.tall = document.createElement("div");
     this.layer = document.createElement("div");
     this.layer.className = "layer";
@@ -76,7 +91,26 @@ export class Scroller {
     this.go(this.top + Math.sign(event.deltaY) * 3);
   }
 
+  /** Draws all rows that are printed, from the first that is seen where they are too many; or again those that are seen. */
+  print(is) {
+    this.isPrinted = is;
+    this.refresh();
+  }
+
+  #drawPrinted() {
+    const first = this.count > PRINTED ? this.top : 0;
+    const count = Math.min(this.count - first, PRINTED);
+    const all = this.count.toLocaleString("en");
+    if (count < this.count) this.box.dataset.printed = `${count.toLocaleString("en")} lines of ${all} are printed.`;
+    this.layer.innerHTML = this.draw(first, count);
+  }
+
   refresh() {
+    delete this.box.dataset.printed;
+    if (this.isPrinted) {
+      this.#drawPrinted();
+      return;
+    }
     const shift = this.#isScaled || this.set !== undefined ? this.box.scrollTop : this.top * this.height;
     this.layer.style.transform = `translateY(${shift}px)`;
     const count = Math.min(this.count - this.top, this.seen + 2);

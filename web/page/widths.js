@@ -1,7 +1,7 @@
 // How wide the columns of a table are: each as what is in it, and one has the rest of the room.
 
 /** How many rows are measured before a table is shown. Those that are drawn later are measured then. */
-const SAMPLED = 200;
+const SAMPLED = 1000;
 /** A coloured mark before a text, with its gap. */
 const CHIP = 15;
 /** What a rounded width may lack, and the mark of a column that is sorted. */
@@ -51,9 +51,13 @@ export class Widths {
     this.#apply();
   }
 
+  get sum() {
+    return this.widths.reduce((sum, width) => sum + width, 0);
+  }
+
   #apply() {
     const columns = this.widths.map((width, i) => (this.columns[i].isRest ? `minmax(${width}px, 1fr)` : `${width}px`));
     this.box.style.setProperty("--columns", columns.join(" "));
-    this.box.style.setProperty("--least", `${this.widths.reduce((sum, width) => sum + width, 0)}px`);
+    this.box.style.setProperty("--least", `${this.sum}px`);
   }
 }

@@ -111,6 +111,15 @@ export class Chromium {
     for (const event of eventsOf(name)) await this.send("Input.dispatchKeyEvent", event);
   }
 
+  /** Draws a mouse with its button from one point to another. */
+  async draw(from, to) {
+    const at = ([x, y]) => ({ x, y, button: "left", clickCount: 1 });
+    const middle = [(from[0] + to[0]) / 2, (from[1] + to[1]) / 2];
+    await this.send("Input.dispatchMouseEvent", { type: "mousePressed", ...at(from), buttons: 1 });
+    for (const point of [middle, to]) await this.send("Input.dispatchMouseEvent", { type: "mouseMoved", ...at(point), buttons: 1 });
+    await this.send("Input.dispatchMouseEvent", { type: "mouseReleased", ...at(to) });
+  }
+
   async picture() {
     const { data } = await this.send("Page.captureScreenshot", { format: "png" });
     return Buffer.from(data, "base64");

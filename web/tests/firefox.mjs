@@ -122,6 +122,15 @@ export class Firefox {
     await this.marionette.send("WebDriver:PerformActions", { actions: actionsOf(name) });
   }
 
+  /** Draws a mouse with its button from one point to another. */
+  async draw(from, to) {
+    const move = ([x, y]) => ({ type: "pointerMove", x: Math.round(x), y: Math.round(y), duration: 20 });
+    const middle = [(from[0] + to[0]) / 2, (from[1] + to[1]) / 2];
+    const acts = [move(from), { type: "pointerDown", button: 0 }, move(middle), move(to), { type: "pointerUp", button: 0 }];
+    const mouse = { type: "pointer", id: "mouse", parameters: { pointerType: "mouse" }, actions: acts };
+    await this.marionette.send("WebDriver:PerformActions", { actions: [mouse] });
+  }
+
   async picture() {
     const { value } = await this.marionette.send("WebDriver:TakeScreenshot", { full: false });
     return Buffer.from(value, "base64");

@@ -53,8 +53,8 @@ async function way(page, key, last) {
 }
 
 const OPENING = `pick pick-folder example #example=sum #example=code-and-ext #example=offset-outside copy-link tab-hunks
-  grid of list-panel save-stripped map-picture base save-memory memory-picture memory-hex button of memory-item file-picture
-  file-hex`.replace(/\s+/g, " ");
+  grid of list-panel copy-list save-stripped map-picture base save-memory copy-memory memory-picture memory-hex
+  button of memory-item copy-file file-picture file-hex`.replace(/\s+/g, " ");
 
 async function compareWay(page, hold) {
   await page.open();
@@ -156,8 +156,8 @@ async function compareLong(page, hold) {
   hold("what of that has no outline, or is not seen", "", unseen);
   await press(page, "ArrowLeft");
   const [list] = await way(page, "Tab", "map-picture");
-  hold("what follows a list that scrolls", "input of list-panel grid of list-panel save-stripped map-picture", list);
-  await press(page, "Shift+Tab", "Shift+Tab", "End", "Enter");
+  hold("what follows a list that scrolls", "input of list-panel grid of list-panel copy-list save-stripped map-picture", list);
+  await press(page, "Shift+Tab", "Shift+Tab", "Shift+Tab", "End", "Enter");
   hold("the last relocation", true, (await page.in(PICKED)).split(",").every((it) => it.split(" ").length === 4));
 }
 

@@ -14,6 +14,10 @@ import { compareMap, comparePictures } from "./pictures.mjs";
 import { compareRefused } from "./refused.mjs";
 import { compareKeyboard } from "./keyboard.mjs";
 import { compareStaying } from "./staying.mjs";
+import { compareCopying } from "./copying.mjs";
+import { compareDrawn } from "./drawn.mjs";
+import { compareSight } from "./sight.mjs";
+import { compareSpoken } from "./spoken.mjs";
 import { compareTargets } from "./targets.mjs";
 import { compareWidths } from "./widths.mjs";
 import { takePictures } from "./photos.mjs";
@@ -253,7 +257,7 @@ try {
   await compareWidths(page, hold);
   await compareKeyboard(page, hold);
   await compareTargets(page, hold);
-  await compareStaying(page, hold);
+  for (const it of [compareStaying, compareSight, compareCopying, compareSpoken, compareDrawn]) await it(page, hold);
   if (oneOf === "1") {
     await tryLarge(page, hold, work);
     await compareMap(page, hold, work);

@@ -2,10 +2,10 @@
 
 import { PROGRAM } from "./program.mjs";
 
-const WINDOWS = [390, 980, 981, 1120, 1280, 1920];
+const WINDOWS = [390, 800, 980, 981, 1000, 1110, 1120, 1280, 1800, 1920, 2560];
 const LISTS = ["hunks", "blocks", "symbols", "relocations"];
 
-/** How much wider the open list is than its box, and which of its texts are cut; of names and what is in a block some may be. */
+/** How much wider the open list is than its box, and which of its texts are cut; of what is in a block some may be. */
 const OPEN = `
   document.getElementById("tab-" + values[0]).click();
   const grid = document.querySelector("#list-panel .grid");
@@ -15,7 +15,7 @@ const OPEN = `
   return [grid.scrollWidth - grid.clientWidth, ...cut.map((it) => it.textContent)].join()`;
 
 /** The column that has the rest of the room, where it may be cut. */
-const REST = { blocks: 4, symbols: 4 };
+const REST = { blocks: 4 };
 
 /** Where each column begins, from the left of the table. */
 const COLUMNS = `

@@ -1,0 +1,56 @@
+// What screen readers are told: names of parts, the active row, what is spoken and what is not. And what the words mean.
+
+import { PROGRAM } from "./program.mjs";
+import { SUM } from "./texts.mjs";
+
+/** Sections that have no name. */
+const NAMELESS = `
+  return [...document.querySelectorAll("section, nav")].filter((it) => {
+    const by = document.getElementById(it.getAttribute("aria-labelledby"));
+    return !it.getAttribute("aria-label") && !by?.textContent.trim();
+  }).map((it) => it.id).join()`;
+
+/** Whether the active row that a list names is there, after it was scrolled. */
+const ACTIVE = `
+  document.getElementById("tab-relocations").click();
+  const grid = document.querySelector("#list-panel .grid");
+  const named = () => {
+    const name = grid.getAttribute("aria-activedescendant");
+    return name === null ? "no row" : document.getElementById(name) ? "a row" : "a row that is not there";
+  };
+  const found = [named()];
+  const body = grid.querySelector(".body");
+  for (const to of [1e6, 0]) {
+    body.scrollTop = to;
+    await new Promise((done) => setTimeout(done, 100));
+    found.push(named());
+  }
+  return found.join()`;
+
+/** What is spoken: the texts of all parts that tell of a change. */
+const SPOKEN = `const spoken = () => [...document.querySelectorAll("[role=status], [role=alert], [aria-live]")]
+  .map((it) => it.textContent).join("|");`;
+
+async function trySpeech(page, hold) {
+  await page.hex(SUM);
+  const hovered = `${SPOKEN} const before = spoken();
+    const cell = document.querySelectorAll("#file-hex .line")[2].children[5];
+    cell.dispatchEvent(new PointerEvent("pointermove", { bubbles: true }));
+    return [document.getElementById("file-item").textContent.includes("00000024"), before === spoken()].join()`;
+  hold("a byte under the pointer is told, and not spoken", "true,true", await page.in(hovered));
+  const keyed = `${SPOKEN} document.getElementById("file-hex").dispatchEvent(new KeyboardEvent("keydown", { key: "ArrowDown", bubbles: true }));
+    return spoken().includes("00000010 HEADER: last hunk")`;
+  hold("a byte that keys lead to is spoken", true, await page.in(keyed));
+}
+
+const WORDS = ["hunk", "unit", "longword", "block", "relocation", "finding", "warning", "wide, another spelling", "stripped"];
+
+export async function compareSpoken(page, hold) {
+  await page.open();
+  hold("parts without a name", "", await page.in(NAMELESS));
+  await page.drop([["program", PROGRAM]]);
+  hold("the active row of a list", "a row,no row,a row", await page.in(ACTIVE));
+  await trySpeech(page, hold);
+  const said = await page.in(`return [...document.querySelectorAll("#words dt")].map((it) => it.textContent)`);
+  hold("words that are not explained", "", WORDS.filter((it) => !said.includes(it)).join());
+}
