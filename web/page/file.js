@@ -6,6 +6,7 @@ import { Front } from "./front.js";
 import { Labels } from "./labels.js";
 import { Parts } from "./parts.js";
 import { filePlace, memoryPlace, memoryRange, textPlace } from "./places.js";
+import { refusalOf } from "./reasons.js";
 import { Spelled } from "./spelled.js";
 
 /** The most bytes of memory, blocks and other items that are shown of a file. */

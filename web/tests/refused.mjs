@@ -192,6 +192,23 @@ class Refused {
     this.hold("its plain spelling, saved", PLAIN, await this.page.saved("save-plain"));
   }
 
+  async why() {
+    return (await this.text("why")).split("\n")[0];
+  }
+
+  async foreign() {
+    for (const [what, file, reason, why] of FOREIGN) {
+      await this.show(what, file, `Neither a load file nor an object file: refused at byte 0 (00000000), ${reason}.`, "");
+      this.hold(`${what}, why`, why, await this.why());
+    }
+    const fault = "The fault is where a block of hunk 0 would begin, at byte 24 (00000018).";
+    const before = "Before it stand 24 bytes, which are shown: the header, 0 blocks, 0 of 1 hunk whole.";
+    const verdict = "Begins as a load file: refused at byte 24 (00000018), UnknownBlock (16).";
+    await this.show("PowerPC code", POWERPC, verdict, `${fault} ${before}`);
+    const told = "Not supported: a program with PowerPC code, in a CODE block of its own type.";
+    this.hold("PowerPC code, why", told, await this.why());
+  }
+
   async badSpelling() {
     await this.show("a bad target in another spelling", BAD_WIDE, SHORT, BEFORE_SHORT);
     const refused = "In its plain spelling refused at byte 46, BadTarget";
