@@ -8,6 +8,7 @@ import { Parts } from "./parts.js";
 import { filePlace, memoryPlace, memoryRange, textPlace } from "./places.js";
 import { refusalOf } from "./reasons.js";
 import { Spelled } from "./spelled.js";
+import { Warned } from "./warned.js";
 
 /** The most bytes of memory, blocks and other items that are shown of a file. */
 const MOST_MEMORY = 1 << 28;
@@ -46,7 +47,7 @@ export function summary(hunk, bytes) {
   const [checked, error] = tried(() => hunk.check(bytes, 0));
   if (error) return { kind, refusal: refusalOf(error, bytes) };
   const { hunks, bytes: length } = checked;
-  if (hunks > 0) return { kind, hunks, length, declared: declared(hunk, bytes) };
+  if (hunks > 0) return { kind, hunks, length, declared: declared(hunk, bytes), warnings: hunk.warnings(bytes, 0).count };
   return { kind, hunks, length, units: hunk.units(bytes, 0).count, findings: checked.count };
 }
 
@@ -210,6 +211,12 @@ export class Examined {
   labels() {
     this.symbolLabels ??= new Labels(this);
     return this.symbolLabels;
+  }
+
+  /** Its warnings by their places; only a load file that is accepted has any. */
+  warned() {
+    this.warnedPlaces ??= new Warned(this);
+    return this.warnedPlaces;
   }
 
   /** Where the size word of each hunk of a load file stands: behind one whose memory has attributes these follow. */

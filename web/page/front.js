@@ -41,9 +41,9 @@ export class Front {
     this.whole = hunks - empty - ends;
   }
 
-  /** A list of the text, without what closes it. What is wrong with offsets only a whole file shows. */
+  /** A list of the text, without what closes it. What is wrong with offsets, or suspicious, only a whole file shows. */
   only(name, listed) {
-    const count = { blocks: listed.count - this.closingBlocks, check: 0 }[name] ?? listed.count;
+    const count = { blocks: listed.count - this.closingBlocks, check: 0, warnings: 0 }[name] ?? listed.count;
     return { ...listed, count, rows: new FirstRows(listed.rows, count) };
   }
 }

@@ -1,6 +1,7 @@
 // What a byte of the memory of a load file belongs to: an item, as those of the file are.
 
 import { fieldAt, placeIn } from "./fields.js";
+import { warningAt } from "./items.js";
 import { hex, lastAt, longAt } from "./names.js";
 
 /** The bytes of the file that were loaded to there. */
@@ -26,6 +27,6 @@ export function itemOfMemory(file, memory, at) {
     return { ...item, name, says: label, targets: [origin] };
   }
   const value = (longAt(memory, from) - file.base - file.starts[field.target]) >>> 0;
-  const says = [label, field.says].filter(Boolean).join(", ");
+  const says = [label, field.says, warningAt(file.warned().inMemory(from))].filter(Boolean).join(", ");
   return { ...item, name: "", says, targets: [placeIn(file, 0, field.target, value), origin] };
 }

@@ -127,13 +127,17 @@ function refusedItem(file, at) {
   return plainItem(from, markAtFault(file, from)?.title ?? "");
 }
 
+/** What is said of warnings with these names. */
+export const warningAt = (names) => (names ? `warning: ${names}` : "");
+
 /** The item of a file to which a byte belongs.
  * @param {import("./file.js").Examined} file
  * @param {import("./places.js").FilePlace} at */
 export function itemOfFile(file, at) {
   if (at >= file.end) return file.about.refusal ? refusedItem(file, at) : plainItem(at - (at % 4), "after the file");
   const item = itemOfText(file, file.inText(at));
-  return { ...item, from: file.inFile(textPlace(item.from)), to: file.inFile(textPlace(item.to)) };
+  const says = [item.says, warningAt(file.warned().inFile(at))].filter(Boolean).join(", ");
+  return { ...item, says, from: file.inFile(textPlace(item.from)), to: file.inFile(textPlace(item.to)) };
 }
 
 /** The item of what is read to which a byte belongs.

@@ -8,7 +8,7 @@ import { classOf } from "./reasons.js";
 export const CLASSES = ["load", "object", "findings", "wide", "no hunk file", "not supported", "damaged", "not judged"];
 
 /** As they are saved. `memory` is what a load file declares. */
-const FIELDS = ["file", "bytes", "class", "answer", "kind", "hunks", "memory", "units", "findings", "place", "reason", "number"];
+const FIELDS = ["file", "bytes", "class", "answer", "kind", "hunks", "memory", "units", "findings", "warnings", "place", "reason", "number"];
 
 /** The line of a file that was read. */
 export function lineOf(hunk, name, bytes) {
@@ -19,8 +19,8 @@ export function lineOf(hunk, name, bytes) {
     const shown = classOf(inPlain(hunk, bytes, about)?.about ?? about);
     return { ...line, class: shown, answer: "refused", place, reason, number };
   }
-  const { hunks, declared, units, findings } = about;
-  const counts = hunks > 0 ? { hunks, memory: declared } : { units, findings };
+  const { hunks, declared, warnings, units, findings } = about;
+  const counts = hunks > 0 ? { hunks, memory: declared, warnings } : { units, findings };
   return { ...line, class: classOf(about), answer: "accepted", ...counts };
 }
 

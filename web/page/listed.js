@@ -5,6 +5,7 @@ import { KINDS } from "../../bindings/javascript/kinds.js";
 import { stateOfHunk } from "./front.js";
 import * as names from "./names.js";
 import { textPlace } from "./places.js";
+import { offsetText, warningTarget, warningText } from "./warned.js";
 
 const { counted, hex, shown } = names;
 const LONG = 4;
@@ -164,8 +165,22 @@ function findingRows(file) {
   };
 }
 
+function warningRows(file) {
+  const { rows } = file.list("warnings");
+  return {
+    columns: [number("hunk"), text("offset"), rest("what is suspicious", 4)],
+    count: rows.length,
+    target: (i) => warningTarget(file, rows.at(i)),
+    cells(i) {
+      const row = rows.at(i);
+      return [whereOf(file, row), offsetText(row), { text: warningText(file, row), tone: "warn" }];
+    },
+  };
+}
+
 /** In the order of their tabs. */
 export const LISTS = [
+  { id: "warnings", label: "Warnings", rows: warningRows, count: (file) => file.list("warnings").count },
   { id: "check", label: "Findings", rows: findingRows, count: (file) => file.list("check").count },
   { id: "hunks", label: "Hunks", rows: hunkRows, count: (file) => (file.table ? file.starts.length : 0) },
   { id: "units", label: "Units", rows: unitRows, count: (file) => file.list("units").count },

@@ -14,6 +14,7 @@ const COLUMNS = [
   { field: "memory", name: "in memory", isNumber: true },
   { field: "units", name: "units", isNumber: true },
   { field: "findings", name: "findings", isNumber: true },
+  { field: "warnings", name: "warnings", isNumber: true },
   { field: "place", name: "refused at", isNumber: true },
   { field: "reason", name: "reason" },
 ];
@@ -112,7 +113,8 @@ export class Many {
   }
 
   #cells(line) {
-    const told = { ...line, class: { text: line.class, tone: toneOf(line.class) } };
+    const warnings = line.warnings > 0 ? { text: number(line.warnings), tone: "warn" } : line.warnings;
+    const told = { ...line, warnings, class: { text: line.class, tone: toneOf(line.class) } };
     return COLUMNS.map(({ field }) => shownCell(told[field]));
   }
 

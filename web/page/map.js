@@ -14,6 +14,8 @@ const BAR = 24;
 const BAND = 6;
 const GAP = 2;
 const TIP = 4;
+/** The edge of a bar in which there are warnings. */
+const WARNED = 5;
 
 /** The hunks of a file in bars, with what is relocated between them. */
 export class HunkMap {
@@ -40,11 +42,16 @@ export class HunkMap {
     return table ? table.rows.get(hunk, "memory") : this.contents.get(hunk, "flags") >> 1;
   }
 
+  #warnings(hunk) {
+    return this.file.warned().hunks[hunk] ?? 0;
+  }
+
   /** A bar, with how many of its hunks have each kind of content, from CODE on, and each kind of memory. */
   #bar(first, end) {
-    const bar = { first, end, bytes: 0, kinds: [0, 0, 0], memories: [0, 0, 0, 0] };
+    const bar = { first, end, bytes: 0, warnings: 0, kinds: [0, 0, 0], memories: [0, 0, 0, 0] };
     for (let i = bar.first; i < bar.end; i++) {
       bar.bytes += this.contents.bytes(i);
+      bar.warnings += this.#warnings(i);
       bar.kinds[this.contents.get(i, "kind") - KINDS.CODE] += 1;
       bar.memories[this.#memory(i)] += 1;
     }
@@ -100,6 +107,8 @@ export class HunkMap {
     const texts = [whereText(this.file, row), this.contents.name(number), counted(this.contents.bytes(number), "byte"), memory];
     const [first, end] = rowsOfHunk(this.file.list("relocations").rows, row.unit, row.hunk);
     if (end > first) texts.push(counted(end - first, "relocation") + this.#targetsText(number));
+    const warnings = this.#warnings(number);
+    if (warnings > 0) texts.push(counted(warnings, "warning"));
     return texts.join(", ");
   }
 
@@ -165,13 +174,17 @@ function barTexts(map, bar) {
   return [`hunk ${number} · ${bytes} bytes`, `${number} · ${bytes}`, number];
 }
 
-function drawBar(drawing, map, bar, y, ink) {
+function drawBar(drawing, map, bar, y, colours) {
   drawing.fillStyle = hunkColour(bar.first, 75);
   drawing.fillRect(bar.x, y, bar.width - GAP, BAR);
   drawShares(drawing, bar, bar.kinds, kindColour, y + BAR + GAP);
   drawShares(drawing, bar, bar.memories, memoryColour, y + BAR + 2 * GAP + BAND);
+  if (bar.warnings > 0) {
+    drawing.fillStyle = colours.warn;
+    drawing.fillRect(bar.x, y, bar.width - GAP, WARNED);
+  }
   const text = barTexts(map, bar).find((it) => drawing.measureText(it).width < bar.width - 8);
-  drawing.fillStyle = ink;
+  drawing.fillStyle = colours.ink;
   if (text) drawing.fillText(text, middle(bar, 0.5), y + BAR / 2);
 }
 
@@ -214,7 +227,8 @@ function drawMap(canvas, map, chosen) {
     drawArc(drawing, map, arc, base);
   }
   drawing.globalAlpha = 1;
-  for (const it of map.bars) drawBar(drawing, map, it, base, style.color);
+  const colours = { ink: style.color, warn: style.getPropertyValue("--amber-edge") };
+  for (const it of map.bars) drawBar(drawing, map, it, base, colours);
 }
 
 /** Where a hunk stands across the picture, and which one stands there: those of one bar share it alike. */
@@ -250,5 +264,6 @@ export function mapLegend(map) {
   return [
     ...kinds.map((kind) => [kindColour(kind), blockName(KINDS.CODE + kind)]),
     ...memories.map((memory) => [memoryColour(memory), memoryName(memory)]),
+    ...(map.bars.some((bar) => bar.warnings > 0) ? [["var(--amber-edge)", "warnings"]] : []),
   ];
 }

@@ -29,9 +29,12 @@ function sourceOfRefused(file) {
 export function sourceOfFile(file) {
   if (file.about.refusal) return sourceOfRefused(file);
   const findings = file.findingPlaces();
+  const warned = file.warned();
   const mark = (at) => {
     const finding = lastAt(findings, at);
     if (finding >= 0 && at < findings[finding] + 4) return { tone: "finding", title: "a finding" };
+    const warning = warned.inFile(at);
+    if (warning) return { tone: "warned", title: `a warning: ${warning}` };
     return at >= file.end ? { tone: "after", title: "after the file" } : markOfBlock(file, at);
   };
   return { mark, item: (at) => itemOfFile(file, at), names: (from, to) => namesInFile(file, from, to) };
@@ -40,9 +43,12 @@ export function sourceOfFile(file) {
 export function sourceOfMemory(file, memory) {
   const { places, targets } = file.relocated();
   const labels = file.labels();
+  const warned = file.warned();
   const mark = (at) => {
     const long = lastAt(places, at);
     const tone = labels.isAt(at) ? "symbol" : "";
+    const warning = warned.inMemory(at);
+    if (warning) return { tone: `warned relocated ${tone}`, title: `a warning: ${warning}` };
     if (long >= 0 && at < places[long] + RELOCATED) {
       const title = `the base of hunk ${targets[long]} is added`;
       return { colour: hunkColour(targets[long], 70), tone: `relocated ${tone}`, title };

@@ -4,6 +4,7 @@ import { beforeText, showLines } from "./front.js";
 import { counted, hex } from "./names.js";
 import { classOf, toneOf, whyOf } from "./reasons.js";
 import { showReadings } from "./spellings.js";
+import { warningsText } from "./warned.js";
 
 const $ = (id) => document.getElementById(id);
 
@@ -31,10 +32,12 @@ function spelledTexts({ spelling, strict }, what) {
   return [`${otherwiseText(spelling)}, ${what}.`, `It is shown as readers of this spelling take it. ${asItIs}`];
 }
 
+const warningsOf = ({ warnings }) => (warnings > 0 ? `, ${counted(warnings, "warning")}` : "");
+
 function acceptedTexts({ about, input, end }) {
   const what =
     about.hunks > 0
-      ? `a load file: ${counted(about.hunks, "hunk")}, ${counted(about.declared, "byte")} in memory`
+      ? `a load file: ${counted(about.hunks, "hunk")}, ${counted(about.declared, "byte")} in memory${warningsOf(about)}`
       : `an object file: ${counted(about.units, "unit")}, ${counted(about.findings, "finding")}`;
   if (about.strict) return spelledTexts(about, what);
   const after = input.length - end;
@@ -54,10 +57,11 @@ export function tellVerdict([first, ...others], tone) {
  * @param {(which: number) => void} choose */
 export function showVerdict(file, choose) {
   const { about } = file;
-  tellVerdict(about.refusal ? refusalTexts(about, file.fault) : acceptedTexts(file), toneOf(classOf(about)));
+  const tone = about.warnings > 0 ? "warn" : toneOf(classOf(about));
+  tellVerdict(about.refusal ? refusalTexts(about, file.fault) : acceptedTexts(file), tone);
   showReadings($("readings"), file, choose);
   $("before").textContent = beforeText(file);
-  showLines($("why"), whyOf(about));
+  showLines($("why"), [whyOf(about), about.warnings > 0 ? warningsText(file) : ""].filter(Boolean).join("\n"));
   $("file-name").textContent = `${file.name}, ${counted(file.input.length, "byte")}`;
 }
 

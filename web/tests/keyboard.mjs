@@ -143,7 +143,7 @@ async function compareLong(page, hold) {
   await page.open();
   await page.drop([["sum", SUM], ["program", PROGRAM], ...Array.from({ length: 40 }, (_, i) => [`text ${i}`, "54657874"])]);
   await page.in("document.activeElement.blur()");
-  const heads = Array(9).fill("columnheader of many-list").join(" ");
+  const heads = Array(10).fill("columnheader of many-list").join(" ");
   const classes = "button of many-classes button of many-classes button of many-classes";
   const [there] = await way(page, "Tab", "many-list");
   hold("what Tab leads to in a table", `pick pick-folder example ${classes} many-filter save-csv many-list`, there);

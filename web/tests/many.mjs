@@ -24,15 +24,15 @@ const FILES = Object.entries({
   load: LOAD, 'b, "Two"': LOAD, object: OBJECT, found: FINDINGS, short: SHORT, text: TEXT, bad: DAMAGED, over: OVERLAY,
 });
 
-const CSV = `file,bytes,class,answer,kind,hunks,memory,units,findings,place,reason,number
-load,164,load,accepted,load file,2,24,,,,,
-"b, ""Two""",164,load,accepted,load file,2,24,,,,,
-object,28,object,accepted,object file,,,1,0,,,
-found,48,findings,accepted,object file,,,1,2,,,
-short,48,wide,refused,load file,,,,,36,ShortReloc,13
-text,20,no hunk file,refused,other file,,,,,0,NotLoadFile,1
-bad,164,damaged,refused,load file,,,,,76,BadOffset,24
-over,40,not supported,refused,load file,,,,,36,Overlay,11
+const CSV = `file,bytes,class,answer,kind,hunks,memory,units,findings,warnings,place,reason,number
+load,164,load,accepted,load file,2,24,,,0,,,
+"b, ""Two""",164,load,accepted,load file,2,24,,,0,,,
+object,28,object,accepted,object file,,,1,0,,,,
+found,48,findings,accepted,object file,,,1,2,,,,
+short,48,wide,refused,load file,,,,,,36,ShortReloc,13
+text,20,no hunk file,refused,other file,,,,,,0,NotLoadFile,1
+bad,164,damaged,refused,load file,,,,,,76,BadOffset,24
+over,40,not supported,refused,load file,,,,,,36,Overlay,11
 `.replaceAll("\n", "\r\n");
 
 const NAMES = `return [...document.querySelectorAll("#many-list [data-row] > :first-child")].map((it) => it.textContent).join()`;
@@ -102,7 +102,7 @@ async function tryLayout(page, hold) {
       const cells = rows.map((row) => row.children[i]).filter((it) => it.textContent);
       return cells.length > 0 && cells.every((it) => Math.abs(edge(it) - head) < 2);
     }).join()`;
-  hold("heads over their columns", Array(9).fill(true).join(), await page.in(edges));
+  hold("heads over their columns", Array(10).fill(true).join(), await page.in(edges));
   const cut = `return [...document.querySelectorAll("#many-list [data-row] > *")]
     .filter((it) => it.scrollWidth > it.clientWidth).length`;
   hold("texts that are cut", 0, await page.in(cut));
@@ -158,7 +158,7 @@ async function tryUnread(page, hold) {
   hold("what can't be read in a folder", wanted, await page.in(NOTE));
   hold("and the rest", "box/a:b,box/b,box/lost,box/shut,box/\ufffd,box/\ufffd", await page.in(NAMES));
   const lines = (await textOf(page, "save-csv")).split("\r\n");
-  hold("its line", "box/lost,,not judged,unread,,,,,,,Read,30", lines.find((it) => it.startsWith("box/lost")));
+  hold("its line", "box/lost,,not judged,unread,,,,,,,,Read,30", lines.find((it) => it.startsWith("box/lost")));
   hold("that names may be left out", false, await page.in(PARTIAL));
   const pick = `[...document.querySelectorAll("#many-list [data-row]")].find((it) => /lost/.test(it.textContent)).click()`;
   await page.shows(() => page.in(pick));
@@ -179,7 +179,7 @@ async function tryNoMemory(page, hold) {
   await page.shows(() => page.in(drop, TEXT));
   const told = "1 could not be read: large (the module's memory can't grow from ";
   hold("a file without memory for it", told, (await page.in(NOTE)).slice(0, told.length));
-  const wanted = "large,,not judged,unread,,,,,,,Read,30\r\nsmall,20,no hunk file,refused,other file,,,,,0,NotLoadFile,1\r\n";
+  const wanted = "large,,not judged,unread,,,,,,,,Read,30\r\nsmall,20,no hunk file,refused,other file,,,,,,0,NotLoadFile,1\r\n";
   hold("its line, and the next", wanted, (await textOf(page, "save-csv")).replace(/.*\r\n/, ""));
 }
 

@@ -202,7 +202,7 @@ class Refused {
       this.hold(`${what}, why`, why, await this.why());
     }
     const fault = "The fault is where a block of hunk 0 would begin, at byte 24 (00000018).";
-    const before = "Before it stand 24 bytes, which are shown: the header, 0 blocks, 0 of 1 hunk whole.";
+    const before = "Before it stand 24 bytes, which are shown: the header, no block, 0 of 1 hunk whole.";
     const verdict = "Begins as a load file: refused at byte 24 (00000018), UnknownBlock (16).";
     await this.show("PowerPC code", POWERPC, verdict, `${fault} ${before}`);
     const told = "Not supported: a program with PowerPC code, in a CODE block of its own type.";

@@ -19,6 +19,7 @@ import { compareDrawn } from "./drawn.mjs";
 import { compareSight } from "./sight.mjs";
 import { compareSpoken } from "./spoken.mjs";
 import { compareTargets } from "./targets.mjs";
+import { compareWarned } from "./warned.mjs";
 import { compareWidths } from "./widths.mjs";
 import { takePictures } from "./photos.mjs";
 
@@ -161,7 +162,7 @@ async function compareMany(page) {
   hold("the lines of the table", rows.length, cells.length);
   const counts = {};
   for (const [i, [, size, shown, answer, , ...rest]] of cells.entries()) {
-    const [hunks, memory, units, findings, place, , number] = rest;
+    const [hunks, memory, units, findings, , place, , number] = rest;
     const said = answer === "accepted" ? `${size} accepted ${hunks || units} ${memory || findings}` : `${size} refused ${place} ${number}`;
     const wanted = rows[i].slice(4).join(" ");
     const kind = classOf(rows[i][3], wanted);
@@ -257,7 +258,7 @@ try {
   await compareWidths(page, hold);
   await compareKeyboard(page, hold);
   await compareTargets(page, hold);
-  for (const it of [compareStaying, compareSight, compareCopying, compareSpoken, compareDrawn]) await it(page, hold);
+  for (const it of [compareStaying, compareSight, compareCopying, compareSpoken, compareDrawn, compareWarned]) await it(page, hold);
   if (oneOf === "1") {
     await tryLarge(page, hold, work);
     await compareMap(page, hold, work);
