@@ -40,7 +40,12 @@ function firstLong(bytes) {
   return bytes.length < 4 ? null : new DataView(bytes.buffer, bytes.byteOffset).getUint32(0);
 }
 
-/** What a file is, in a few numbers: its kind, and the two of the conformance suite, or its refusal. */
+/** What is known of a file.
+ * @typedef {{ kind: string, refusal?: any, strict?: any, spelling?: any, length?: number, hunks?: number, declared?: number,
+ *   warnings?: number, units?: number, findings?: number }} About */
+
+/** What a file is, in a few numbers: its kind, and the two of the conformance suite, or its refusal.
+ * @returns {About} */
 export function summary(hunk, bytes) {
   const first = firstLong(bytes);
   const kind = first === OBJECT ? "object file" : first === LOAD ? "load file" : "other file";
@@ -51,14 +56,16 @@ export function summary(hunk, bytes) {
   return { kind, hunks, length, units: hunk.units(bytes, 0).count, findings: checked.count };
 }
 
-/** The plain spelling of bytes that are refused, what that is, and the byte of the input where it is refused. */
-function plainReading(hunk, input, { refusal }) {
+/** The plain spelling of bytes that are refused, what that is, and the byte of the input where it is refused.
+ * @param {About} about */
+function plainReading(hunk, input, about) {
+  const { refusal } = about;
   if (!OF_SPELLING.includes(refusal?.number)) return null;
   const spelling = hunk.spelling(input);
   if (spelling.shortBlocks + spelling.ends === 0) return null;
   const bytes = hunk.plain(input);
-  const about = { ...summary(hunk, bytes), spelling, strict: refusal };
-  return { bytes, about, fault: about.refusal && hunk.inputPlace(input, about.refusal.place) };
+  const plain = { ...summary(hunk, bytes), spelling, strict: refusal };
+  return { bytes, about: plain, fault: plain.refusal && hunk.inputPlace(input, plain.refusal.place) };
 }
 
 /** The same, where it is accepted. */
@@ -86,12 +93,18 @@ export class Examined {
     this.input = input;
     this.bytes = this.reading.bytes;
     this.name = name;
+    /** @type {About} */
     this.about = this.reading.about;
+    /** The address that it is loaded to. */
+    this.base = 0;
+    /** What is made when it is first asked for. */
+    this.made = {};
     /** Where it is refused. */
     this.fault = this.about.refusal ? filePlace(this.reading.fault) : undefined;
     /** How its bytes stand to those that are read, where that is not as they are.
      * @type {Spelled | null} */
     this.spelled = null;
+    /** @type {Record<string, any>} */
     this.lists = {};
     this.table = null;
     this.front = null;
@@ -169,7 +182,10 @@ export class Examined {
     }
   }
 
-  /** The rows of a table of the library, where they are not too many. */
+  /** The rows of a table of the library, where they are not too many.
+   * @template {keyof import("./rowtypes.js").RowTypes} Name
+   * @param {Name} name
+   * @returns {{ count: number, rows: import("./rowtypes.js").RowsOf<import("./rowtypes.js").RowTypes[Name]> }} */
   list(name) {
     this.lists[name] ??= this.#listed(name);
     return this.lists[name];
@@ -203,20 +219,20 @@ export class Examined {
 
   /** Where the contents of its hunks stand. */
   contents() {
-    this.hunkContents ??= new Contents(this);
-    return this.hunkContents;
+    this.made.contents ??= new Contents(this);
+    return this.made.contents;
   }
 
   /** The symbols of a load file by where they stand in its memory. */
   labels() {
-    this.symbolLabels ??= new Labels(this);
-    return this.symbolLabels;
+    this.made.labels ??= new Labels(this);
+    return this.made.labels;
   }
 
   /** Its warnings by their places; only a load file that is accepted has any. */
   warned() {
-    this.warnedPlaces ??= new Warned(this);
-    return this.warnedPlaces;
+    this.made.warned ??= new Warned(this);
+    return this.made.warned;
   }
 
   /** Where the size word of each hunk of a load file stands: behind one whose memory has attributes these follow. */

@@ -133,7 +133,8 @@ export class Grid {
 
   /** Marks the rows that are chosen, in the elements that are there: what is selected in them stays so. */
   #mark() {
-    for (const row of this.scroller.layer.children) row.setAttribute("aria-selected", this.#isChosen(Number(row.dataset.row)));
+    const first = this.scroller.top;
+    [...this.scroller.layer.children].forEach((row, i) => row.setAttribute("aria-selected", String(this.#isChosen(first + i))));
     this.#nameActive();
   }
 

@@ -17,6 +17,7 @@ const { counted, hex, lastAt, lastOf, longAt } = names;
 const longs = (count) => `${counted(count, "longword")}, ${counted(4 * count, "byte")}`;
 const sizeOf = (word) => word & 0x3fffffff;
 
+/** @type {[string, (value: number) => string][]} */
 const HEADER = [
   ["block word", () => ""],
   ["names of resident libraries", () => "none"],

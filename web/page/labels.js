@@ -20,7 +20,7 @@ export function namesInFile(file, first, end) {
     const type = file.typeOf(file.blocks.at(i));
     if (type !== undefined) found.push([place, blockName(type)]);
   });
-  return found.sort(([one], [other]) => one - other).map(([, name]) => name);
+  return found.sort((one, other) => Number(one[0]) - Number(other[0])).map(([, name]) => name);
 }
 
 /** As many rows as a list has at most: a place and a row in one number are below 2^53, and are sorted together. */

@@ -31,8 +31,9 @@ const byValue = (one, other) => (typeof one === "string" ? inOrder(one, other) :
 
 /** Sorts lines by a field, in the direction 1 or -1. Those that have none stay last. */
 export function sortLines(lines, field, direction) {
-  lines.sort(({ [field]: one }, { [field]: other }) => {
-    if (one === undefined || other === undefined) return (one === undefined) - (other === undefined);
+  lines.sort((first, second) => {
+    const [one, other] = [first[field], second[field]];
+    if (one === undefined || other === undefined) return Number(one === undefined) - Number(other === undefined);
     return direction * byValue(one, other);
   });
 }

@@ -50,5 +50,5 @@ const toHex = (bytes) => Array.from(bytes, (byte) => byte.toString(16).padStart(
 /** The bytes of digits, in any grouping; what is no digit is passed over. */
 export function fromHex(text) {
   const digits = text.replace(/[^0-9a-f]/gi, "").match(/../g) ?? [];
-  return Uint8Array.from(digits, (it) => parseInt(it, 16));
+  return Uint8Array.from(digits, (it) => parseInt(String(it), 16));
 }

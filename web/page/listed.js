@@ -7,6 +7,12 @@ import * as names from "./names.js";
 import { textPlace } from "./places.js";
 import { offsetText, warningTarget, warningText } from "./warned.js";
 
+/** @typedef {import("./file.js").Examined} Examined */
+/** @typedef {{ name: string, isNumber?: boolean, isRest?: boolean, least?: number }} Column */
+/** A list: `target(i)` says where a row stands, and `cells(i)` is its texts.
+ * @typedef {{ columns: Column[], count: number, target: (i: number) => import("./places.js").Target,
+ *   cells: (i: number) => any[] }} Listed */
+
 const { counted, hex, shown } = names;
 const LONG = 4;
 
@@ -20,10 +26,12 @@ const whereOf = (file, row) => (file.about.hunks > 0 ? row.hunk : `${row.unit}.$
 const placeText = (file, row) => hex(file.inFile(textPlace(row.place)));
 const nameIn = (file, row) => shown(nameOf(file.bytes, row));
 
-/** So many bytes of the file, at the place that a row has. */
+/** So many bytes of the file, at the place that a row has.
+ * @param {Examined} file */
 const inFile = (file, row, bytes) => file.range(textPlace(row.place), bytes);
 const named = ({ nameBytes }) => LONG * Math.ceil(nameBytes / LONG);
 
+/** @type {(file: Examined) => Listed} */
 function hunkRows(file) {
   const counts = file.relocationCounts();
   // A file that is refused lies nowhere.
@@ -51,6 +59,7 @@ function blockText(file, row) {
   return parts.filter(Boolean).join(", ");
 }
 
+/** @type {(file: Examined) => Listed} */
 function blockRows(file) {
   const { rows } = file.list("blocks");
   return {
@@ -74,6 +83,7 @@ function blockRows(file) {
   };
 }
 
+/** @type {(file: Examined) => Listed} */
 function unitRows(file) {
   const { rows } = file.list("units");
   return {
@@ -87,6 +97,7 @@ function unitRows(file) {
   };
 }
 
+/** @type {(file: Examined) => Listed} */
 function symbolRows(file) {
   const { rows } = file.list("symbols");
   const isLoad = file.isLoadable;
@@ -105,6 +116,7 @@ function symbolRows(file) {
   };
 }
 
+/** @type {(file: Examined) => Listed} */
 function relocationRows(file) {
   const { rows } = file.list("relocations");
   return {
@@ -122,6 +134,7 @@ function relocationRows(file) {
   };
 }
 
+/** @type {(file: Examined) => Listed} */
 function entryRows(file) {
   const { rows } = file.list("entries");
   return {
@@ -136,6 +149,7 @@ function entryRows(file) {
   };
 }
 
+/** @type {(file: Examined) => Listed} */
 function referenceRows(file) {
   const { rows } = file.list("references");
   const entries = file.list("entries").rows;
@@ -152,6 +166,7 @@ function referenceRows(file) {
   };
 }
 
+/** @type {(file: Examined) => Listed} */
 function findingRows(file) {
   const { rows } = file.list("check");
   return {
@@ -165,6 +180,7 @@ function findingRows(file) {
   };
 }
 
+/** @type {(file: Examined) => Listed} */
 function warningRows(file) {
   const { rows } = file.list("warnings");
   return {

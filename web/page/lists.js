@@ -35,6 +35,7 @@ export class Lists {
   }
 
   #tab(list, count) {
+    /** @type {any} */
     const tab = document.createElement("button");
     tab.setAttribute("role", "tab");
     tab.id = `tab-${list.id}`;

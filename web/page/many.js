@@ -51,6 +51,8 @@ export class Many {
     part("classes").append(...this.choices);
     this.filter.addEventListener("input", () => this.#arrange());
     this.lines = [];
+    this.unread = [];
+    this.total = 0;
     this.run = 0;
     /** What it is the table of. */
     this.visit = null;
@@ -129,7 +131,7 @@ export class Many {
       const count = counts.get(button.name) ?? 0;
       button.hidden = count === 0;
       button.lastChild.textContent = `${number(count)} ${button.name || "all"}`;
-      button.setAttribute("aria-pressed", button.name === this.wanted);
+      button.setAttribute("aria-pressed", String(button.name === this.wanted));
     }
   }
 

@@ -7,7 +7,7 @@ function child(box, name) {
   const made = document.createElement("div");
   made.className = name;
   made.hidden = true;
-  made.setAttribute("aria-hidden", true);
+  made.setAttribute("aria-hidden", "true");
   box.append(made);
   return made;
 }

@@ -22,7 +22,8 @@ export function refusalOf(error, bytes) {
   return { number, reason, place, text, word: isThere ? longAt(bytes, place) : 0, what: isForeign ? whatIs(bytes, FOREIGN) : null };
 }
 
-/** The class of a file, in the words of `hunk survey`. */
+/** The class of a file, in the words of `hunk survey`.
+ * @param {import("./file.js").About} about */
 export function classOf({ refusal, strict, hunks, findings }) {
   if (refusal) return reasonOf(refusal)[0];
   if (strict) return "wide";
@@ -37,7 +38,8 @@ const TONES = {
 export const toneOf = (shown) => TONES[shown] ?? "soft";
 
 /** Why a file is refused, and what to do about it. One that is shown in its other spelling is read so already, and that is not
- * advised again. */
+ * advised again.
+ * @param {import("./file.js").About} about */
 export function whyOf({ refusal, strict }) {
   if (refusal) return whyText(refusal);
   return strict ? `${PLAIN_NEEDED}: ${strict.text}.\n${SAVE_PLAIN}` : "";

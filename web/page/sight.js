@@ -12,5 +12,5 @@ export function bringIntoSight(elements) {
   const all = edges(boxes);
   const [top, bottom] = all[1] - all[0] > innerHeight - 2 * MARGIN ? edges(boxes.slice(0, 1)) : all;
   const by = top < MARGIN ? top - MARGIN : Math.max(0, bottom - innerHeight + MARGIN);
-  if (by !== 0) scrollBy({ top: by, behavior: "instant" });
+  if (by !== 0) scrollBy(0, by);
 }

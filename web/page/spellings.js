@@ -20,7 +20,7 @@ export function showReadings(box, file, choose) {
     const name = Object.assign(document.createElement("strong"), { textContent: NAMES[i] });
     const result = Object.assign(document.createElement("span"), { textContent: resultText(reading) });
     button.append(name, " ", result);
-    button.setAttribute("aria-pressed", reading === file.reading);
+    button.setAttribute("aria-pressed", String(reading === file.reading));
     button.addEventListener("click", () => choose(i));
     return button;
   });

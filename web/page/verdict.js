@@ -20,6 +20,8 @@ function otherwiseText({ shortBlocks, ends }) {
   return `In another spelling, with ${[...short, ...left].join(" and ")}`;
 }
 
+/** @param {import("./file.js").About} about
+ * @param {import("./places.js").FilePlace} fault */
 function refusalTexts({ kind, refusal, spelling }, fault) {
   const what = BEGINS[kind] ?? "Neither a load file nor an object file";
   if (!spelling) return [`${what}: ${refusedText(refusal, fault)}`];
@@ -45,8 +47,11 @@ function acceptedTexts({ about, input, end }) {
   return [`A${what.slice(1)}${rest}.`];
 }
 
-/** Tells a first sentence in large letters, and what else there is to tell. */
-export function tellVerdict([first, ...others], tone) {
+/** Tells a first sentence in large letters, and what else there is to tell.
+ * @param {string[]} texts
+ * @param {string} tone */
+export function tellVerdict(texts, tone) {
+  const [first, ...others] = texts;
   const small = others.map((text) => Object.assign(document.createElement("small"), { textContent: text }));
   $("verdict").className = tone;
   $("verdict").replaceChildren(first, ...small.flatMap((it) => [" ", it]));

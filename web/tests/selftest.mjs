@@ -100,7 +100,6 @@ function memoryOf(path) {
 }
 
 async function compareRow(page, row) {
-  what = row.name;
   const path = `${work}/${row.table}-${row.number}-${row.name}`;
   writeFileSync(path, Buffer.from(row.hex, "hex"));
   await page.hex(row.hex);
@@ -236,34 +235,51 @@ async function compareUse(page) {
   hold("a narrow window", true, await page.in("return document.documentElement.scrollWidth <= innerWidth"));
 }
 
+const paths = { root, work, pagePath };
+
+/** The tests of the page, in their order, by their names. */
+const TESTS = {
+  async rows(page) {
+    for (const row of [...rowsOf("load"), ...rowsOf("objects")]) await compareRow(page, row);
+  },
+  many: compareMany,
+  // Firefox lets no test drop a folder.
+  folder: (page) => browserName === "chromium" && compareFolder(page),
+  served: compareServed,
+  table: (page) => tryMany(page, hold, paths),
+  opening: (page) => compareOpening(page, hold, paths),
+  refused: (page) => compareRefused(page, hold),
+  use: compareUse,
+  cursor: (page) => compareCursor(page, hold),
+  pictures: (page) => comparePictures(page, hold),
+  widths: (page) => compareWidths(page, hold),
+  keyboard: (page) => compareKeyboard(page, hold),
+  targets: (page) => compareTargets(page, hold),
+  staying: (page) => compareStaying(page, hold),
+  sight: (page) => compareSight(page, hold),
+  copying: (page) => compareCopying(page, hold),
+  spoken: (page) => compareSpoken(page, hold),
+  drawn: (page) => compareDrawn(page, hold),
+  warned: (page) => compareWarned(page, hold),
+  async large(page) {
+    if (oneOf !== "1") return;
+    await tryLarge(page, hold, work);
+    await compareMap(page, hold, work);
+  },
+  photos: (page) => takePictures(page, root, `${pictures}/${browserName}`),
+};
+
 const browser = await (browserName === "chromium" ? Chromium : Firefox).open(work);
 try {
   const page = new Page(browser, pagePath);
   await page.open();
   console.log(`${browserName}: ${await page.in("return document.getElementById('module').textContent")}`);
-  for (const row of [...rowsOf("load"), ...rowsOf("objects")]) await compareRow(page, row);
-  await page.open();
-  await compareMany(page);
-  await page.open();
-  if (browserName === "chromium") await compareFolder(page);
-  await compareServed(page);
-  await tryMany(page, hold, { work, pagePath });
-  await page.open();
-  await compareOpening(page, hold, { root, pagePath, work });
-  await compareRefused(page, hold);
-  await compareUse(page);
-  await browser.size(1280, 900);
-  await compareCursor(page, hold);
-  await comparePictures(page, hold);
-  await compareWidths(page, hold);
-  await compareKeyboard(page, hold);
-  await compareTargets(page, hold);
-  for (const it of [compareStaying, compareSight, compareCopying, compareSpoken, compareDrawn, compareWarned]) await it(page, hold);
-  if (oneOf === "1") {
-    await tryLarge(page, hold, work);
-    await compareMap(page, hold, work);
+  for (const [name, test] of Object.entries(TESTS)) {
+    what = name;
+    await browser.size(1280, 900);
+    await page.open();
+    await test(page);
   }
-  await takePictures(page, root, `${pictures}/${browserName}`);
   for (const fault of browser.faults()) hold("an error in the page", "none", fault);
 } catch (error) {
   hold(`the test, at ${what}`, "no error", `${error.message} (${browser.faults().join("; ")})`);

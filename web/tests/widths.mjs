@@ -68,7 +68,8 @@ function manyHunks(count, large) {
 /** A column grows for a row that is drawn later, and nothing is cut then. */
 async function compareGrown(page, hold) {
   await page.drop([["hunks", manyHunks(1000, 701)]]);
-  const cut = `const grid = document.querySelector("#list-panel .grid");
+  const cut = `document.getElementById("tab-hunks").click();
+    const grid = document.querySelector("#list-panel .grid");
     const key = (name) => grid.dispatchEvent(new KeyboardEvent("keydown", { key: name, bubbles: true }));
     key("End");
     for (let i = 0; i < 298; i++) key("ArrowUp");

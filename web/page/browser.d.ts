@@ -1,0 +1,11 @@
+// What browsers have that the library of an older `tsc` does not name.
+
+declare class DecompressionStream {
+  constructor(format: "deflate");
+  readonly readable: ReadableStream;
+  readonly writable: WritableStream;
+}
+declare class OffscreenCanvas {
+  constructor(width: number, height: number);
+  getContext(kind: "2d"): CanvasRenderingContext2D;
+}
