@@ -166,7 +166,7 @@ export class Grid {
   }
 
   #rowAt(event) {
-    const row = event.target.closest?.("[data-row]");
+    const row = event.target?.closest?.("[data-row]");
     return row ? Number(row.dataset.row) : undefined;
   }
 
@@ -177,8 +177,10 @@ export class Grid {
 
   /** A pointer that is drawn over rows chooses them; within one the browser selects text. */
   #pointed(event) {
-    const row = this.#rowAt(event);
-    if (this.pressed === undefined || row === undefined || !(event.buttons & 1)) return;
+    if (this.pressed === undefined || !(event.buttons & 1)) return;
+    // Firefox sends the event to where text began to be selected.
+    const row = this.#rowAt({ target: document.elementFromPoint(event.clientX, event.clientY) });
+    if (row === undefined) return;
     if (row === this.pressed && !this.drawn) return;
     this.drawn = true;
     getSelection().removeAllRanges();
@@ -187,6 +189,8 @@ export class Grid {
   }
 
   #click(event) {
+    // Firefox selects text while rows are chosen, to the end of that.
+    if (this.drawn) getSelection().removeAllRanges();
     const row = this.#rowAt(event);
     if (row === undefined || this.drawn) return;
     const { isCollapsed, anchorNode } = getSelection();
