@@ -18,14 +18,14 @@ const textsOf = (kind) => WARNING_TEXTS[kind] ?? [`kind ${kind}`, "", "", ""];
 /** Whether it is of a longword that is relocated, and so of one in memory. */
 const isOfRelocation = ({ kind }) => kind <= WARNINGS.OutsideTarget;
 
-/** What a row has beside its meaning. */
+/** What a row has of its own; nothing where it has no more than its kind means. */
 function detailOf(file, { kind, place, target, value, other }) {
-  if (kind === WARNINGS.Overlap) return `, with that at ${hex(other)}`;
-  if (kind === WARNINGS.OutsideTarget) return `: to hunk ${target} + ${hex(value)}`;
-  if (kind === WARNINGS.MemoryIgnored) return `: ${MEMORIES[value] ?? value} memory`;
+  if (kind === WARNINGS.Overlap) return `with that at ${hex(other)}`;
+  if (kind === WARNINGS.OutsideTarget) return `hunk ${target} + ${hex(value)}`;
+  if (kind === WARNINGS.MemoryIgnored) return `${MEMORIES[value] ?? value} memory`;
   if (kind !== WARNINGS.SymbolOutside) return "";
   const nameBytes = LONG * (longAt(file.bytes, place) & 0xffffff);
-  return `: ${nameText(file.bytes, { name: place + LONG, nameBytes })}`;
+  return nameText(file.bytes, { name: place + LONG, nameBytes });
 }
 
 /** The offset of its hunk that a row is of, as text; nothing where it is of the hunk itself. */
@@ -36,7 +36,7 @@ export function offsetText(row) {
 
 export function warningText(file, row) {
   const [name, meaning] = textsOf(row.kind);
-  return `${name}: ${meaning}${detailOf(file, row)}`;
+  return `${name}: ${detailOf(file, row) || meaning}`;
 }
 
 /** Where a row stands.
