@@ -8,6 +8,7 @@ import { createServer } from "node:http";
 import { compareOpening } from "./opening.mjs";
 import { tryLarge } from "./large.mjs";
 import { BASE, Page } from "./page.mjs";
+import { compareFields } from "./fields.mjs";
 import { tryMany } from "./many.mjs";
 import { compareCursor } from "./cursor.mjs";
 import { compareMap, comparePictures } from "./pictures.mjs";
@@ -239,6 +240,8 @@ const paths = { root, work, pagePath };
 
 /** The tests of the page, in their order, by their names. */
 const TESTS = {
+  // First, as Chromium keeps 50 places in the history, and of more forgets those at which nobody has pressed a key.
+  staying: (page) => compareStaying(page, hold),
   async rows(page) {
     for (const row of [...rowsOf("load"), ...rowsOf("objects")]) await compareRow(page, row);
   },
@@ -247,6 +250,7 @@ const TESTS = {
   folder: (page) => browserName === "chromium" && compareFolder(page),
   served: compareServed,
   table: (page) => tryMany(page, hold, paths),
+  fields: (page) => compareFields(page, hold),
   opening: (page) => compareOpening(page, hold, paths),
   refused: (page) => compareRefused(page, hold),
   use: compareUse,
@@ -255,7 +259,6 @@ const TESTS = {
   widths: (page) => compareWidths(page, hold),
   keyboard: (page) => compareKeyboard(page, hold),
   targets: (page) => compareTargets(page, hold),
-  staying: (page) => compareStaying(page, hold),
   sight: (page) => compareSight(page, hold),
   copying: (page) => compareCopying(page, hold),
   spoken: (page) => compareSpoken(page, hold),
