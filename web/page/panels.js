@@ -1,6 +1,7 @@
 // A file that is shown: its pictures, its views of bytes, and its lists, which lead to each other.
 
 import { copyText } from "./copying.js";
+import { addFinding } from "./finding.js";
 import { HexView } from "./hexview.js";
 import { ItemLine } from "./itemline.js";
 import { Lists } from "./lists.js";
@@ -40,7 +41,10 @@ export class Panels {
     this.memoryPicture = new Picture($("memory-picture"), "The memory, by hunks");
     this.filePicture = new Picture($("file-picture"), "The file, by blocks");
     this.lists = new Lists($("lists"), (target) => this.pick(target));
-    for (const [id, view] of [["memory", this.memoryView], ["file", this.fileView]]) this.#addCopying(id, view);
+    for (const [id, view] of [["memory", this.memoryView], ["file", this.fileView]]) {
+      this.#addCopying(id, view);
+      addFinding($(`find-${id}`), $(`copied-${id}`), view, (range) => jump({ [id]: range }));
+    }
   }
 
   /** A button that copies the bytes of a view that are picked. */

@@ -53,8 +53,8 @@ async function way(page, key, last) {
 }
 
 const OPENING = `pick pick-folder example #example=sum #example=code-and-ext #example=offset-outside copy-link tab-hunks
-  grid of list-panel copy-list save-stripped map-picture base save-memory copy-memory memory-picture memory-hex
-  button of memory-item copy-file file-picture file-hex`.replace(/\s+/g, " ");
+  grid of list-panel copy-list save-stripped map-picture base save-memory find-memory copy-memory memory-picture memory-hex
+  button of memory-item find-file copy-file file-picture file-hex`.replace(/\s+/g, " ");
 
 async function compareWay(page, hold) {
   await page.open();

@@ -6,6 +6,7 @@ import { execFileSync } from "node:child_process";
 import { copyFileSync, mkdirSync, readFileSync, writeFileSync } from "node:fs";
 import { createServer } from "node:http";
 import { compareOpening } from "./opening.mjs";
+import { compareFinding } from "./finding.mjs";
 import { tryLarge } from "./large.mjs";
 import { BASE, Page } from "./page.mjs";
 import { compareFields } from "./fields.mjs";
@@ -261,6 +262,7 @@ const TESTS = {
   targets: (page) => compareTargets(page, hold),
   sight: (page) => compareSight(page, hold),
   copying: (page) => compareCopying(page, hold),
+  finding: (page) => compareFinding(page, hold),
   spoken: (page) => compareSpoken(page, hold),
   drawn: (page) => compareDrawn(page, hold),
   warned: (page) => compareWarned(page, hold),
