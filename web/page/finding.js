@@ -9,8 +9,8 @@ function meantBy(said) {
   return /^([0-9a-f]{2}\s*)+$/i.test(said) ? { digits: said.replace(/\s/g, "") } : { text: said };
 }
 
-const bytesOfText = (text) => Uint8Array.from(text, (it) => it.charCodeAt(0) & 255);
-const bytesOfDigits = (digits) => Uint8Array.from(digits.match(/[0-9a-f]{2}/gi) ?? [], (it) => parseInt(it, 16));
+const bytesOfText = (text) => Uint8Array.from(Array.from(text, (it) => it.charCodeAt(0) & 255));
+const bytesOfDigits = (digits) => Uint8Array.from((digits.match(/[0-9a-f]{2}/gi) ?? []).map((it) => parseInt(it, 16)));
 
 /** The first place from `start` on at which bytes have others; -1 where there is none. */
 function placeOf(bytes, wanted, start) {

@@ -41,7 +41,7 @@ export class Panels {
     this.memoryPicture = new Picture($("memory-picture"), "The memory, by hunks");
     this.filePicture = new Picture($("file-picture"), "The file, by blocks");
     this.lists = new Lists($("lists"), (target) => this.pick(target));
-    for (const [id, view] of [["memory", this.memoryView], ["file", this.fileView]]) {
+    for (const [id, view] of Object.entries({ memory: this.memoryView, file: this.fileView })) {
       this.#addCopying(id, view);
       addFinding($(`find-${id}`), $(`copied-${id}`), view, (range) => jump({ [id]: range }));
     }
