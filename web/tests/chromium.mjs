@@ -125,7 +125,8 @@ export class Chromium {
     return Buffer.from(data, "base64");
   }
 
-  faults() {
+  /** The errors that no script of a page has caught. */
+  async faults() {
     return this.pipe.faults.map((it) => it.exception?.description ?? it.text);
   }
 

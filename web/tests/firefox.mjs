@@ -6,6 +6,10 @@ import { connect } from "node:net";
 import { actionsOf } from "./keys.mjs";
 
 const WAIT = 60000;
+/** What the console has of errors in scripts of pages. */
+const FAULTS = `return Services.console.getMessageArray()
+  .filter((it) => it instanceof Ci.nsIScriptError && it.category === "content javascript" && !(it.flags & it.warningFlag))
+  .map((it) => it.errorMessage);`;
 const sleep = (time) => new Promise((done) => setTimeout(done, time));
 
 /** Marionette's messages: their length in digits, a colon, and JSON. */
@@ -78,11 +82,12 @@ export class Firefox {
     return browser;
   }
 
-  /** Runs a script in the browser itself. */
+  /** What a script answers that is run in the browser itself. */
   async inBrowser(script, ...args) {
     await this.marionette.send("Marionette:SetContext", { value: "chrome" });
-    await this.marionette.send("WebDriver:ExecuteScript", { script, args });
+    const { value } = await this.marionette.send("WebDriver:ExecuteScript", { script, args });
     await this.marionette.send("Marionette:SetContext", { value: "content" });
+    return value;
   }
 
   /** A window of Firefox has 500 pixels at least, so it is the page in it that is made narrow. */
@@ -136,8 +141,9 @@ export class Firefox {
     return Buffer.from(value, "base64");
   }
 
+  /** The errors of pages that its console has. */
   faults() {
-    return [];
+    return this.inBrowser(FAULTS);
   }
 
   async close() {

@@ -285,9 +285,9 @@ try {
     await page.open();
     await test(page);
   }
-  for (const fault of browser.faults()) hold("an error in the page", "none", fault);
+  for (const fault of await browser.faults()) hold("an error in the page", "none", fault);
 } catch (error) {
-  hold(`the test, at ${what}`, "no error", `${error.message} (${browser.faults().join("; ")})`);
+  hold(`the test, at ${what}`, "no error", `${error.message} (${(await browser.faults()).join("; ")})`);
 } finally {
   await browser.close();
 }
