@@ -1,12 +1,14 @@
 /* The warnings of a hunk with 4,194,304 relocations, and of a file of 65,536 hunks. With the word
  * --few there are a sixteenth of the relocations. Each row that has to be there follows from how
- * the file is made. Room and rows end where a page begins that faults. A call that compares each
- * offset with each would take hours, so this ends after a minute of a processor. Status 1 where an
- * answer, or what it leaves in the caller's memory, is not what hunk.h says. */
+ * the file is made. Room and rows end where a page begins that faults. It takes some 40 seconds of
+ * a processor, or 2, and may take 300, or 30: a call that compares each offset with each would take
+ * hours, or minutes. Status 1 where an answer, or what it leaves in the caller's memory, is not
+ * what hunk.h says. */
 #include "guarded.h"
 #include <sys/resource.h>
 
-#define SECONDS 60
+#define SECONDS 300
+#define FEW_SECONDS 30
 #define MOST (UINT32_C(1) << 22) /* relocations */
 #define MOST_ROWS (MOST + MOST / 2 + 1)
 #define HUNKS UINT32_C(65536)
@@ -177,11 +179,13 @@ static void warned_of_hunks(void)
 
 int main(int argc, char **argv)
 {
-    const struct rlimit most = {SECONDS, SECONDS};
+    int few = argc == 2 && strcmp(argv[1], "--few") == 0;
+    const rlim_t seconds = few ? FEW_SECONDS : SECONDS;
+    const struct rlimit most = {seconds, seconds};
     if (!make_guarded(&file_room) || !make_guarded(&element_room) || !make_guarded(&row_room) ||
         setrlimit(RLIMIT_CPU, &most) != 0)
         return 3;
-    if (argc == 2 && strcmp(argv[1], "--few") == 0)
+    if (few)
         relocations = MOST / 16;
     warned_of("relocations that are all equal", 0, relocations);
     warned_of("relocations that are 1 apart", 1, relocations + relocations / 2 + 1);
