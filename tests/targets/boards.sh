@@ -96,7 +96,7 @@ examples() {
   grep -v '^stack ' "$work/loaded" > "$work/told"
   same "ports/small/load.c on $target" "$work/wanted" "$work/told"
 }
-# cortex TARGET MACHINE NAME..: a board of Arm, with newlib; NAMEs are what else the library asks for
+# cortex TARGET MACHINE NAMES: a board of Arm, with newlib; NAMES are what else the library asks for
 cortex() {
   target=$1
   processor="-mthumb -mcpu=$target"
@@ -137,7 +137,7 @@ MEASURE=${MEASURE:-}
 if has 'small systems of Arm' arm-none-eabi-gcc qemu-system-arm; then
   cortex cortex-m4 mps2-an386
   examples ports/small/mps2.ld mps2-an386
-  cortex cortex-m0 mps2-an385 __aeabi_lmul
+  cortex cortex-m0 mps2-an385 '__aeabi_lmul __clzsi2'
   sed 's/LENGTH = 4M/LENGTH = 256K/; s/0x21000000, LENGTH = 16M/0x20000000, LENGTH = 16K/' ports/small/mps2.ld \
     > "$work/microbit.ld"
   examples "$work/microbit.ld" microbit
