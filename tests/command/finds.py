@@ -133,11 +133,14 @@ def any_bytes(home):
     object_file = bytes.fromhex(files.OBJECT)
     tails = ("000003e8 00000001 61000000", "000003e9 00000001 4e714e71", "000003e9 00000001 4e714e71 000003f0", "000003f1 00000000 0000",
              "000003e7 00000000", "000003e7 00000001 61000000 000003e7 00000000 000003eb 00000001 000003f2", "000003f2", "00")
+    # Blocks that are said to be longer than all there is, and one that is longer than what is looked at first.
+    long = "000003f1 00010000" + "00" * (1 << 18)
+    tails += ("a0001234 0fffffff", "000003e9 7fffffff", "a0001234 00000001 00000000 000003f0 00ffffff", long + object_file.hex(),
+              long + object_file[8:].hex(), long + "a0001234 0fffffff" + "00" * (1 << 18))
     for tail in tails:
         data = b"x" + object_file + bytes.fromhex(tail)
         found = hits_in(data)
-        same(f"an object file before {tail}", find("-", given=data)[0], lines_of("-", found))
-        same(f"an object file before {tail}", found[0][:2], [1, len(object_file) + (32 if tail.count("3e7") == 2 else 0)])
+        same(f"an object file before {tail[:40]}", find("-", given=data)[0], lines_of("-", found))
     for data in (b"", b"\0\0\3", b"\0\0\3\xf3", bytes(5000), b"\0\0\3\xf3" * 5000, b"\0\0\3\xe7" * 5000, b"\0\0\3\xe7\0\0\0\0" * 5000):
         same(f"find in {data[:8]!r}", find("-", given=data), ("", "0 hunk files in 1 file\n", 1))
 

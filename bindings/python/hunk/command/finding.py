@@ -12,7 +12,7 @@ from typing import Callable, Iterator, List, NamedTuple, Optional, Tuple
 import hunk
 from hunk.command.disks import Bytes
 from hunk.command.layout import CONTENTS
-from hunk.library import ROOM, accepted, array, call
+from hunk.library import NO_ROOM, OK, ROOM, TRUNCATED, accepted, array, call
 
 # The first longwords of a load file as far as it may be accepted: at most 65,536 hunks, of which the first is 0. The first longword
 # of an object file, and that of the length of its name.
@@ -24,8 +24,12 @@ STEP = 1 << 24
 # A load file of another spelling is looked for in so many bytes, then in four times as many, up to the most.
 WINDOW, MOST_WINDOW = 1 << 16, 1 << 24
 # ShortReloc, SecondContent, Truncated: the reasons for which such a file is refused as it is.
-SPELLED = (13, 17, 26)
+SPELLED = (13, 17, TRUNCATED)
 NO_BUDGET = (1 << 64) - 1
+
+# The bits of a block word that are its type, and those of the size of a content. Blocks of lists, and two that have nothing to pass.
+KIND_BITS, SIZE_BITS = 0x1FFFFFFF, 0x3FFFFFFF
+WITHOUT_LENGTH = {*hunk.Kind} - {hunk.Kind.NAME, hunk.Kind.CODE, hunk.Kind.DATA, hunk.Kind.DEBUG}
 
 # They take an address, too, and then copy nothing.
 _check = call("hunk_check", c_void_p, c_uint64, *ROOM)
@@ -143,14 +147,42 @@ class Finder:
                 return hit
         if not self._begins_hunk(place):
             return None
-        address, rest = self._address + place, len(self.data) - place
-        text = array(c_uint8, _front(address, rest, None, 0).count)
-        size = accepted(_front(address, rest, text, len(text))).place if len(text) else 0
-        units = Units(place, hunk.read(bytes(text)), size) if size else None
+        units = self._units_at(place)
         if units is None or units.end == place:
             return None
         self._units.append(units)
         return units.hit_at(place)
+
+    def _units_at(self, place: int) -> Optional[Units]:
+        """What stands before the fault of an object file; None where nothing does."""
+        address, most = self._address + place, self._whole_blocks(place)
+        text = array(c_uint8, _front(address, most, None, 0).count)
+        size = accepted(_front(address, most, text, len(text))).place
+        return Units(place, hunk.read(bytes(text)), size) if size else None
+
+    def _whole_blocks(self, place: int) -> int:
+        """So many bytes of an object file have all blocks that are whole. The front takes time for each byte of a block that is not,
+        and bytes after a file are often one that is said to be longer than all there is."""
+        address, rest = self._address + place, len(self.data) - place
+        answer = _check(address, rest, None, 0)
+        if answer.number != TRUNCATED:
+            return rest if answer.number in (OK, NO_ROOM) else int(answer.place)
+        window = WINDOW
+        while window < rest:
+            size = int(_front(address, window, None, 0).place)
+            if self._block_end(place + size) > len(self.data):
+                return size
+            window *= 4
+        return rest
+
+    def _block_end(self, place: int) -> int:
+        """Where a block ends that says how long it is; its own place for any other."""
+        first = self.data[place : place + 8].ljust(8, b"\0")
+        kind, count = int.from_bytes(first[:4], "big"), int.from_bytes(first[4:], "big")
+        if kind & KIND_BITS in WITHOUT_LENGTH:
+            return place
+        is_content = kind & KIND_BITS in (hunk.Kind.CODE, hunk.Kind.DATA)
+        return place + 8 + 4 * (count & SIZE_BITS if is_content else count)
 
     # ---- All of them.
 
