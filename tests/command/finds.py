@@ -18,6 +18,9 @@ sys.path.insert(0, str(files.TOP / "vectors"))
 import hunks  # noqa: E402
 from plain import plain  # noqa: E402
 
+# How hunk files begin, and no more.
+BEGINS = (b"\0\0\3\xf3", b"\0\0\3\xe7\0\0\0\1")
+
 
 # ---- The model.
 
@@ -103,7 +106,7 @@ def mixed(chance, whole, count):
     """Bytes in which so many files stand at any byte, after bytes of any kind; some of them cut or changed."""
     made = bytearray()
     for _ in range(count):
-        made += chance.choice((chance.randbytes(chance.randrange(40)), bytes(chance.randrange(9)), b"\0\0\3\xf3", b"\0\0\3\xe7\0\0\0\1"))
+        made += chance.choice((chance.randbytes(chance.randrange(40)), bytes(chance.randrange(9)), *BEGINS))
         data = bytearray(chance.choice(whole))
         kind = chance.randrange(8)
         if kind == 0:
@@ -131,8 +134,8 @@ def any_bytes(home):
                 same("find - of as many", find(*words, "-", given=data)[0], lines_of("-", found))
                 same("many are found", len(found) > most // 6, True)
     object_file = bytes.fromhex(files.OBJECT)
-    tails = ("000003e8 00000001 61000000", "000003e9 00000001 4e714e71", "000003e9 00000001 4e714e71 000003f0", "000003f1 00000000 0000",
-             "000003e7 00000000", "000003e7 00000001 61000000 000003e7 00000000 000003eb 00000001 000003f2", "000003f2", "00")
+    tails = ("000003e8 00000001 61000000", "000003e9 00000001 4e714e71", "000003e9 00000001 4e714e71 000003f0",
+             "000003f1 00000000 0000", "000003e7 00000000", "000003e7 00000001 61000000 000003e7 00000000 000003eb 00000001 000003f2", "000003f2", "00")
     # Blocks that are said to be longer than all there is, and one that is longer than what is looked at first.
     long = "000003f1 00010000" + "00" * (1 << 18)
     tails += ("a0001234 0fffffff", "000003e9 7fffffff", "a0001234 00000001 00000000 000003f0 00ffffff", long + object_file.hex(),
@@ -141,7 +144,7 @@ def any_bytes(home):
         data = b"x" + object_file + bytes.fromhex(tail)
         found = hits_in(data)
         same(f"an object file before {tail[:40]}", find("-", given=data)[0], lines_of("-", found))
-    for data in (b"", b"\0\0\3", b"\0\0\3\xf3", bytes(5000), b"\0\0\3\xf3" * 5000, b"\0\0\3\xe7" * 5000, b"\0\0\3\xe7\0\0\0\0" * 5000):
+    for data in (b"", b"\0\0\3", b"\0\0\3\xf3", bytes(5000), *(it * 5000 for it in (*BEGINS, b"\0\0\3\xe7", b"\0\0\3\xe7\0\0\0\0"))):
         same(f"find in {data[:8]!r}", find("-", given=data), ("", "0 hunk files in 1 file\n", 1))
 
 
@@ -302,7 +305,8 @@ def damaged(home):
             made = bytearray(whole)
             for _ in range(chance.randrange(1, 200)):
                 at = 4 * chance.randrange(len(made) // 4)
-                made[at : at + 4] = chance.choice((0, 2, 880, at // 512, 1759, 2**32 - 3, chance.getrandbits(32))).to_bytes(4, "big")
+                word = chance.choice((0, 2, 880, at // 512, 1759, 2**32 - 3, chance.getrandbits(32)))
+                made[at : at + 4] = word.to_bytes(4, "big")
             made[:4] = whole[:4]
             (home / "b.adf").write_bytes(made)
             same("an image with wrong longwords", find("b.adf")[2] in (0, 1), True)
@@ -365,7 +369,8 @@ def half_written():
     line = 'ulimit -f 2 && exec "$0" -W error -m hunk find --extract half both'
     ran = subprocess.run(["sh", "-c", line, sys.executable], env=files.ENVIRONMENT, capture_output=True, text=True, timeout=60)
     said = "hunk: half/both+84: writing failed: File too large\n2 hunk files in 1 file\n"
-    same("a file that is too large", (ran.stdout.count("\n"), ran.stderr, ran.returncode, os.listdir("half")), (2, said, 3, ["both+0"]))
+    got = (ran.stdout.count("\n"), ran.stderr, ran.returncode, os.listdir("half"))
+    same("a file that is too large", got, (2, said, 3, ["both+0"]))
     same("and without that limit", (find("--extract", "half", "both")[2], sorted(os.listdir("half"))), (0, ["both+0", "both+84"]))
 
 

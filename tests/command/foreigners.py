@@ -1,5 +1,5 @@
-"""What the command `hunk` says of files that are no hunk files, by each row of docs/foreign.tsv and by `file` where it is; of programs
-with PowerPC code, and of slaves of WHDLoad."""
+"""What the command `hunk` says of files that are no hunk files, by each row of docs/foreign.tsv and by `file` where it is; of
+programs with PowerPC code, and of slaves of WHDLoad."""
 
 import os
 import re
@@ -18,7 +18,8 @@ BY_FILE = {
     "icon (.info)": "Amiga Workbench", "LhA archive": "archive data", "LZX archive": "LZX compressed archive (Amiga)",
     "zip archive": "Zip archive data", "gzip file": "gzip compressed", "bzip2 file": "bzip2 compressed", "xz file": "XZ compressed",
     "7z archive": "7-zip archive", "DMS disk archive": "DMS archive", "disk image, OFS": "DOS disk",
-    "disk image, FFS": "FFS dis", "disk image, DOS": "Amiga", "hard disk image": "Rigid Disk Block", "Kickstart disk": "Kickstart disk",
+    "disk image, FFS": "FFS dis", "disk image, DOS": "Amiga",
+    "hard disk image": "Rigid Disk Block", "Kickstart disk": "Kickstart disk",
     "PowerPacker": "Power Packer", "XPK": "xpkf.library", "RNC": "PRO-PACK", "MED module": "music file",
     "ProTracker": "Protracker module", "tar archive": "tar archive", "script": "script", "AmigaGuide": "AmigaGuide",
     "GIF picture": "GIF image", "PNG picture": "PNG image", "JPEG picture": "JPEG image", "PDF file": "PDF document",

@@ -27,7 +27,7 @@ WINDOW, MOST_WINDOW = 1 << 16, 1 << 24
 SPELLED = (13, 17, TRUNCATED)
 NO_BUDGET = (1 << 64) - 1
 
-# The bits of a block word that are its type, and those of the size of a content. Blocks of lists, and two that have nothing to pass.
+# The bits of a block word that are its type, and those of the size of a content. Blocks of lists, and those that have no bytes.
 KIND_BITS, SIZE_BITS = 0x1FFFFFFF, 0x3FFFFFFF
 WITHOUT_LENGTH = {*hunk.Kind} - {hunk.Kind.NAME, hunk.Kind.CODE, hunk.Kind.DATA, hunk.Kind.DEBUG}
 
@@ -161,8 +161,8 @@ class Finder:
         return Units(place, hunk.read(bytes(text)), size) if size else None
 
     def _whole_blocks(self, place: int) -> int:
-        """So many bytes of an object file have all blocks that are whole. The front takes time for each byte of a block that is not,
-        and bytes after a file are often one that is said to be longer than all there is."""
+        """So many bytes of an object file have all blocks that are whole. The front takes time for each byte of one that is not, and
+        bytes after a file are often a block that is said to be longer than all there is."""
         address, rest = self._address + place, len(self.data) - place
         answer = _check(address, rest, None, 0)
         if answer.number != TRUNCATED:

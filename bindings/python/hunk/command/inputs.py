@@ -199,7 +199,7 @@ def foreign(error: hunk.HunkError, data: Optional[bytes]) -> Optional[str]:
 
 
 def hint(error: Failure, data: Optional[bytes], wide: bool) -> str:
-    """What the file is where it is no hunk file. That it is spelled otherwise, where it was not read so, and might be accepted then."""
+    """What the file is, where it is no hunk file; that it is spelled otherwise, where it was not read so and might be accepted."""
     if not isinstance(error, hunk.HunkError):
         return ""
     what = foreign(error, data)
