@@ -176,7 +176,8 @@ export async function compareMap(page, hold, work) {
   console.log(`${page.browser.name}: the map of 65,536 hunks ${time.toFixed(0)} ms`);
   hold("the map of 65,536 hunks, within 100 ms", true, time <= 100);
   const last = await page.in(`${PICTURE} press("End"); return text()`, "map");
-  hold("the last of 65,536 hunks", "hunk 65535, CODE, 4 bytes, any memory, 1 relocation", last);
+  // Its longword is no offset of its target.
+  hold("the last of 65,536 hunks", "hunk 65535, CODE, 4 bytes, any memory, 1 relocation, 1 warning", last);
   // A hunk in the middle of the picture, as all have the same bytes.
   const under = await page.in(`${PICTURE} point("pointermove", 0.5); return canvas.getAttribute("aria-valuenow")`, "map");
   hold("the hunk in the middle", true, Math.abs(Number(under) - 32768) < 200);
