@@ -77,16 +77,13 @@ function refuseUnits({ units, findings, hunks }) {
   }
 }
 
-/** A name up to its first zero byte, which ends it in ELF. */
-const cut = (name) => name.split("\0")[0];
-
 /** A name as a message has it. */
 const shown = (name) =>
   Array.from(name, (it) => (it >= " " && it <= "~" && it !== "\\" ? it : `\\x${it.charCodeAt(0).toString(16).padStart(2, "0")}`)).join("");
 
 /** The symbol of an entry of an EXT block. The value of a common block is what it is aligned to. */
 function symbolOf({ kind, hunk, value, name }) {
-  const made = { name: cut(name), value, section: hunk, binding: GLOBAL, size: 0 };
+  const made = { name, value, section: hunk, binding: GLOBAL, size: 0 };
   if (kind === ENTRY_KINDS.SYMB) return { ...made, binding: LOCAL };
   if (kind === ENTRY_KINDS.DEF) return made;
   if (kind === ENTRY_KINDS.ABS) return { ...made, section: ABSOLUTE };
@@ -105,7 +102,7 @@ function merged(known, entry) {
   return known;
 }
 
-const localOf = ({ name, value, hunk }) => ({ name: cut(name), value, section: hunk, binding: LOCAL, size: 0 });
+const localOf = ({ name, value, hunk }) => ({ name, value, section: hunk, binding: LOCAL, size: 0 });
 
 /** The names of a file: those that only a debugger needs, and then each of EXT blocks once. An empty one is left out. */
 function symbolsOf({ symbols, entries }) {
@@ -155,7 +152,7 @@ export function relocatable(file) {
   const relocations = file.hunks.map(() => []);
   for (const it of patches) {
     const row = { offset: it.offset, kind: it.form, addend: addendAt(contents[it.hunk], it) };
-    relocations[it.hunk].push(it.name === undefined ? { ...row, section: it.target } : { ...row, symbol: places.get(cut(it.name)) });
+    relocations[it.hunk].push(it.name === undefined ? { ...row, section: it.target } : { ...row, symbol: places.get(it.name) });
   }
   const sections = file.hunks.map((hunk, i) => sectionOf(hunk, i, 0, contents[i], relocations[i]));
   return write(RELOCATABLE, sections, symbols);

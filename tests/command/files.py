@@ -84,3 +84,20 @@ def hunk(*words, folder, given=b""):
     """What the command prints, says, and its status."""
     ran = subprocess.run([*COMMAND, *words], cwd=folder, env=ENVIRONMENT, input=given, capture_output=True, timeout=120)
     return ran.stdout.decode(), ran.stderr.decode(), ran.returncode
+
+
+def raw(*words, folder, given=b"", **more):
+    """The bytes that the command prints, what it says, and its status."""
+    ran = subprocess.run([*COMMAND, *words], cwd=folder, env=ENVIRONMENT, input=given, capture_output=True, timeout=120,
+                         **more)
+    return ran.stdout, ran.stderr.decode(), ran.returncode
+
+
+def call(*words, folder):
+    """The same as texts, in this process, which takes less time."""
+    before = os.getcwd()
+    os.chdir(folder)
+    try:
+        return called(words)
+    finally:
+        os.chdir(before)

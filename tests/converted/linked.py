@@ -108,13 +108,22 @@ SECOND = "3E7 0 3E9 2 4E754E71 4E754E71 3EF 1000001 5F620000 4 1000001 5F630000 
 # _e after its definition; a name that goes on after a zero byte, one of a debugger, and an empty one.
 NAMED = """3E7 0 3E9 8 0 0 0 0 0 0 0 0 3EF 81000001 5F720000 1 0 81000001 5F630000 1 4 82000001 5F630000 10 1 8
     82000001 5F630000 20 1 C 82000001 5F640000 8 1 10 81000001 5F640000 1 14 1000001 5F640000 4 1000001 5F650000 8
-    81000001 5F650000 1 18 2000001 5F610078 1234 1 5F730000 0 1000000 5 0 3F0 1 6D000000 2 0 3F2"""
+    81000001 5F650000 1 18 2000001 5F610078 1234
+    81000001 5F610000 1 1C 1 5F730000 0 1000000 5 0 3F0 1 6D000000 2 0 3F2"""
 LISTED = ["         U _r", "00000000 T _s", "00000002 T m", "00000004 T _d", "00000008 T _e", "00000020 C _c", "00001234 A _a"]
 
 
+# All kinds of relocations and references that have a form, but for RELOC32 and REF32; the first adds FFFE, which is -2.
+KINDS = """3E7 0 3E9 7 FFFE0000 0 0 0 0 0 0 3ED 1 0 0 0 3FD 1 0 4 0 3FE 1 0 8 0
+    3EF 88000001 5F610000 1 C 89000001 5F620000 8 1 10 8A000001 5F630000 1 14 8B000001 5F640000 1 18 83000001 5F640000 1 1A 0 3F2"""
+ROWS = [(0x0, "R_68K_PC16", ".text.hunk0-0x00000002"), (0x4, "R_68K_PC32", ".text.hunk0"), (0x8, "R_68K_16", ".text.hunk0"),
+        (0xC, "R_68K_PC32", "_a"), (0x10, "R_68K_PC32", "_b"), (0x14, "R_68K_16", "_c"), (0x18, "R_68K_8", "_d"),
+        (0x1A, "R_68K_PC16", "_d")]
+
+
 def objects():
-    """All three, by name."""
-    for name, text in (("first", FIRST), ("second", SECOND), ("named", NAMED)):
+    """All of them, by name."""
+    for name, text in (("first", FIRST), ("second", SECOND), ("named", NAMED), ("kinds", KINDS)):
         yield name, b"".join(bytes.fromhex(it.zfill(8)) for it in text.split())
 
 
@@ -124,6 +133,7 @@ def look_at_objects(home):
         (home / name).write_bytes(data)
         same(f"{name} to ELF", called("convert", "--to", "elf", home / name, home / f"{name}.o"), ("", "", 0))
     same("what nm lists of named", tools.names(home / "named.o"), LISTED)
+    same("what objdump lists of kinds", [it[1:] for it in tools.relocations(home / "kinds.o")], ROWS)
     script = home / "both.ld"
     script.write_text("SECTIONS { .text 0x1000 : { first.o(.text.hunk0) first.o(.data.hunk1) second.o(.text.hunk0) } }\n")
     subprocess.run([f"{tools.PREFIX}ld", "-T", script.name, "-e", "0", "-o", "both", "first.o", "second.o"], cwd=home, check=True)

@@ -60,12 +60,7 @@ def refuse_units(file: hunk.File) -> None:
         raise NoForm(0, f"there are {len(file.hunks)} hunks, and a file of ELF has at most {MOST_HUNKS}")
 
 
-# ---- Names.
-
-
-def name_of(name: bytes) -> bytes:
-    """A name up to its first zero byte, which ends it in ELF."""
-    return name.split(b"\0")[0]
+# ---- Names. The library ends each at its first zero byte, as ELF does.
 
 
 def merged(known: elf.Symbol, entry: hunk.Entry) -> elf.Symbol:
@@ -82,22 +77,21 @@ def merged(known: elf.Symbol, entry: hunk.Entry) -> elf.Symbol:
 
 def symbol_of(entry: hunk.Entry) -> elf.Symbol:
     """The symbol of an entry of an EXT block. The value of a common block is what it is aligned to."""
-    name = name_of(entry.name)
     if entry.kind == hunk.EntryKind.SYMB:
-        return elf.Symbol(name, entry.value, entry.hunk)
+        return elf.Symbol(entry.name, entry.value, entry.hunk)
     if entry.kind == hunk.EntryKind.DEF:
-        return elf.Symbol(name, entry.value, entry.hunk, elf.GLOBAL)
+        return elf.Symbol(entry.name, entry.value, entry.hunk, elf.GLOBAL)
     if entry.kind == hunk.EntryKind.ABS:
-        return elf.Symbol(name, entry.value, elf.ABSOLUTE, elf.GLOBAL)
+        return elf.Symbol(entry.name, entry.value, elf.ABSOLUTE, elf.GLOBAL)
     if entry.kind in COMMON:
-        return elf.Symbol(name, elf.STEP, elf.COMMON, elf.GLOBAL, entry.value)
-    return elf.Symbol(name, 0, elf.UNDEFINED, elf.GLOBAL)
+        return elf.Symbol(entry.name, elf.STEP, elf.COMMON, elf.GLOBAL, entry.value)
+    return elf.Symbol(entry.name, 0, elf.UNDEFINED, elf.GLOBAL)
 
 
 def symbols_of(file: hunk.File) -> List[elf.Symbol]:
     """The names of a file: those that only a debugger needs, and then each of EXT blocks once. An empty one is left out."""
     found: Dict[bytes, elf.Symbol] = {}
-    own = [elf.Symbol(name_of(it.name), it.value, it.hunk) for it in file.symbols]
+    own = [elf.Symbol(it.name, it.value, it.hunk) for it in file.symbols]
     for entry in file.entries:
         it = symbol_of(entry)
         if it.binding == elf.LOCAL:
@@ -131,7 +125,7 @@ def relocation(layout: Layout, patch: Patch, places: Dict[bytes, int]) -> elf.Re
     kind = elf.RELOCATIONS[patch.width, patch.kind in FROM_HERE]
     addend = (value + sign) % (2 * sign) - sign
     if patch.target < 0:
-        return elf.Relocation(patch.offset, kind, addend, symbol=places[name_of(patch.name)])
+        return elf.Relocation(patch.offset, kind, addend, symbol=places[patch.name])
     return elf.Relocation(patch.offset, kind, addend, section=patch.target)
 
 
@@ -166,6 +160,6 @@ def program(file: hunk.File, base: int, memory: Sequence[bytes]) -> bytes:
     refuse_units(file)
     places = Layout(file, base).places
     addresses = [it.base % (1 << 32) for it in places.values()]
-    symbols = [elf.Symbol(name_of(it.name), (addresses[it.hunk] + it.value) % (1 << 32), it.hunk) for it in file.symbols]
+    symbols = [elf.Symbol(it.name, (addresses[it.hunk] + it.value) % (1 << 32), it.hunk) for it in file.symbols]
     kept = [b"" if is_zero else it for it, is_zero in zip(memory, are_zero(file))]
     return elf.write(elf.EXECUTABLE, sections_of(file, kept, addresses, {}), [it for it in symbols if it.name], base)
