@@ -16,7 +16,7 @@ const MOST_ROWS = 2 ** 21;
 const textsOf = (kind) => WARNING_TEXTS[kind] ?? [`kind ${kind}`, "", "", ""];
 
 /** Whether it is of a longword that is relocated, and so of one in memory. */
-const isOfRelocation = ({ kind }) => kind <= WARNINGS.OutsideTarget;
+const isOfRelocation = (kind) => kind <= WARNINGS.OutsideTarget;
 
 /** What a row has of its own; nothing where it has no more than its kind means. */
 function detailOf(file, { kind, place, target, value, other }) {
@@ -30,7 +30,7 @@ function detailOf(file, { kind, place, target, value, other }) {
 
 /** The offset of its hunk that a row is of, as text; nothing where it is of the hunk itself. */
 export function offsetText(row) {
-  if (isOfRelocation(row)) return hex(row.offset);
+  if (isOfRelocation(row.kind)) return hex(row.offset);
   return row.kind === WARNINGS.SymbolOutside ? hex(row.value) : "";
 }
 
@@ -46,7 +46,7 @@ export function warningText(file, row) {
 export function warningTarget(file, row) {
   const inFile = file.range(textPlace(row.place), LONG);
   if (row.kind === WARNINGS.SymbolOutside) return { file: inFile };
-  const [offset, bytes] = isOfRelocation(row) ? [row.offset, LONG] : [0, Infinity];
+  const [offset, bytes] = isOfRelocation(row.kind) ? [row.offset, LONG] : [0, Infinity];
   return { file: inFile, memory: file.inMemory(row.hunk, offset, bytes) };
 }
 
@@ -54,7 +54,10 @@ export function warningTarget(file, row) {
 export function warningsText(file) {
   const { rows } = file.list("warnings");
   const counts = new Map();
-  for (let i = 0; i < rows.length; i++) counts.set(rows.get(i, "kind"), (counts.get(rows.get(i, "kind")) ?? 0) + 1);
+  for (let i = 0; i < rows.length; i++) {
+    const kind = rows.get(i, "kind");
+    counts.set(kind, (counts.get(kind) ?? 0) + 1);
+  }
   const lines = [...counts].sort(([one], [other]) => one - other).map(([kind, count]) => {
     const [name, meaning, effect, developer] = textsOf(kind);
     return `${name}, ${counted(count, "warning")}: ${meaning}; ${effect}. Developer: ${developer}.`;
@@ -73,9 +76,9 @@ export class Warned {
     const both = new Float64Array(rows.length);
     let count = 0;
     for (let i = 0; i < rows.length; i++) {
-      const row = rows.at(i);
-      this.hunks[row.hunk] += 1;
-      if (isOfRelocation(row)) both[count++] = (file.starts[row.hunk] + row.offset) * MOST_ROWS + i;
+      const hunk = rows.get(i, "hunk");
+      this.hunks[hunk] += 1;
+      if (isOfRelocation(rows.get(i, "kind"))) both[count++] = (file.starts[hunk] + rows.get(i, "offset")) * MOST_ROWS + i;
     }
     this.sorted = both.subarray(0, count).sort();
     this.memory = this.sorted.map((it) => Math.floor(it / MOST_ROWS));

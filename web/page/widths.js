@@ -1,7 +1,7 @@
 // How wide the columns of a table are: each as what is in it, and one has the rest of the room.
 
 /** How many rows are measured before a table is shown. Those that are drawn later are measured then. */
-const SAMPLED = 1000;
+const SAMPLED = 200;
 /** A coloured mark before a text, with its gap. */
 const CHIP = 15;
 /** What a rounded width may lack, and the mark of a column that is sorted. */
