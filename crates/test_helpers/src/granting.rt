@@ -49,12 +49,18 @@ impl Room {
             between: Vec::with_capacity(alloc, EACH)?,
             granted: 0,
         };
-        fill(alloc, &mut room.apart, size, APART)?;
-        for count in 1..=EACH {
-            fill(alloc, &mut room.between, 1, count)?;
-            fill(alloc, &mut room.pieces, size, count)?;
-        }
+        room.take(alloc)?;
         Ok(room)
+    }
+
+    /// Takes all pieces for the first time.
+    fn take(&mut self, alloc: Global) -> Result<(), AllocError> {
+        fill(alloc, &mut self.apart, self.size, APART)?;
+        for count in 1..=EACH {
+            fill(alloc, &mut self.between, 1, count)?;
+            fill(alloc, &mut self.pieces, self.size, count)?;
+        }
+        Ok(())
     }
 
     /// Gives the pieces that are granted to the allocator, which keeps none of them apart.
@@ -123,6 +129,29 @@ fn grant<E: PartialEq + Drop, F: Fn() -> Option<E>>(
     Ok(None)
 }
 
+/// Appends what a call answers with none granted, and then with one piece more after the other, until it succeeds.
+fn grant_each<E: PartialEq + Drop, F: Fn() -> Option<E>>(
+    alloc: Global,
+    rooms: &mut [Room],
+    answers: &mut Vec<Option<E>>,
+    call: &F,
+) -> Result<(), AllocError>
+    requires { F.IsAlwaysCallable call.now }
+{
+    answers.push(answer_within(alloc, rooms, call)?)?;
+    for _ in 1..MOST {
+        let Some(answer) = grant(alloc, rooms, answers.last(), call)? else {
+            break;
+        };
+        let succeeds = answer.is_none();
+        answers.push(answer)?;
+        if succeeds {
+            break;
+        }
+    }
+    Ok(())
+}
+
 /// What a call answers with no growth granted, with the first alone, with the first two, and so on, and then `None`,
 /// as it succeeds: its answers have to differ from growth to growth. The size of each growth is looked for, and a
 /// piece of it is there for this growth alone.
@@ -142,17 +171,8 @@ pub fn answers_one_by_one<E: PartialEq + Drop, F: Fn() -> Option<E>>(
     let mut answers = Vec::with_capacity(alloc, MOST)?;
     let mut rooms = rooms(alloc)?;
     let held = all_memory(alloc)?;
-    answers.push(answer_within(alloc, &mut rooms, &call)?)?;
-    for _ in 1..MOST {
-        let Some(answer) = grant(alloc, &mut rooms, answers.last(), &call)? else {
-            break;
-        };
-        let succeeds = answer.is_none();
-        answers.push(answer)?;
-        if succeeds {
-            break;
-        }
-    }
+    let granted = grant_each(alloc, &mut rooms, &mut answers, &call);
     drop(held);
+    granted?;
     Ok(answers)
 }

@@ -109,7 +109,7 @@ fn all_is_taken(alloc: Global) -> bool {
 }
 
 /// Memory that no one else has, until it is dropped.
-#[derive(Debug, Drop)]
+#[derive(Drop)]
 pub struct Held {
     pieces: Vec<Vec<u8>>,
     rooms: Vec<Vec<u8>>,
@@ -138,13 +138,23 @@ pub fn all_but(alloc: Global, sizes: &[usize]) -> Result<Held, AllocError> {
     let piece = piece_for(alloc, sizes)?;
     let mut pieces = all_memory(alloc)?;
     drop(piece);
-    for size in sizes {
-        rooms.push(Vec::<u8>::with_capacity(alloc, *size)?)?;
-    }
-    take_all(alloc, &mut pieces)?;
+    take_beside(alloc, sizes, &mut rooms, &mut pieces)?;
     // Without the rooms, but with the list that held them: it would be one more.
     rooms.clear();
     Ok(Held { pieces, rooms })
+}
+
+/// Takes a room of each of these sizes, and then all the memory that is left.
+fn take_beside(
+    alloc: Global,
+    sizes: &[usize],
+    rooms: &mut Vec<Vec<u8>>,
+    pieces: &mut Vec<Vec<u8>>,
+) -> Result<(), AllocError> {
+    for size in sizes {
+        rooms.push(Vec::<u8>::with_capacity(alloc, *size)?)?;
+    }
+    take_all(alloc, pieces)
 }
 
 /// The only memory that there is while a value is made: 24 MiB.
@@ -154,6 +164,13 @@ const ROOM: usize = 3 << 23;
 /// of its size, or of up to 32 MiB, was given back; from then on it takes such a piece from its heap. So
 /// the room is a part of the heap, and what it is divided into costs no pages.
 const HEAPED: usize = (1 << 25) - (1 << 16);
+
+/// Holds all memory but a room of 24 MiB, which is a part of the heap.
+fn all_but_one_room(alloc: Global) -> Result<Held, AllocError> {
+    drop(Vec::<u8>::with_capacity(alloc, HEAPED)?);
+    drop(all_memory(alloc)?);
+    all_but(alloc, &[ROOM])
+}
 
 /// How many bytes the pieces have together.
 fn bytes_in(pieces: &[Vec<u8>]) -> usize {
@@ -170,9 +187,7 @@ fn left_once<T: Drop, F: Fn() -> T>(alloc: Global, make: &F) -> Result<(T, usize
     requires { F.IsAlwaysCallable make.now }
 {
     let mut pieces = Vec::with_capacity(alloc, PIECES)?;
-    drop(Vec::<u8>::with_capacity(alloc, HEAPED)?);
-    drop(all_memory(alloc)?);
-    let held = all_but(alloc, &[ROOM])?;
+    let held = all_but_one_room(alloc)?;
     // So that it divides the room also where the value takes nothing.
     let front = Vec::<u8>::with_capacity(alloc, FRONT)?;
     let value = make();
@@ -250,6 +265,30 @@ fn answer_in<E: Drop, F: Fn() -> Option<E>>(
     Ok(answer)
 }
 
+/// Appends what a call answers in one room after the other, until it succeeds; an answer that comes again
+/// is left out.
+fn answer_in_each<E: PartialEq + Drop, F: Fn() -> Option<E>>(
+    alloc: Global,
+    rooms: Vec<Vec<u8>>,
+    answers: &mut Vec<Option<E>>,
+    call: &F,
+) -> Result<(), AllocError>
+    requires { F.IsAlwaysCallable call.now }
+{
+    let mut pieces = all_memory(alloc)?;
+    for room in rooms {
+        let answer = answer_in(alloc, room, &mut pieces, call)?;
+        let succeeds = answer.is_none();
+        if answers.last() != Some(&answer) {
+            answers.push(answer)?;
+        }
+        if succeeds {
+            break;
+        }
+    }
+    Ok(())
+}
+
 /// What a call answers while each growth that it asks for is refused in turn: its answers, of which
 /// one that comes again is left out, and then `None`, as it succeeds.
 ///
@@ -269,16 +308,6 @@ pub fn answers_growth_by_growth<E: PartialEq + Drop, F: Fn() -> Option<E>>(
 {
     let mut answers = Vec::with_capacity(alloc, STEPS)?;
     let rooms = rooms_by_steps(alloc)?;
-    let mut pieces = all_memory(alloc)?;
-    for room in rooms {
-        let answer = answer_in(alloc, room, &mut pieces, &call)?;
-        let succeeds = answer.is_none();
-        if answers.last() != Some(&answer) {
-            answers.push(answer)?;
-        }
-        if succeeds {
-            break;
-        }
-    }
+    answer_in_each(alloc, rooms, &mut answers, &call)?;
     Ok(answers)
 }

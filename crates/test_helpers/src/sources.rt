@@ -17,7 +17,7 @@ fn give(rest: &mut &[u8], buf: &mut [u8], most: usize) -> usize
 }
 
 /// Gives these bytes, one a read; after this many of them one read fails, and those after it go on.
-#[derive(Debug, Drop)]
+#[derive(Drop)]
 pub struct FailsOnce<'a> {
     rest: &'a [u8],
     given: usize,
@@ -69,7 +69,7 @@ impl Source for FailsOnce<'_> {
 }
 
 /// Reads these bytes, one a read; after this many of them one read is interrupted, and those after it go on.
-#[derive(Debug, Drop)]
+#[derive(Drop)]
 pub struct Interrupted<'a> {
     rest: &'a [u8],
     before: usize,
@@ -108,7 +108,7 @@ pub enum Then {
 }
 
 /// Gives these bytes in pieces, and then what comes after them.
-#[derive(Debug, Drop)]
+#[derive(Drop)]
 pub struct Fed<'a> {
     rest: &'a [u8],
     cut: usize,

@@ -10,7 +10,7 @@ pub const WIDTH: usize = 1_024;
 
 /// A writer that takes `room` bytes in all and at most `step` at a time, and then fails, or takes
 /// none. It needs no memory.
-#[derive(Debug, Drop)]
+#[derive(Drop)]
 pub struct Narrow {
     room: usize,
     step: usize,
