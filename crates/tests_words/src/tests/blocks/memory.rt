@@ -3,7 +3,7 @@
 
 use crate::tests::asserts::{assert_equal, assert_equal_at};
 use crate::tests::blocks::answers::{Case, answer, wanted};
-use hunk_blocks::{Block, Mode};
+use hunk_blocks::Mode;
 use hunk_words::{BlockFault, Reason};
 use std::alloc::{AllocError, Global};
 use std::process::Abort;
@@ -34,10 +34,7 @@ fn refused_at(place: u64) -> Option<BlockFault> {
 /// Sees that memory is refused at these places in turn, and that the block is read then.
 fn expect(rt: &impl Abort, alloc: Global, text: &str, places: [u64; 2]) -> Result<(), Fail> {
     let bytes = spelled(alloc, text)?;
-    let answers = answers_growth_by_growth(
-        alloc,
-        || Block::decode(alloc, &bytes, Mode::Object).err(),
-    )?;
+    let answers = answers_growth_by_growth(alloc, || answer(alloc, &bytes, Mode::Object).err())?;
     let [first, fifth] = places;
     let want = [refused_at(first), refused_at(fifth), None];
     assert_equal(rt, answers.as_slice(), want.as_slice());
