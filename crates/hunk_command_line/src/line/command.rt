@@ -1,6 +1,6 @@
 //! The command that clap reads the words by, with its help.
 ghost use Rattle.std.specs.Prelude.{◌≡◌, IfOk, codes, false};
-ghost use Rattle.clap.specs.Words.{App, app_of, new_app, new_rule, rule_of, with_subcommand};
+ghost use Rattle.clap.specs.Words.{App, Rule, app_of, new_app, new_rule, with_rule, with_subcommand};
 ghost use Rattle.clap.specs.declared.builder.command.Command.TheViews.{out-Command as fields_of};
 ghost use Rattle.hunk_command_line.specs.Command as spec;
 
@@ -105,8 +105,8 @@ fn positional<'a>(alloc: Global, name: &'a str, help: &'a str) -> Arg<'a>
 
 /// The argument, which has to be there.
 fn mandatory<'a>(arg: Arg<'a>) -> Arg<'a>
-    ensures rule { rule_of result ≡ spec.mandatory (rule_of arg.entry) }
-    ensures not_global { result.global ≡ arg.entry.global }
+    ensures { (rule : Rule) → spec.IsArgument rule arg.entry
+        → spec.IsArgument (spec.mandatory rule) result }
 {
     arg.required(true)
 }
@@ -139,6 +139,25 @@ fn command<'a>(alloc: Global, name: &'a str, about: &'a str, after: &'a str) -> 
     Command::new(alloc, name).about(about).after_help(after)
 }
 
+/// The command with an argument more, where there was memory for both.
+///
+/// `drop` is quicker to prove than the end of the scope, which drops each field by itself.
+fn with_argument<'a>(
+    command: Result<Command<'a>, AllocError>,
+    arg: Arg<'a>,
+) -> Result<Command<'a>, AllocError>
+    ensures { (app : App) (rule : Rule) → IfOk command.entry (spec.IsCommand app)
+        → spec.IsArgument rule arg.entry → IfOk result (spec.IsCommand (with_rule app rule)) }
+{
+    match command {
+        Ok(command) => command.arg(arg),
+        Err(AllocError) => {
+            drop(arg);
+            Err(AllocError)
+        }
+    }
+}
+
 /// A command whose input may be text, or in a wide spelling: NAME [--hex] [--wide].
 fn reading_command<'a>(
     alloc: Global,
@@ -148,9 +167,9 @@ fn reading_command<'a>(
 ) -> Result<Command<'a>, AllocError>
     ensures { IfOk result (spec.IsCommand (spec.reading_command name.entry.now)) }
 {
-    command(alloc, name, about, after)
-        .arg(hex_flag(alloc))?
-        .arg(wide_flag(alloc))
+    let command = command(alloc, name, about, after);
+    let command = with_argument(Ok(command), hex_flag(alloc));
+    with_argument(command, wide_flag(alloc))
 }
 
 /// A command that has no options of its own: NAME [--hex] [--wide] [FILE].
@@ -162,7 +181,8 @@ fn plain_command<'a>(
 ) -> Result<Command<'a>, AllocError>
     ensures { IfOk result (spec.IsCommand (spec.plain_command name.entry.now)) }
 {
-    reading_command(alloc, name, about, after)?.arg(file_positional(alloc))
+    let command = reading_command(alloc, name, about, after);
+    with_argument(command, file_positional(alloc))
 }
 
 fn relocate<'a>(alloc: Global) -> Result<Command<'a>, AllocError>
@@ -171,10 +191,10 @@ fn relocate<'a>(alloc: Global) -> Result<Command<'a>, AllocError>
     let about = "Loads a load file at an address, and prints the bytes of its hunks";
     let base = "The address of the first hunk: exactly eight hexadecimal digits";
     let budget = "The most bytes that the hunks may have together, in decimal [default: 16777216]";
-    reading_command(alloc, "relocate", about, AFTER_RELOCATE)?
-        .arg(mandatory(option(alloc, "base", "HEX", base)))?
-        .arg(option(alloc, "budget", "N", budget))?
-        .arg(file_positional(alloc))
+    let command = reading_command(alloc, "relocate", about, AFTER_RELOCATE);
+    let command = with_argument(command, mandatory(option(alloc, "base", "HEX", base)));
+    let command = with_argument(command, option(alloc, "budget", "N", budget));
+    with_argument(command, file_positional(alloc))
 }
 
 /// `rewrite`, without its files yet.
@@ -183,18 +203,19 @@ fn writing_command<'a>(alloc: Global) -> Result<Command<'a>, AllocError>
 {
     let about = "Reads a load file or an object file, and writes it again";
     let strip = "Leave out names, symbols, debug data and advisory blocks";
-    command(alloc, "rewrite", about, AFTER_REWRITE)
-        .arg(flag(alloc, "strip", strip))?
-        .arg(wide_flag(alloc))
+    let command = command(alloc, "rewrite", about, AFTER_REWRITE);
+    let command = with_argument(Ok(command), flag(alloc, "strip", strip));
+    with_argument(command, wide_flag(alloc))
 }
 
 fn rewrite<'a>(alloc: Global) -> Result<Command<'a>, AllocError>
     ensures { IfOk result (spec.IsCommand spec.rewrite_command) }
 {
+    let input = "The file to read";
     let output = "The file to write; it is not touched where IN is refused";
-    writing_command(alloc)?
-        .arg(mandatory(positional(alloc, "IN", "The file to read")))?
-        .arg(mandatory(positional(alloc, "OUT", output)))
+    let command = writing_command(alloc);
+    let command = with_argument(command, mandatory(positional(alloc, "IN", input)));
+    with_argument(command, mandatory(positional(alloc, "OUT", output)))
 }
 
 /// The program, without its subcommands yet. That it has a version makes `--version` a flag; what
@@ -219,7 +240,13 @@ fn extended<'a>(
         → IfOk subcommand.entry (spec.IsCommand more)
         → IfOk result (λ grown. app_of grown ≡ with_subcommand app more.top) }
 {
-    program.subcommand(subcommand?)
+    match subcommand {
+        Ok(subcommand) => program.subcommand(subcommand),
+        Err(AllocError) => {
+            drop(program);
+            Err(AllocError)
+        }
+    }
 }
 
 /// The whole command line: one subcommand, with its flags, options and file names.
