@@ -6,7 +6,7 @@ ghost use Rattle.clap.specs.Simple.{subcommand_rows_of};
 ghost use Rattle.hunk_command_line.specs.Command as spec;
 ghost use Rattle.hunk_command_line.specs.Asked.{AnswersOrder, FollowsClap, IsHelp, IsLineOf, IsMemoryOr, RefusesOrder};
 ghost use Rattle.hunk_command_line.specs.FaultTexts.{told_fault, unwanted_text};
-ghost use Rattle.hunk_command_line.specs.Line.{entered_order, order_of, relocate_order, rewrite_order};
+ghost use Rattle.hunk_command_line.specs.Line.{entered_order, named_order, order_of, relocate_order, rewrite_order};
 ghost use Rattle.hunk_command_line.specs.Line.{show_order, validate_order};
 ghost use Rattle.hunk_command_line.specs.Line.{words_read};
 ghost use Rattle.hunk_command_line.specs.declared.asked.OrderFault.TheVariants.{Memory, Version};
@@ -152,16 +152,25 @@ fn matches_in<'w, S: AsStr>(alloc: Global, words: &'w [S]) -> Result<ArgMatches<
     }
 }
 
+/// The order of the subcommand with this name, by what clap has found for it.
+fn named_order(alloc: Global, name: &str, found: &ArgMatches<'_>) -> Result<Order, OrderFault>
+    ensures { AnswersOrder (named_order name.now (rows_of (found_of found.now))) result }
+{
+    match name {
+        "show" => show_order(alloc, found),
+        "validate" => validate_order(alloc, found),
+        "relocate" => relocate_order(alloc, found),
+        "rewrite" => rewrite_order(alloc, found),
+        _ => Err(unwanted(alloc, name, "<COMMAND>", "a command is wanted")),
+    }
+}
+
 /// The order of the subcommand that clap found.
 fn chosen_order(alloc: Global, found: &ArgMatches<'_>) -> Result<Order, OrderFault>
     ensures { AnswersOrder (entered_order (subcommand_rows_of found.now)) result }
 {
     match found.subcommand() {
-        Some(("show", found)) => show_order(alloc, found),
-        Some(("validate", found)) => validate_order(alloc, found),
-        Some(("relocate", found)) => relocate_order(alloc, found),
-        Some(("rewrite", found)) => rewrite_order(alloc, found),
-        Some((name, _)) => Err(unwanted(alloc, name, "<COMMAND>", "a command is wanted")),
+        Some((name, found)) => named_order(alloc, name, found),
         None => Err(unwanted(alloc, "", "<COMMAND>", "a command is wanted")),
     }
 }
