@@ -40,6 +40,12 @@ def put(text):
         left = left[os.write(sys.stdout.fileno(), left) :]
 
 
+class Ending:
+    """Whether a signal ends this at once, or has to wait, and which one waits."""
+
+    waits, number = False, None
+
+
 def end_on_signals():
     """Has signals raise Stopped, in which calls of the kit are ended."""
 
@@ -47,11 +53,25 @@ def end_on_signals():
         # A further one would break off the ending.
         for it in SIGNALS:
             signal.signal(it, signal.SIG_IGN)
-        raise Stopped(number)
+        if not Ending.waits:
+            raise Stopped(number)
+        Ending.number = number
 
     for it in SIGNALS:
         if signal.getsignal(it) is not signal.SIG_IGN:
             signal.signal(it, stop)
+
+
+@contextlib.contextmanager
+def without_end():
+    """A signal waits until this is done."""
+    Ending.waits = True
+    try:
+        yield
+    finally:
+        Ending.waits = False
+        if Ending.number:
+            raise Stopped(Ending.number)
 
 
 def look_for_kit():
@@ -73,7 +93,9 @@ def calls():
     made = []
 
     def call(words, folder, **how):
-        made.append(subprocess.Popen(["rt", *words], cwd=TOP / folder, **how))
+        # A call that has begun, and is not yet among these, would go on for itself.
+        with without_end():
+            made.append(subprocess.Popen(["rt", *words], cwd=TOP / folder, **how))
         return made[-1]
 
     try:

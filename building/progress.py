@@ -67,7 +67,8 @@ class Crate:
         be read once more."""
         start = f"Rattle-{self.name}-proofs."
         kept = [it.name for it in self.kept.glob("*/*.oantt") if it.name.startswith(start) and "++" not in it.name]
-        return tuple(sum(it.endswith(f".{part}.oantt") for it in kept) for part in ("Met", "Code"))
+        met, code = ({it.rpartition(end)[0] for it in kept if it.endswith(end)} for end in (".Met.oantt", ".Code.oantt"))
+        return len(met & code), len(code)
 
     def state(self):
         """How far it is. The kit does not say when it has waited long enough."""
