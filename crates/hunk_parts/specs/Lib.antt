@@ -1,0 +1,5 @@
+pub mod Builds
+pub mod Listing
+pub mod PartFaults
+pub mod PartRows
+pub mod Parts

@@ -1,0 +1,10 @@
+//! The parts of a hunk file in a flat list of rows, and the file that such rows spell.
+#![tactic(auto)]
+
+mod part_row;
+mod row_fault;
+
+pub use crate::part_row::{
+    BLOCK_PART, ENTRY_PART, GROUP_PART, HUNK_PART, PartRow, SYMBOL_PART, UNIT_PART,
+};
+pub use crate::row_fault::{BuiltSize, NotBuilt, RowFault, RowRefusal};
