@@ -19,9 +19,6 @@ hunks_in (files.Object value) = 0
 abbrev pub size_of : HunkFile → BuiltSize
 size_of file = record { hunks = hunks_in file; bytes = saturated (length (file_bytes file)) }
 
-abbrev pub told_fault : RowFault → RowFault
-told_fault f = record f { place = saturated f.place }
-
 -- The text begins with the file that the rows spell, and what lies after it is as it was; or all is as it was.
 pub data Builds (bytes : List ℕ) (rows : List PartRow) (old new : List ℕ) (result : Result BuiltSize NotBuilt) : Type 0 where
   IsBuilt : (file : HunkFile) → AreParts bytes rows file → length (file_bytes file) ≤ length old
@@ -30,4 +27,4 @@ pub data Builds (bytes : List ℕ) (rows : List PartRow) (old new : List ℕ) (r
   LacksRoom : (file : HunkFile) → AreParts bytes rows file → length old < length (file_bytes file) → new ≡ old
       → result ≡ Err (NoRoom (size_of file)) → Builds bytes rows old new result
   IsRefused : (f : RowFault) → row_fault bytes rows ≡ Some f → ((file : HunkFile) → AreParts bytes rows file → ⊥) → new ≡ old
-      → result ≡ Err (Refused (told_fault f)) → Builds bytes rows old new result
+      → result ≡ Err (Refused f) → Builds bytes rows old new result

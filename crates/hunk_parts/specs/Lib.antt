@@ -3,3 +3,4 @@ pub mod Listing
 pub mod PartFaults
 pub mod PartRows
 pub mod Parts
+pub mod RowsText

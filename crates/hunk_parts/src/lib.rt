@@ -2,6 +2,8 @@
 #![tactic(auto)]
 
 mod part_row;
+mod part_size;
+mod place;
 mod row_fault;
 
 pub use crate::part_row::{

@@ -11,6 +11,13 @@ pub enum RowRefusal {
     Refused(Reason),
 }
 
+/// Why a row is refused, and how many bytes after its first one.
+#[derive(Clone, Copy)]
+pub(crate) struct Refusal {
+    pub(crate) why: RowRefusal,
+    pub(crate) ahead: u64,
+}
+
 /// The first row of which no file is made.
 #[derive(Clone, Copy)]
 pub struct RowFault {
