@@ -21,7 +21,7 @@ use Rattle.hunk_parts.specs.declared.part_row.PartRow.{PartRow}
 
 -- the word with the top byte of a symbol or an entry, and its name
 abbrev pub named_text : FilePart → List ℕ
-named_text q = q.word * name_limit + length q.content ∷ q.content
+named_text q = (q.word * name_limit + length q.content) ∷ q.content
 
 -- what follows the name of an entry
 abbrev pub shape_text : Option ExtShape → FilePart → List ℕ
@@ -33,7 +33,7 @@ shape_text None q = []
 -- what follows the word of a block, but for its items
 abbrev pub payload_text : Kind → FilePart → List ℕ
 payload_text kinds.End q = []
-payload_text k q = if nat_lt 0 (items_of k) then [] else q.value + length q.content ∷ q.content
+payload_text k q = if nat_lt 0 (items_of k) then [] else (q.value + length q.content) ∷ q.content
 
 -- in the body of the file
 abbrev pub part_text : FilePart → List ℕ
