@@ -1,5 +1,5 @@
 -- What building a file comes to.
-use Rattle.std.specs.Prelude.{◌≡◌, ℕ, ◌<◌, ◌≤◌, List, ◌++◌, length, drop, Some, ⊥, Result, Ok, Err}
+use Rattle.std.specs.Prelude.{◌≡◌, ℕ, ◌<◌, ◌≤◌, List, ◌++◌, length, drop, Some, Result, Ok, Err}
 use Rattle.hunk_words.specs.Carriers.{saturated}
 use Rattle.hunk_files.specs.HunkFile.{file_bytes}
 use Rattle.hunk_files.specs.declared.hunk_file.HunkFile.{HunkFile}

@@ -8,5 +8,4 @@ in_turn rows text place (x ∷ rest) = rows place x ++ in_turn rows text (place 
 
 -- where each item has one row
 abbrev pub item_rows : {A Row : Type 0} → (ℕ → A → Row) → (A → List ℕ) → ℕ → List A → List Row
-item_rows row text place [] = []
-item_rows row text place (x ∷ rest) = row place x ∷ item_rows row text (place + 4 * length (text x)) rest
+item_rows row = in_turn (λ place x. row place x ∷ [])

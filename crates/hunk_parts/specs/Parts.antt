@@ -3,8 +3,10 @@ use Rattle.std.specs.Prelude.{◌≡◌, ℕ, ◌+◌, ◌*◌, ◌==◌, nat_lt
 use Rattle.std.specs.List.{flat_map}
 use Rattle.hunk_words.specs.Bits.{entry_type, size_word}
 use Rattle.hunk_words.specs.Longs.{longs}
-use Rattle.hunk_blocks.specs.Values.{BlockBody, BlockValue, Name, Code, Data, Bss, Reloc, Symbol, Ext, Debug, Advisory, ext_type}
+use Rattle.hunk_blocks.specs.Values.{BlockBody, BlockValue, RelocGroup, SymbolEntry, ExtEntry, Name, Code, Data, Bss, Reloc, Symbol, Ext, Debug, Advisory, ext_type}
 use Rattle.hunk_files.specs.HunkFile.{IsFileOf, file_bytes}
+use Rattle.hunk_files.specs.LoadFile.{HunkValue, TableEntry}
+use Rattle.hunk_files.specs.ObjectFile.{UnitValue}
 use Rattle.hunk_files.specs.declared.hunk_file.HunkFile.{HunkFile}
 use Rattle.hunk_files.specs.declared.hunk_file.HunkFile.TheVariants as files
 use Rattle.hunk_parts.specs.declared.part_row.PartRow.{PartRow}
@@ -64,22 +66,46 @@ size_value (Data top words) = size_word top 0
 size_value (Bss size) = size
 size_value body = 0
 
+-- the entry of the table
+abbrev pub of_hunk : TableEntry → FilePart
+of_hunk e = part hunk_part e.word e.extra [] []
+
+-- its name
+abbrev pub of_unit : List ℕ → FilePart
+of_unit name = part unit_part 0 0 name []
+
+abbrev pub of_block : BlockValue → FilePart
+of_block b = part block_part b.word (size_value b.body) (unwrap_or (payload_of b.body) []) []
+
+abbrev pub of_group : RelocGroup → FilePart
+of_group g = part group_part g.target 0 [] g.offsets
+
+abbrev pub of_symbol : SymbolEntry → FilePart
+of_symbol s = part symbol_part (entry_type s.word) s.value s.name []
+
+abbrev pub of_entry : ExtEntry → FilePart
+of_entry e = part entry_part (ext_type e) e.value e.name e.offsets
+
 -- the groups or entries of a list
 abbrev pub item_parts : BlockBody → List FilePart
-item_parts (Reloc groups) = map (λ g. part group_part g.target 0 [] g.offsets) groups
-item_parts (Symbol entries) = map (λ s. part symbol_part (entry_type s.word) s.value s.name []) entries
-item_parts (Ext entries) = map (λ e. part entry_part (ext_type e) e.value e.name e.offsets) entries
+item_parts (Reloc groups) = map of_group groups
+item_parts (Symbol entries) = map of_symbol entries
+item_parts (Ext entries) = map of_entry entries
 item_parts body = []
 
 abbrev pub block_file_parts : BlockValue → List FilePart
-block_file_parts b = part block_part b.word (size_value b.body) (unwrap_or (payload_of b.body) []) [] ∷ item_parts b.body
+block_file_parts b = of_block b ∷ item_parts b.body
 
--- the parts of a file, in file order, but each size word before the blocks of its hunk
+abbrev pub hunk_file_parts : HunkValue → List FilePart
+hunk_file_parts h = of_hunk h.entry ∷ flat_map block_file_parts h.blocks
+
+abbrev pub unit_file_parts : UnitValue → List FilePart
+unit_file_parts u = of_unit u.name ∷ flat_map (flat_map block_file_parts) u.hunks
+
+-- The parts of a file, in file order, but each size word before the blocks of its hunk.
 unfoldable pub parts_of : HunkFile → List FilePart
-parts_of (files.Load hunks rest) =
-    flat_map (λ h. part hunk_part h.entry.word h.entry.extra [] [] ∷ flat_map block_file_parts h.blocks) hunks
-parts_of (files.Object units) =
-    flat_map (λ u. part unit_part 0 0 u.name [] ∷ flat_map (flat_map block_file_parts) u.hunks) units
+parts_of (files.Load hunks rest) = flat_map hunk_file_parts hunks
+parts_of (files.Object units) = flat_map unit_file_parts units
 
 -- ---- what rows spell
 

@@ -43,10 +43,3 @@ pub struct PartRow {
     /// How many offsets it has.
     pub offset_count: u64,
 }
-
-/// Where longwords lie in the bytes, and how many: at byte 0 where there are none for any file.
-#[derive(Clone, Copy)]
-pub(crate) struct Run {
-    pub(crate) place: u64,
-    pub(crate) count: u64,
-}
