@@ -178,7 +178,7 @@ is_in_place p q = if nat_lt 0 p.hunks then is_open p.place else (q.what == unit_
 abbrev pub refuse_hunk : PartPlace → PartSize → Option Refusal
 refuse_hunk p q =
     where_true (p.hunks == 0 || is_open p.place || not (has_no_content q && has_no_offsets q)
-      || not (has_both_bits q.word || has_no_value q)) strange
+    || not (has_both_bits q.word || has_no_value q)) strange
 
 -- the tests of a part, in order, but of its offsets
 abbrev pub refuse_part : PartPlace → PartSize → Option Refusal
@@ -230,7 +230,7 @@ place_after place q =
     if q.what == hunk_part then InHunk false
     else if q.what == unit_part then BetweenHunks
     else if q.what == block_part then
-      (if is_ending (standing_of_kind (kind q.word)) then BetweenHunks else after_block place (standing_of_kind (kind q.word)))
+    (if is_ending (standing_of_kind (kind q.word)) then BetweenHunks else after_block place (standing_of_kind (kind q.word)))
     else place
 
 abbrev pub list_after : Option Kind → ℕ → ℕ → Option Kind

@@ -1,12 +1,16 @@
 //! The parts of a hunk file in a flat list of rows, and the file that such rows spell.
 #![tactic(auto)]
 
+mod listing;
 mod part_row;
 mod part_size;
 mod place;
 mod row_fault;
+mod rows;
 
+pub use crate::listing::list_parts;
 pub use crate::part_row::{
     BLOCK_PART, ENTRY_PART, GROUP_PART, HUNK_PART, PartRow, SYMBOL_PART, UNIT_PART,
 };
 pub use crate::row_fault::{BuiltSize, NotBuilt, RowFault, RowRefusal};
+pub use crate::rows::payload_of;

@@ -1,0 +1,3 @@
+mod InTurn
+mod ItemsLeft
+pub mod Payloads
