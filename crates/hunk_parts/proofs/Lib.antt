@@ -1,3 +1,4 @@
 mod InTurn
 mod ItemsLeft
 pub mod Payloads
+pub mod ExtTypes

@@ -2,9 +2,11 @@
 #![tactic(auto)]
 
 mod listing;
+mod fields;
 mod part_row;
 mod part_size;
 mod place;
+mod refusals;
 mod row_fault;
 mod rows;
 
