@@ -9,6 +9,7 @@ mod place;
 mod refusals;
 mod row_fault;
 mod rows;
+mod steps;
 
 pub use crate::listing::list_parts;
 pub use crate::part_row::{
