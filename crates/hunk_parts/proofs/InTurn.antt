@@ -1,10 +1,8 @@
 -- Rows that are listed one after the other.
-use Rattle.std.proofs.Common.{◌≡◌, ℕ, ◌+◌, ◌*◌, List, [], ◌∷◌, ◌++◌, length, refl, sym, ap, ap₂, subst, ◌∙◌, Some, append_assoc, arith}
-use Rattle.std.specs.List.{flat_map}
-use Rattle.std.proofs.lemmas.List.{length-append}
+use Rattle.std.proofs.Common.{◌≡◌, ℕ, List, [], ◌∷◌, ◌++◌, sym, ap, ◌∙◌, Some}
 use Rattle.hunk_blocks.specs.Placed.{GivesFirst, Placed}
 use Rattle.hunk_files.proofs.findings.FindingSteps.{TakenUpTo, taken_on}
-use Rattle.hunk_parts.specs.Listing.{in_turn, item_rows}
+use Rattle.hunk_parts.specs.Listing.{item_rows}
 
 module _ {T A Row : Type 0} (view : T → A) (row : ℕ → A → Row) (text : A → List ℕ) where
   -- the rows that are left
@@ -22,13 +20,3 @@ module _ {T A Row : Type 0} (view : T → A) (row : ℕ → A → Row) (text : A
       ∙ ap (λ (n : ℕ). row old.place (view item) ∷ item_rows row text n new.value) (sym gives.1)
       ∙ ap (λ (x : Row). x ∷ left new) (sym is)
       ) t h
-
--- Where some stand after others, so do their rows.
-pub in_turn-append : {A Row : Type 0} (rows : ℕ → A → List Row) (text : A → List ℕ) (place : ℕ) (xs ys : List A) →
-    in_turn rows text place (xs ++ ys) ≡ in_turn rows text place xs ++ in_turn rows text (place + 4 * length (flat_map text xs)) ys
-in_turn-append rows text place [] ys = ap (λ (n : ℕ). in_turn rows text n ys) (omega arith)
-in_turn-append rows text place (x ∷ xs) ys =
-    let next = place + 4 * length (text x) in
-    ap (λ rest. rows place x ++ rest)
-    (in_turn-append rows text next xs ys ∙ ap (λ (n : ℕ). in_turn rows text next xs ++ in_turn rows text n ys) (omega (arith, length-append (text x) (flat_map text xs))))
-    ∙ sym (append_assoc (rows place x) (in_turn rows text next xs) (in_turn rows text (place + 4 * length (flat_map text (x ∷ xs))) ys))

@@ -1,4 +1,7 @@
+pub mod ExtTypes
+pub mod FewParts
 mod InTurn
 mod ItemsLeft
 pub mod Payloads
-pub mod ExtTypes
+mod SeenParts
+mod Standing

@@ -1,5 +1,5 @@
 -- The parts of a file in rows, each with where its bytes lie.
-use Rattle.std.specs.Prelude.{ℕ, ◌+◌, ◌-◌, ◌*◌, List, [], ◌∷◌, ◌++◌, length, Option, Some, None}
+use Rattle.std.specs.Prelude.{ℕ, ◌+◌, ◌-◌, ◌*◌, List, [], ◌∷◌, length, Option, Some, None}
 use Rattle.hunk_blocks.specs.Parts.{block_text, ext_text, group_text, symbol_text}
 use Rattle.hunk_blocks.specs.Values.{BlockBody, BlockValue, Reloc, RelocGroup, Symbol, SymbolEntry, Ext, ExtEntry}
 use Rattle.hunk_files.specs.Hunks.{block_texts}

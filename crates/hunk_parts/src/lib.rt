@@ -1,6 +1,7 @@
 //! The parts of a hunk file in a flat list of rows, and the file that such rows spell.
 #![tactic(auto)]
 
+pub mod laws;
 mod listing;
 mod fields;
 mod part_row;

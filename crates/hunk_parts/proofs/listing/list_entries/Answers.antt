@@ -1,4 +1,4 @@
-use Rattle.std.proofs.Common.{ℕ, ◌+◌, ◌*◌, length, sym, ap, subst, ◌∙◌}
+use Rattle.std.proofs.Common.{ℕ, ap, ◌∙◌}
 use Rattle.hunk_blocks.specs.{Parts.ext_text, Views.entry_of}
 use Rattle.hunk_files.proofs.findings.OffsetsWithin.{first_is}
 use Rattle.hunk_parts.specs.PartRows.{entry_row}

@@ -1,14 +1,14 @@
-use Rattle.std.proofs.Common.{◌≡◌, ℕ, ◌*◌, List, [], ◌∷◌, ◌++◌, length, map, take, drop, Some, refl, sym, ap, subst, ◌∙◌}
+use Rattle.std.proofs.Common.{◌*◌, List, [], ◌∷◌, ◌++◌, length, map, take, drop, Some, sym, ap, subst, ◌∙◌}
 use Rattle.hunk_blocks.specs.Placed.{Placed}
-use Rattle.hunk_files.specs.{InPlace.GivesPart, ItemViews.{GivesItem, item_seen}, Items.{ItemValue, UnitItem, HunkItem, BlockItem, item_text}}
+use Rattle.hunk_files.specs.{InPlace.GivesPart, ItemViews.{GivesItem}, Items.{ItemValue, UnitItem, HunkItem, BlockItem, item_text}}
 use Rattle.hunk_files.specs.LoadFile.{TableEntry}
 use Rattle.hunk_files.specs.LoadText.{table}
-use Rattle.hunk_files.specs.Tables.{header_text, size_entry}
+use Rattle.hunk_files.specs.Tables.{header_text}
 use Rattle.hunk_files.specs.declared.items.Item.{Item}
 use Rattle.hunk_files.proofs.findings.FindingSteps.{taken_on}
-use Rattle.hunk_parts.specs.PartRows.{block_rows, hunk_row, load_rows, unit_row}
+use Rattle.hunk_parts.specs.PartRows.{block_rows, hunk_row, load_rows}
 use Rattle.hunk_parts.specs.declared.part_row.PartRow.{PartRow}
-use Rattle.hunk_parts.proofs.ItemsLeft.{first_left, load_left, own_rows, rows_left}
+use Rattle.hunk_parts.proofs.ItemsLeft.{first_left, load_left, rows_left}
 use Rattle.hunk_parts.proofs.listing.list_load.Goals as goal
 
 pub listing-init : goal.listing-init

@@ -1,12 +1,9 @@
-use Rattle.std.proofs.Common.{◌≡◌, ℕ, ◌*◌, List, [], ◌∷◌, ◌++◌, length, map, take, drop, Some, refl, sym, ap, subst, ◌∙◌}
+use Rattle.std.proofs.Common.{List, [], ◌∷◌, Some, sym, ap, subst, ◌∙◌}
 use Rattle.hunk_blocks.specs.Placed.{Placed}
-use Rattle.hunk_files.specs.{InPlace.GivesPart, ItemViews.{GivesItem, item_seen}, Items.{ItemValue, UnitItem, HunkItem, BlockItem, item_text}}
-use Rattle.hunk_files.specs.LoadFile.{TableEntry}
-use Rattle.hunk_files.specs.LoadText.{table}
-use Rattle.hunk_files.specs.Tables.{header_text, size_entry}
+use Rattle.hunk_files.specs.{InPlace.GivesPart, ItemViews.{GivesItem}, Items.{ItemValue, UnitItem, BlockItem, item_text}}
 use Rattle.hunk_files.specs.declared.items.Item.{Item}
 use Rattle.hunk_files.proofs.findings.FindingSteps.{taken_on}
-use Rattle.hunk_parts.specs.PartRows.{block_rows, object_rows, unit_row}
+use Rattle.hunk_parts.specs.PartRows.{block_rows, object_rows}
 use Rattle.hunk_parts.specs.declared.part_row.PartRow.{PartRow}
 use Rattle.hunk_parts.proofs.ItemsLeft.{first_left, rows_left, units_left}
 use Rattle.hunk_parts.proofs.listing.list_object.Goals as goal

@@ -1,6 +1,6 @@
 use Rattle.std.proofs.Common.{rules, ◌≡◌, ℕ, ◌+◌, ◌*◌, List, [], length, Option, Some, unwrap_or, sym, ap, ◌∙◌, arith}
 use Rattle.hunk_words.specs.Longs.{longs}
-use Rattle.hunk_parts.specs.PartRows.{block_row, payload_place, row_at}
+use Rattle.hunk_parts.specs.PartRows.{payload_place, row_at}
 use Rattle.hunk_parts.specs.Parts.{block_part, part, payload_of, size_value}
 use Rattle.hunk_parts.specs.declared.part_row.PartRow.{PartRow}
 use Rattle.hunk_parts.proofs.Payloads.{payload_len}
