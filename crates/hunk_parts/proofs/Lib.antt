@@ -4,4 +4,5 @@ mod InTurn
 mod ItemsLeft
 pub mod Payloads
 mod SeenParts
+pub mod spelled
 mod Standing

@@ -1,0 +1,14 @@
+pub mod BlockBodies
+pub mod BlockTests
+pub mod BlocksInFront
+pub mod EntryWords
+pub mod HunkTests
+pub mod ItemTests
+pub mod ItemsInFront
+pub mod ItemsInTurn
+pub mod LoadTails
+pub mod ObjectTails
+pub mod PartKinds
+pub mod PartTests
+pub mod Passing
+pub mod Tails
