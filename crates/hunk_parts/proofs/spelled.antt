@@ -11,4 +11,6 @@ pub mod ObjectTails
 pub mod PartKinds
 pub mod PartTests
 pub mod Passing
+pub mod SeenLongs
+pub mod SpelledFiles
 pub mod Tails

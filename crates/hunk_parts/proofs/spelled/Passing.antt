@@ -68,7 +68,7 @@ passing bytes p number (r ∷ rows) e =
 next_none : (rest : Option RowFault) (o : Option FilePart) (q : FilePart) (p : PartPlace) (r : PartRow) (number : ℕ) → o ≡ Some q → refuse_row p (Some q) ≡ None → rest ≡ None → next_fault rest (refuse_row p o) p r number ≡ None
 next_none rest o q p r number is ok more = rw (is, ok) more
 
-heads : (o : Option FilePart) (os : List (Option FilePart)) (q : FilePart) (qs : List FilePart) → o ∷ os ≡ Some q ∷ map Some qs → (o ≡ Some q) × (os ≡ map Some qs)
+pub heads : (o : Option FilePart) (os : List (Option FilePart)) (q : FilePart) (qs : List FilePart) → o ∷ os ≡ Some q ∷ map Some qs → (o ≡ Some q) × (os ≡ map Some qs)
 heads o os q qs e = (cc, cc)
 
 pub no_fault_found : (bytes : List ℕ) (p : PartPlace) (number : ℕ) (rows : List PartRow) (parts : List FilePart) → map (seen bytes) rows ≡ map Some parts → PassFrom p parts → rows_fault bytes p number rows ≡ None
