@@ -2,8 +2,10 @@ pub mod BlockBodies
 pub mod BlockTests
 pub mod BlocksInFront
 pub mod EntryWords
+pub mod FileTexts
 pub mod HunkTests
 pub mod ItemTests
+pub mod ItemTexts
 pub mod ItemsInFront
 pub mod ItemsInTurn
 pub mod LoadTails

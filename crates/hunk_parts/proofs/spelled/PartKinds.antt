@@ -55,7 +55,7 @@ other_refused p what word value content offsets o e =
 
 -- ---- the open list
 
-lists_go_on : (k : Kind) → nat_lt 0 (items_of k) ≡ true → is_ending (standing_of_kind k) ≡ false
+pub lists_go_on : (k : Kind) → nat_lt 0 (items_of k) ≡ true → is_ending (standing_of_kind k) ≡ false
 lists_go_on kinds.End e = absurd cc
 lists_go_on kinds.Unit e = refl
 lists_go_on _ e = refl
