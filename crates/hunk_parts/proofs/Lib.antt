@@ -6,3 +6,6 @@ pub mod Payloads
 mod SeenParts
 pub mod spelled
 mod Standing
+pub mod ExtTypes
+pub mod PointedBytes
+pub mod GroupOffsets

@@ -304,8 +304,12 @@ nth_hunk n number [] = number
 nth_hunk n number (r ∷ rest) =
     if is_hunk_row r then (if n == 0 then number else nth_hunk (n - 1) (number + 1) rest) else nth_hunk n (number + 1) rest
 
+-- the first hunk of a load file that is too many
+abbrev pub too_many_hunks : List PartRow → RowFault
+too_many_hunks rows = record { refusal = Refused reasons.TooManyHunks; place = 8; row = nth_hunk most_hunks 0 rows }
+
 abbrev pub row_fault : List ℕ → List PartRow → Option RowFault
 row_fault bytes rows =
     if nat_lt most_hunks (first_place rows).hunks
-    then Some (record { refusal = Refused reasons.TooManyHunks; place = 8; row = nth_hunk most_hunks 0 rows })
+    then Some (too_many_hunks rows)
     else rows_fault bytes (first_place rows) 0 rows

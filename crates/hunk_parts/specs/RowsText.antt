@@ -2,6 +2,7 @@
 use Rattle.std.specs.Prelude.{ℕ, ◌+◌, ◌*◌, ◌==◌, ◌||◌, ◌&&◌, nat_lt, Bool, false, if◌then◌else◌, List, [], ◌∷◌, ◌++◌, length, map, take, drop, Option, Some, None, is_some}
 use Rattle.std.specs.List.{filter}
 use Rattle.hunk_words.specs.Bits.{kind}
+use Rattle.hunk_words.specs.Carriers.{saturated}
 use Rattle.hunk_words.specs.Limits.{name_limit}
 use Rattle.hunk_words.specs.Longs.{longs}
 use Rattle.hunk_words.specs.declared.block_word.Kind.{Kind}
@@ -14,8 +15,10 @@ use Rattle.hunk_files.specs.LoadFile.{TableEntry}
 use Rattle.hunk_files.specs.LoadText.{header_labelled}
 use Rattle.hunk_files.specs.ObjectFile.{unit_header}
 use Rattle.hunk_parts.specs.Parts.{FilePart, block_part, entry_part, group_part, hunk_part, part, symbol_part, unit_part}
-use Rattle.hunk_parts.specs.PartFaults.{items_of, list_after}
+use Rattle.hunk_parts.specs.PartFaults.{first_place, items_of, list_after}
 use Rattle.hunk_parts.specs.declared.part_row.PartRow.{PartRow}
+use Rattle.hunk_parts.specs.declared.row_fault.BuiltSize.{BuiltSize}
+use Rattle.hunk_parts.specs.declared.seen_part.SeenPart.{SeenPart}
 
 -- ---- the longwords of a part
 
@@ -71,6 +74,10 @@ header_of (q ∷ qs) = if is_hunk q then words (header_labelled (map hunk_entry 
 abbrev pub parts_text : List FilePart → List ℕ
 parts_text qs = header_of qs ++ text_from None qs
 
+-- the part that a row is with these bytes
+abbrev pub part_seen : SeenPart → FilePart
+part_seen s = part s.what s.word s.value (longs (s.content.now ++ 0 ∷ 0 ∷ 0 ∷ [])) (longs s.offsets.now)
+
 -- the part that a row is, where its bytes are there
 abbrev pub row_part : List ℕ → PartRow → FilePart
 row_part bytes r =
@@ -80,3 +87,7 @@ row_part bytes r =
 -- what rows spell that are not refused
 abbrev pub rows_text : List ℕ → List PartRow → List ℕ
 rows_text bytes rows = parts_text (map (row_part bytes) rows)
+
+-- how large that is
+abbrev pub rows_size : List ℕ → List PartRow → BuiltSize
+rows_size bytes rows = record { hunks = (first_place rows).hunks; bytes = saturated (4 * length (rows_text bytes rows)) }

@@ -3,6 +3,7 @@
 
 pub mod laws;
 mod listing;
+mod faults;
 mod fields;
 mod part_row;
 mod part_size;
@@ -10,6 +11,7 @@ mod place;
 mod refusals;
 mod row_fault;
 mod rows;
+mod seen_part;
 mod steps;
 
 pub use crate::listing::list_parts;

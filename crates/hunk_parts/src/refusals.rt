@@ -19,13 +19,13 @@ use hunk_grammar::{ObjectPosition, OpenHunk, Phase, Position, WordPlace};
 use hunk_words::{BlockWord, CONTENT_LIMIT, Kind, NAME_LIMIT, Reason, SizeWord};
 
 /// The row spells nothing that a file has there.
-const STRANGE: Refusal = Refusal {
+pub(crate) const STRANGE: Refusal = Refusal {
     why: RowRefusal::Strange,
     ahead: 0,
 };
 
 /// Refused for this reason, at so many bytes after its first one.
-fn because(ahead: u64, reason: Reason) -> Option<Refusal>
+pub(crate) fn because(ahead: u64, reason: Reason) -> Option<Refusal>
     ensures { result ≡ because ahead reason }
 {
     Some(Refusal {
