@@ -9,3 +9,4 @@ mod Standing
 pub mod ExtTypes
 pub mod PointedBytes
 pub mod GroupOffsets
+pub mod RowSizes
