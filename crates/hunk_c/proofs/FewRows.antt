@@ -16,6 +16,8 @@ use Rattle.hunk_files.specs.StandingBlocks.{StandingBlock, file_items, items_blo
 use Rattle.hunk_files.specs.declared.hunk_file.HunkFile.{HunkFile}
 use Rattle.hunk_files.specs.declared.hunk_file.HunkFile.TheVariants as files
 use Rattle.hunk_files.proofs.{cuts.TableReading.text_is, findings.FindingCounts.findings_few, findings.OffsetsWithin.offsets_within, findings.PlacedFindingLaws.findings_placed, views.FileItems.{hunks_own, units_own}}
+use Rattle.hunk_parts.specs.PartRows.{part_rows}
+use Rattle.hunk_parts.proofs.FewParts.{few_parts as few_of_file}
 use Rattle.hunk_c.specs.Blocks as blocks
 use Rattle.hunk_c.specs.Entries as entries
 use Rattle.hunk_c.specs.Relocations as relocations
@@ -209,3 +211,8 @@ few_findings bytes (files.Object value) size is fits = omega (
   findings_few value (subst IsObjectFile (sym is.1) is.0.is_object_file),
   length-bytes_of (object_text value),
 )
+
+-- ---- rows of parts
+
+pub few_parts : (bytes : List ℕ) (file : HunkFile) (size : ℕ) → IsFileOf bytes file → length (file_bytes file) ≤ size → length (part_rows file) ≤ size / 4
+few_parts bytes file size is fits = omega (arith, fits, few_of_file file)

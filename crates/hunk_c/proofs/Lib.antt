@@ -28,6 +28,5 @@ pub mod Succeeding
 pub mod TableRows
 pub mod TableSizes
 pub mod Tabulated
-pub mod Items
 pub mod BlockRows
 pub mod Warned

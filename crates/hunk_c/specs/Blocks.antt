@@ -4,27 +4,19 @@ use Rattle.hunk_words.specs.Bits.{flags}
 use Rattle.hunk_words.specs.Carriers.{saturated}
 use Rattle.hunk_words.specs.Longs.{bytes_of}
 use Rattle.hunk_blocks.specs.Parts.{block_text, ext_text, symbol_text}
-use Rattle.hunk_blocks.specs.Values.{BlockBody, Name, Code, Data, Reloc, Ext, Symbol, Debug, Advisory, content_bytes}
+use Rattle.hunk_blocks.specs.Values.{BlockBody, Reloc, Ext, Symbol, content_bytes}
 use Rattle.hunk_files.specs.StandingBlocks.{StandingBlock}
 use Rattle.hunk_files.specs.declared.hunk_file.HunkFile.{HunkFile}
 use Rattle.hunk_c.specs.Entries.{entry_row}
-use Rattle.hunk_c.specs.Listing.{item_rows}
+use Rattle.hunk_parts.specs.Listing.{item_rows}
+use Rattle.hunk_parts.specs.Parts.{payload_of}
 use Rattle.hunk_c.specs.Relocations.{block_type, group_rows, relocated}
 use Rattle.hunk_c.specs.Rows.{rows_in}
 use Rattle.hunk_c.specs.Symbols.{symbol_row}
 use Rattle.hunk_c.specs.declared.blocks.BlockRow.{BlockRow}
 pub use Rattle.hunk_c.specs.declared.blocks.Span.{Span}
 
--- the longwords after a count; none where the body has no count
-abbrev pub payload_of : BlockBody → Option (List ℕ)
-payload_of (Name words) = Some words
-payload_of (Code top words) = Some words
-payload_of (Data top words) = Some words
-payload_of (Debug words) = Some words
-payload_of (Advisory words) = Some words
-payload_of body = None
-
--- Where they stand in a block that begins at this byte: after its word and the count. Where there are none, 0.
+-- Where the longwords after a count stand in a block that begins at this byte: after its word and the count. Where there are none, 0.
 abbrev pub span_of : ℕ → Option (List ℕ) → Span
 span_of place (Some words) = record { place = place + 8; bytes = 4 * length words }
 span_of place None = record { place = 0; bytes = 0 }

@@ -6,7 +6,7 @@ use Rattle.hunk_blocks.specs.Parts.{ext_text}
 use Rattle.hunk_blocks.specs.Values.{BlockBody, ExtEntry, Ext, ext_type}
 use Rattle.hunk_files.specs.StandingBlocks.{StandingBlock}
 use Rattle.hunk_files.specs.declared.hunk_file.HunkFile.{HunkFile}
-use Rattle.hunk_c.specs.Listing.{item_rows}
+use Rattle.hunk_parts.specs.Listing.{item_rows}
 use Rattle.hunk_c.specs.Rows.{rows_in}
 use Rattle.hunk_c.specs.declared.entries.EntryRow.{EntryRow}
 

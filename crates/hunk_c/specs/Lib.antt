@@ -7,7 +7,6 @@ pub mod Entries
 pub mod Files
 pub mod FrontPlaces
 pub mod Fronts
-pub mod Listing
 pub mod Loaders
 pub mod Loads
 pub mod LoadsAt

@@ -6,7 +6,7 @@ use Rattle.hunk_blocks.specs.Values.{BlockBody, ExtEntry, Ext}
 use Rattle.hunk_files.specs.Findings.{reference_width}
 use Rattle.hunk_files.specs.StandingBlocks.{StandingBlock, standing_blocks}
 use Rattle.hunk_files.specs.declared.hunk_file.HunkFile.{HunkFile}
-use Rattle.hunk_c.specs.Listing.{item_rows}
+use Rattle.hunk_parts.specs.Listing.{item_rows}
 use Rattle.hunk_c.specs.declared.references.ReferenceRow.{ReferenceRow}
 
 -- what the caller sees of an offset that stands at this byte, of the entry with this number

@@ -6,7 +6,7 @@ use Rattle.hunk_blocks.specs.Parts.{symbol_text}
 use Rattle.hunk_blocks.specs.Values.{BlockBody, SymbolEntry, Symbol}
 use Rattle.hunk_files.specs.StandingBlocks.{StandingBlock}
 use Rattle.hunk_files.specs.declared.hunk_file.HunkFile.{HunkFile}
-use Rattle.hunk_c.specs.Listing.{item_rows}
+use Rattle.hunk_parts.specs.Listing.{item_rows}
 use Rattle.hunk_c.specs.Rows.{rows_in}
 use Rattle.hunk_c.specs.declared.symbols.SymbolRow.{SymbolRow}
 

@@ -1,11 +1,9 @@
 //! The blocks of a file.
 ghost use Rattle.std.specs.Prelude.{◌≡◌, ◌+◌, ◌*◌, ◌≤◌, length};
-ghost use Rattle.std.specs.Option.{option_map};
 ghost use Rattle.hunk_words.specs.Carriers.{saturated};
 ghost use Rattle.hunk_words.specs.Longs.{longs};
-ghost use Rattle.hunk_blocks.specs.BodyViews.{viewed};
 ghost use Rattle.hunk_files.specs.FileView.{file_of};
-ghost use Rattle.hunk_c.specs.Blocks.{block_row, block_rows, blocks_in, content, items, payload_of};
+ghost use Rattle.hunk_c.specs.Blocks.{block_row, block_rows, blocks_in, content, items};
 ghost use Rattle.hunk_c.specs.Rows.{ListsWhatFits, Tabulates};
 
 use crate::answer::Answer;
@@ -13,6 +11,7 @@ use crate::entries::list_entries;
 use crate::rows::{CountedRow, InBlock, RowCount, tabulate};
 use hunk_blocks::{BlockView, BodyView, Payload};
 use hunk_files::{FileView, Item, Takes};
+use hunk_parts::payload_of;
 
 /// A block of a hunk, `struct hunk_block`: 80 bytes, with no padding.
 #[repr(C)]
@@ -106,24 +105,9 @@ struct Span {
 fn content(block: &BlockView<'_>) -> Span
     ensures { result ≡ content block.now.place block.now.value.body }
 {
-    match payload(block.body()) {
+    match payload_of(block.body()) {
         Some(payload) => span_before(block.place() + block.encoded_len(), payload),
         None => Span { place: 0, bytes: 0 },
-    }
-}
-
-/// The longwords after a count, of a body that has them.
-#[inline(always)]
-fn payload<'a, 'b>(body: &'b BodyView<'a>) -> Option<&'b Payload<'a>>
-    ensures { option_map (λ payload. longs payload.now) result ≡ payload_of (viewed body.now) }
-{
-    match body {
-        BodyView::Name(payload) => Some(payload),
-        BodyView::Code { top: _, payload } => Some(payload),
-        BodyView::Data { top: _, payload } => Some(payload),
-        BodyView::Debug(payload) => Some(payload),
-        BodyView::Advisory(payload) => Some(payload),
-        _ => None,
     }
 }
 

@@ -20,6 +20,7 @@ mod load_at;
 mod loader;
 mod name;
 mod packed;
+mod parts;
 mod phases;
 mod places;
 mod plain;
@@ -47,6 +48,7 @@ pub use crate::laws::{
 pub use crate::load::{hunk_load, hunk_load_packed};
 pub use crate::load_at::hunk_load_at;
 pub use crate::loader::Loader;
+pub use crate::parts::hunk_parts;
 pub use crate::plain::{SpellingRow, hunk_input_place, hunk_plain, hunk_spelling_of};
 pub use crate::reason::{hunk_reason, hunk_reason_text};
 pub use crate::references::{ReferenceRow, hunk_references};

@@ -3,7 +3,7 @@ ghost use Rattle.std.specs.Prelude.{◌≡◌, ◌+◌, ◌-◌, ◌*◌, ◌≤
 ghost use Rattle.std.specs.List.{AllByRecursion};
 ghost use Rattle.hunk_words.specs.Carriers.{saturated};
 ghost use Rattle.hunk_blocks.specs.Values.{IsExtEntry};
-ghost use Rattle.hunk_c.specs.Listing.{item_rows};
+ghost use Rattle.hunk_parts.specs.Listing.{item_rows};
 ghost use Rattle.hunk_c.specs.References.{body_entries, body_references, entries_references, long_text};
 ghost use Rattle.hunk_c.specs.References.{reference_row, references_in};
 ghost use Rattle.hunk_c.specs.Rows.{ListsWhatFits, Tabulates};

@@ -2,7 +2,7 @@
 ghost use Rattle.std.specs.Prelude.{◌≡◌, ◌+◌, ◌<◌, ◌^◌, length};
 ghost use Rattle.hunk_blocks.specs.Parts.{symbol_text};
 ghost use Rattle.hunk_blocks.specs.Views.{symbol_of};
-ghost use Rattle.hunk_c.specs.Listing.{item_rows};
+ghost use Rattle.hunk_parts.specs.Listing.{item_rows};
 ghost use Rattle.hunk_c.specs.Rows.{ListsWhatFits, Tabulates};
 ghost use Rattle.hunk_c.specs.Symbols.{block_rows, symbol_row, symbols_in};
 

@@ -1,6 +1,6 @@
 pub mod ExtTypes
 pub mod FewParts
-mod InTurn
+pub mod InTurn
 mod ItemsLeft
 pub mod Payloads
 mod SeenParts

@@ -1,7 +1,9 @@
 use Rattle.std.proofs.Common.{◌≡◌, ℕ, List, Option, Some, sym, ap, ◌∙◌, arith}
 use Rattle.hunk_words.specs.Longs.{longs}
-use Rattle.hunk_c.specs.Blocks.{payload_of, span_of}
-use Rattle.hunk_c.proofs.BlockRows.{payload_len, same_span}
+use Rattle.hunk_parts.specs.Parts.{payload_of}
+use Rattle.hunk_parts.proofs.Payloads.{payload_len}
+use Rattle.hunk_c.specs.Blocks.{span_of}
+use Rattle.hunk_c.proofs.BlockRows.{same_span}
 use Rattle.hunk_c.proofs.blocks.content.Goals as goal
 
 pub span_before-requires : goal.span_before-requires

@@ -3,7 +3,8 @@ use Rattle.hunk_words.specs.Carriers.{saturated}
 use Rattle.hunk_blocks.specs.{BodyViews.{HasListAt, viewed}, Parts.{ext_text, symbol_text}}
 use Rattle.hunk_blocks.specs.{Values.{BlockBody, ExtEntry}, Placed.Placed}
 use Rattle.hunk_blocks.specs.declared.body_view.BodyView.{BodyView}
-use Rattle.hunk_c.specs.{Blocks.item_count, Entries.entry_row, Listing.item_rows, Relocations.relocated}
+use Rattle.hunk_parts.specs.Listing.{item_rows}
+use Rattle.hunk_c.specs.{Blocks.item_count, Entries.entry_row, Relocations.relocated}
 use Rattle.hunk_c.specs.Symbols.{symbol_row}
 use Rattle.hunk_c.proofs.BlockRows.{length-group_rows, length-item_rows, rows_counted}
 use Rattle.hunk_c.proofs.blocks.items.Goals as goal

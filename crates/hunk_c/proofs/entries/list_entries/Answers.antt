@@ -1,7 +1,7 @@
 use Rattle.std.proofs.Common.{ℕ, ap, ◌∙◌}
 use Rattle.hunk_blocks.specs.{Parts.ext_text, Views.entry_of}
 use Rattle.hunk_c.specs.Entries.{entry_row}
-use Rattle.hunk_c.proofs.Items.{item_taken}
+use Rattle.hunk_parts.proofs.InTurn.{item_taken}
 use Rattle.hunk_c.proofs.entries.list_entries.Goals as goal
 
 pub listing-preserved : goal.listing-preserved

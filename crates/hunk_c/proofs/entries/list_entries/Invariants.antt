@@ -1,7 +1,8 @@
 use Rattle.std.proofs.Common.{◌≡◌, length}
 use Rattle.hunk_blocks.specs.Parts.{ext_text}
 use Rattle.hunk_files.proofs.findings.FindingSteps.{TakenUpTo}
-use Rattle.hunk_c.specs.{Listing.item_rows, Entries.entry_row}
+use Rattle.hunk_parts.specs.Listing.{item_rows}
+use Rattle.hunk_c.specs.Entries.{entry_row}
 use Rattle.hunk_c.proofs.entries.list_entries.Given as goal
 
 abbrev pub invariant-listing : goal.invariant-listing

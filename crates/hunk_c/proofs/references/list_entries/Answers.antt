@@ -1,7 +1,8 @@
 use Rattle.std.proofs.Common.{◌≡◌, ◌+◌, ◌-◌, ◌*◌, ℕ, List, ◌++◌, length, sym, ap, subst, ◌∙◌, arith}
 use Rattle.hunk_blocks.specs.{Parts.ext_text, Values.ExtEntry, Views.entry_of}
 use Rattle.hunk_files.proofs.{findings.FindingSteps.taken_on, findings.OffsetsWithin.{first_is, offsets_within}}
-use Rattle.hunk_c.specs.{Listing.item_rows, References.{entries_references, entry_references, long_text, reference_row}}
+use Rattle.hunk_parts.specs.Listing.{item_rows}
+use Rattle.hunk_c.specs.References.{entries_references, entry_references, long_text, reference_row}
 use Rattle.hunk_c.specs.declared.references.ReferenceRow.{ReferenceRow}
 use Rattle.hunk_c.proofs.references.list_entries.Goals as goal
 

@@ -1,6 +1,7 @@
 use Rattle.std.proofs.Common.{◌≡◌, ◌+◌, ◌-◌, ◌*◌, length}
 use Rattle.hunk_files.proofs.findings.FindingSteps.{TakenUpTo}
-use Rattle.hunk_c.specs.{Listing.item_rows, References.{long_text, reference_row}}
+use Rattle.hunk_parts.specs.Listing.{item_rows}
+use Rattle.hunk_c.specs.References.{long_text, reference_row}
 use Rattle.hunk_c.proofs.references.list_references.Given as goal
 
 abbrev pub invariant-listing : goal.invariant-listing

@@ -1,7 +1,7 @@
 use Rattle.std.proofs.Common.{ℕ, ap, ◌∙◌}
 use Rattle.hunk_blocks.specs.{Parts.symbol_text, Views.symbol_of}
 use Rattle.hunk_c.specs.Symbols.{symbol_row}
-use Rattle.hunk_c.proofs.Items.{item_taken}
+use Rattle.hunk_parts.proofs.InTurn.{item_taken}
 use Rattle.hunk_c.proofs.symbols.list_symbols.Goals as goal
 
 pub listing-preserved : goal.listing-preserved

@@ -1,7 +1,8 @@
 use Rattle.std.proofs.Common.{◌≡◌, length}
 use Rattle.hunk_blocks.specs.Parts.{symbol_text}
 use Rattle.hunk_files.proofs.findings.FindingSteps.{TakenUpTo}
-use Rattle.hunk_c.specs.{Listing.item_rows, Symbols.symbol_row}
+use Rattle.hunk_parts.specs.Listing.{item_rows}
+use Rattle.hunk_c.specs.Symbols.{symbol_row}
 use Rattle.hunk_c.proofs.symbols.list_symbols.Given as goal
 
 abbrev pub invariant-listing : goal.invariant-listing

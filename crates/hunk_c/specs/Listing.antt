@@ -1,7 +1,0 @@
--- Rows that are listed one after the other.
-use Rattle.std.specs.Prelude.{ℕ, ◌+◌, ◌*◌, List, [], ◌∷◌, length}
-
--- those of items whose texts stand one after the other, from this byte on
-abbrev pub item_rows : {A Row : Type 0} → (ℕ → A → Row) → (A → List ℕ) → ℕ → List A → List Row
-item_rows row text place [] = []
-item_rows row text place (x ∷ rest) = row place x ∷ item_rows row text (place + 4 * length (text x)) rest
