@@ -130,6 +130,16 @@ TABLE(relocations, HAND_RELOCATIONS, hunk_relocation)
 TABLE(entries, HAND_ENTRIES, hunk_entry)
 TABLE(references, HAND_REFERENCES, hunk_reference)
 
+static size_t our_parts(void)
+{
+    return hunk_parts(file, file_len, items, items_len).count * sizeof(struct hunk_part);
+}
+
+static size_t plain_parts(void)
+{
+    return hand_parts(file, file_len, items, items_len).count * sizeof(struct hunk_part);
+}
+
 /* Warnings go to `items`, too: a row for each byte of the file at most. */
 static size_t our_warnings(void)
 {
@@ -155,6 +165,7 @@ static const struct call calls[] = {
     {"relocations", our_relocations, plain_relocations, careful_relocations, 1},
     {"entries", our_entries, plain_entries, careful_entries, 1},
     {"references", our_references, plain_references, careful_references, 1},
+    {"parts", our_parts, plain_parts, NULL, 1},
     {"warnings", our_warnings, plain_warnings, NULL, 1},
 };
 

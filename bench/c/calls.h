@@ -10,8 +10,8 @@
 struct call {
     const char *name;
     size_t (*ours)(void);
-    /* as a user would write it (hand.c, hand_items.c, hand_warnings.c): it changes memory where
-     * it refuses the file, too */
+    /* as a user would write it (hand.c, hand_items.c, hand_parts.c, hand_warnings.c): it
+     * changes memory where it refuses the file, too */
     size_t (*plain)(void);
     /* that keeps memory as it was where it refuses (careful.c), for load files; or NULL */
     size_t (*careful)(void);

@@ -46,6 +46,7 @@ struct hand_answer hand_load(const uint8_t *b, size_t len, uint32_t base, uint8_
 struct hand_answer hand_check(const uint8_t *b, size_t len, struct hunk_finding *rows, size_t n);
 struct hand_answer hand_items(enum hand_table table, const uint8_t *b, size_t len, void *rows,
                               size_t n);
+struct hand_answer hand_parts(const uint8_t *b, size_t len, struct hunk_part *rows, size_t n);
 /* The room is that of hunk_warnings. */
 struct hand_answer hand_warnings(const uint8_t *b, size_t len, uint32_t *room, size_t room_len,
                                  struct hunk_warning *rows, size_t n);
