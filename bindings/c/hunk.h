@@ -477,6 +477,42 @@ struct hunk_reference {
 struct hunk_answer hunk_references(const uint8_t *bytes, uint64_t bytes_len,
                                    struct hunk_reference *rows, uint64_t rows_len);
 
+/* What a part is. */
+/* a hunk of a load file begins: its entry of the table */
+#define HUNK_PART_HUNK UINT32_C(1)
+/* a unit of an object file begins */
+#define HUNK_PART_UNIT UINT32_C(2)
+/* a block of a hunk, its END too */
+#define HUNK_PART_BLOCK UINT32_C(3)
+/* offsets with one target, in the relocation block before it */
+#define HUNK_PART_GROUP UINT32_C(4)
+/* a symbol, in the SYMBOL block before it */
+#define HUNK_PART_SYMBOL UINT32_C(5)
+/* an entry, in the EXT block before it */
+#define HUNK_PART_ENTRY UINT32_C(6)
+
+/* A part of a file: 48 bytes. A field that its kind has no use for is 0, but for the places of no
+ * bytes and of no offsets. */
+struct hunk_part {
+    uint32_t what;          /* HUNK_PART_HUNK to HUNK_PART_ENTRY */
+    uint32_t word;          /* HUNK: the size word; BLOCK: the block word; GROUP: the target;
+                             * SYMBOL: the top byte of its word; ENTRY: its type */
+    uint32_t value;         /* HUNK: the attributes; SYMBOL, ENTRY: the value, or the bytes of a
+                             * common block; CODE, DATA: bits 30 and 31 of the size word; BSS: the
+                             * size word */
+    uint32_t reserved;      /* 0 */
+    uint64_t content;       /* the byte at which its content, its name or its data begins */
+    uint64_t content_bytes; /* and how many: a name has all of its longwords */
+    uint64_t offsets;       /* the byte at which its offsets begin, four bytes each */
+    uint64_t offset_count;  /* and how many offsets */
+};
+
+/* A row for each part, which together tell all that the file says. Each HUNK stands before the
+ * blocks of its hunk, though its size word stands in the header. Counts, what ends a list, and the
+ * header's other longwords have no row. */
+struct hunk_answer hunk_parts(const uint8_t *bytes, uint64_t bytes_len, struct hunk_part *rows,
+                              uint64_t rows_len);
+
 /* What is suspicious in a load file that is accepted. Later versions may have more kinds, which a
  * program passes over. */
 /* the offset of a relocation is odd */

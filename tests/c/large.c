@@ -138,6 +138,34 @@ static void lists_listed(const char *name, uint32_t hunks, uint64_t from, size_t
     }
 }
 
+/* hunk_parts, with so many rows of each kind, of a file in which put_lists puts what stands from
+ * this byte on, where this many groups stand before it. */
+static void parts_listed(const char *name, uint32_t hunks, uint64_t from, size_t before,
+                         const uint64_t wanted[6])
+{
+    struct hunk_answer all = {HUNK_OK, hunks, len, 0};
+    uint64_t met[7] = {0}, groups = from + 12, group = from + 20 + 12 * MANY;
+    uint64_t symbols = group + 4 * MANY + 12;
+    for (int i = 0; i < 6; i++)
+        all.count += wanted[i];
+    struct hunk_part *parts = marked(&row_room, all.count * sizeof *parts);
+    expect(same(hunk_parts(file, len, parts, all.count), all), name, "hunk_parts");
+    for (uint64_t i = 0; i < all.count; i++) {
+        struct hunk_part *p = &parts[i];
+        uint64_t number = met[p->what % 7]++;
+        struct hunk_part row = *p;
+        if (p->what == HUNK_PART_SYMBOL)
+            row = (struct hunk_part){5, 0, 7, 0, symbols + 12 * number, 4, 0, 0};
+        if (p->what == HUNK_PART_GROUP && number == before + MANY)
+            row = (struct hunk_part){4, 0, 0, 0, 0, 0, group, MANY};
+        else if (p->what == HUNK_PART_GROUP && number >= before)
+            row = (struct hunk_part){4, 0, 0, 0, 0, 0, groups + 12 * (number - before), 1};
+        expect(memcmp(p, &row, sizeof row) == 0, name, "a part");
+    }
+    for (int i = 0; i < 6; i++)
+        expect(met[i + 1] == wanted[i], name, "the parts of a kind");
+}
+
 /* hunk_entries, of what put_entries puts from this byte on. */
 static void entries_listed(const char *name, uint64_t from)
 {
@@ -222,6 +250,7 @@ static void large_load_file(void)
     checked("a large load file", 1, 0, kept + 4);
     blocks_listed("a large load file", (struct hunk_answer){HUNK_OK, 1, len, 6}, 24, len);
     lists_listed("a large load file", 1, lists, 0);
+    parts_listed("a large load file", 1, lists, 0, (uint64_t[]){1, 0, 6, MANY + 1, MANY, 0});
 }
 
 static void many_hunks(void)
@@ -242,6 +271,8 @@ static void many_hunks(void)
     struct hunk_answer blocks = {HUNK_OK, MOST_HUNKS, len, 6 + MANY + 2 * (MOST_HUNKS - 1)};
     blocks_listed("many hunks", blocks, table.place, len);
     lists_listed("many hunks", MOST_HUNKS, lists, 1);
+    const uint64_t parts[] = {MOST_HUNKS, 0, blocks.count, MANY + 2, MANY, 0};
+    parts_listed("many hunks", MOST_HUNKS, lists, 1, parts);
 }
 
 static void large_object_file(void)
@@ -258,6 +289,8 @@ static void large_object_file(void)
     checked("a large object file", 0, 0, kept + 4);
     blocks_listed("a large object file", (struct hunk_answer){HUNK_OK, 0, len, 7}, 8, len);
     lists_listed("a large object file", 0, lists, 0);
+    const uint64_t parts[] = {0, 1, 7, MANY + 1, MANY, MANY + 1};
+    parts_listed("a large object file", 0, lists, 0, parts);
     entries_listed("a large object file", entries);
 }
 

@@ -17,6 +17,7 @@
 #define HEADER 28
 #define FINDINGS 2
 #define BLOCKS 7
+#define PARTS 11
 #define MANY 4096          /* hunks of a file whose load keeps all marks */
 #define TABLE_LONGS 5      /* longwords of a header before its table */
 #define OFFSETS_LONGS 11   /* longwords of a file before its many offsets */
@@ -55,6 +56,7 @@ static struct hunk_relocation relocation;
 static struct hunk_entry entry;
 static struct hunk_reference reference;
 static struct hunk_unit unit;
+static struct hunk_part parts[PARTS];
 static struct hunk_warning warnings[2 * MANY + 1];
 static uint32_t elements[MANY + 1];
 static struct hunk_loader loader;
@@ -117,6 +119,8 @@ static void relocations(void) { answer = hunk_relocations(object, sizeof object,
 static void entries(void) { answer = hunk_entries(object, sizeof object, &entry, 1); }
 static void references(void) { answer = hunk_references(object, sizeof object, &reference, 1); }
 static void units(void) { answer = hunk_units(object, sizeof object, &unit, 1); }
+static void parted(void) { answer = hunk_parts(object, sizeof object, parts, PARTS); }
+static void parted_load(void) { answer = hunk_parts(file, sizeof file, parts, PARTS); }
 static void warned(void) { answer = hunk_warnings(file, sizeof file, elements, 3, warnings, 1); }
 static void warned_of_many(void)
 {
@@ -171,6 +175,8 @@ static const struct {
     {"hunk_entries", entries, ALL},
     {"hunk_references", references, ALL},
     {"hunk_units", units, ALL},
+    {"hunk_parts", parted, ALL},
+    {"hunk_parts of a load file", parted_load, ALL},
     {"hunk_warnings", warned, MUCH},
     {"hunk_warnings of many offsets", warned_of_many, MUCH},
     {"hunk_strip", strip, ALL},
