@@ -6,12 +6,15 @@
         ...
     for symbol in hunk.read(data).symbols:
         print(symbol.hunk, symbol.value, symbol.name)
+    for part in hunk.parts(data):
+        print(part.what, part.word, part.content)
 
 `data` is a bytes-like object; anything else raises a TypeError. Bytes that are refused raise a HunkError, which says why
 and at which byte; `hunk.read` with `partial=True` gives what stands before it. The module `hunk.stream`, to import by
 itself, loads a file that comes piece by piece. `hunk.library` says which library is taken.
 """
 
+from hunk.building import Part, parts
 from hunk.library import HunkError
 from hunk.loading import BUDGET, load, load_at, table
 from hunk.reading import File, check, read
@@ -46,6 +49,7 @@ __all__ = [
     "Hunk",
     "HunkError",
     "Kind",
+    "Part",
     "Reference",
     "Relocation",
     "Spelling",
@@ -56,6 +60,7 @@ __all__ = [
     "input_place",
     "load",
     "load_at",
+    "parts",
     "plain",
     "read",
     "spelling",

@@ -13,6 +13,7 @@ from typing import Any, Callable, Dict, Iterable, Iterator, List, Sequence
 import hunk
 from hunk.command import inputs
 from hunk.command.layout import CONTENTS
+from hunk.command.parted import of_part
 from hunk.command.words import flag_words, kind_word
 
 NAME = "json"
@@ -20,7 +21,8 @@ HELP = "what stands in files, a document of JSON each"
 DESCRIPTION = """Writes a document of JSON for each file; where several files are named, a list of them. --schema says what
 a document has. Names in files are taken for ISO 8859-1, so each byte of them is a character. Of a file
 that is spelled otherwise (--wide) places are those of the plain spelling. Of a file that is refused,
---partial writes what stands before the fault, with its `refusal`."""
+--partial writes what stands before the fault, with its `refusal`. --parts adds all that the file says,
+as one flat list."""
 
 Document = Dict[str, Any]
 # The bytes that are kept free while a document is made, and how much of its text is written at once.
@@ -38,6 +40,7 @@ class PrintSchema(argparse.Action):
 
 def add_arguments(parser: argparse.ArgumentParser) -> None:
     inputs.add_arguments(parser, partial=True)
+    parser.add_argument("--parts", action="store_true", help="with the file as a flat list of parts, where it is accepted")
     parser.add_argument("--lines", action="store_true", help="each document on a line of its own, and no list")
     parser.add_argument("--schema", action=PrintSchema, nargs=0, help="print the JSON Schema of a document")
 
@@ -123,20 +126,27 @@ def of_file(name: str, file: hunk.File) -> Document:
 # ---- Writing them.
 
 
-def texts_of(name: str, file: hunk.File, line_end: str) -> Iterator[str]:
+def texts_of(name: str, file: hunk.File, line_end: str, with_parts: bool) -> Iterator[str]:
     """The text of a document, hunk by hunk, as what it is made of takes more memory than the text."""
     text, made = json.JSONEncoder().encode, json.dumps(of_file(name, file))[:-1] + ', "hunks": ['
     for it in of_hunks(file):
         yield made + line_end + text(it)
         made = ","
     # An object file may have no hunks.
-    yield ("" if made == "," else made) + line_end + "]}"
+    yield ("" if made == "," else made) + line_end + "]"
+    if with_parts and not file.refusal:
+        made = ', "parts": ['
+        for part in hunk.parts(file.data):
+            yield made + line_end + text(of_part(part))
+            made = ","
+        yield line_end + "]"
+    yield "}"
 
 
-def whole_texts(name: str, file: hunk.File, line_end: str) -> List[str]:
+def whole_texts(name: str, file: hunk.File, line_end: str, with_parts: bool) -> List[str]:
     """All of a document. Where memory is refused, nothing of it is written yet; else some is left to write it with."""
     spare = bytearray(SPARE)
-    made = [*texts_of(name, file, line_end)]
+    made = [*texts_of(name, file, line_end, with_parts)]
     del spare
     return made
 
@@ -157,7 +167,7 @@ def run(options: argparse.Namespace) -> int:
 
     def write_next(name: str, file: hunk.File) -> None:
         nonlocal written
-        texts = whole_texts(name, file, "" if options.lines else "\n")
+        texts = whole_texts(name, file, "" if options.lines else "\n", options.parts)
         write([",\n" if written and is_list else "", *texts, "" if is_list else "\n"])
         written += 1
 
