@@ -197,6 +197,10 @@ fn wrong_calls(load: &[Row], objects: &[Row]) -> Vec<String> {
         ("warnings", matches!(odd.warnings()[..], [Warning { place: 52, kind: WarningKind::OddOffset, offset: 1, .. }])),
         ("no warnings", read.warnings().is_empty() && hunk::read(&object).unwrap().warnings().is_empty()),
         ("warnings of a front", Front::of(&odd_file).unwrap().read().unwrap().warnings().is_empty()),
+        ("parts", hunk::parts(&symbol).unwrap().iter().map(|it| it.kind as u32).eq([1, 3, 3, 5, 3])),
+        ("a part", hunk::parts(&symbol).unwrap()[3].content[..] == *b"_m\0\0"),
+        ("a group", hunk::parts(&two).unwrap()[3].offsets == [2]),
+        ("no parts", text(hunk::parts(&one[..9]).map(|it| it.len())) == "refused at byte 8: Truncated (26)"),
         ("findings", hunk::check(&findings) == Ok(vec![finding(32, Fault::BadTarget), finding(32, Fault::OutsideHunk)])),
     ];
     checks.iter().filter(|(_, holds)| !holds).map(|(name, _)| format!("{name}: another answer")).collect()

@@ -35,6 +35,7 @@
 //! | to | call |
 //! |---|---|
 //! | see what stands in a file | [`read`], which gives a [`File`] |
+//! | see all that a file says, as one flat list | [`parts`] |
 //! | load a file | [`load_packed`], or [`load`] where each hunk has its own address |
 //! | load it into memory of your own | [`load_into`], [`load_at`], with sizes from [`table`] |
 //! | find what is wrong with its offsets | [`check`] |
@@ -54,6 +55,7 @@ mod finding;
 mod front;
 mod kind;
 mod load;
+mod part;
 mod plain;
 mod raw;
 mod row;
@@ -66,6 +68,7 @@ pub use finding::{check, strip, Fault, Finding};
 pub use front::Front;
 pub use kind::{EntryKind, Kind};
 pub use load::{load, load_at, load_into, load_packed, table, Hunk, Memory, BUDGET};
+pub use part::{parts, Part, PartKind};
 pub use plain::{spelling, Plain, Spelling};
 pub use row::{Block, Entry, Flags, Reference, Relocation, Symbol, Unit};
 pub use warning::{Warning, WarningKind};

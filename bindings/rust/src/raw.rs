@@ -128,6 +128,19 @@ pub struct Reference {
 
 #[repr(C)]
 #[derive(Clone, Default)]
+pub struct Part {
+    pub what: u32,
+    pub word: u32,
+    pub value: u32,
+    pub reserved: u32,
+    pub content: u64,
+    pub content_bytes: u64,
+    pub offsets: u64,
+    pub offset_count: u64,
+}
+
+#[repr(C)]
+#[derive(Clone, Default)]
 pub struct Spelling {
     pub bytes: u64,
     pub short_blocks: u64,
@@ -163,6 +176,7 @@ extern "C" {
     fn hunk_relocations(bytes: *const u8, bytes_len: u64, rows: *mut Relocation, rows_len: u64) -> Answer;
     fn hunk_entries(bytes: *const u8, bytes_len: u64, rows: *mut Entry, rows_len: u64) -> Answer;
     fn hunk_references(bytes: *const u8, bytes_len: u64, rows: *mut Reference, rows_len: u64) -> Answer;
+    fn hunk_parts(bytes: *const u8, bytes_len: u64, rows: *mut Part, rows_len: u64) -> Answer;
     fn hunk_warnings(
         bytes: *const u8,
         bytes_len: u64,
@@ -198,7 +212,7 @@ macro_rules! listed {
 }
 
 listed!(Finding by hunk_check, Unit by hunk_units, Block by hunk_blocks, Symbol by hunk_symbols, Relocation by hunk_relocations,
-    Entry by hunk_entries, Reference by hunk_references);
+    Entry by hunk_entries, Reference by hunk_references, Part by hunk_parts);
 
 /// A length, as the calls take it.
 fn length<T>(of: &[T]) -> u64 {
