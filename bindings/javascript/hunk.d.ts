@@ -39,6 +39,9 @@ export const FLAGS: Readonly<Record<"ADVISORY" | "CHIP" | "FAST", number>>;
 /** What is wrong with an offset of an object file. */
 export const FAULTS: Readonly<Record<"BadTarget" | "OutsideHunk", number>>;
 
+/** What a part is. */
+export const PARTS: Readonly<Record<"HUNK" | "UNIT" | "BLOCK" | "GROUP" | "SYMBOL" | "ENTRY", number>>;
+
 export type WarningKind =
   | "OddOffset"
   | "Twice"
@@ -129,6 +132,20 @@ export interface Warning {
   target: number;
   value: number;
   other: number;
+}
+
+/** A part of a file. `what` is one of PARTS. `word` is the size word of a hunk of a load file, the word of a block, the target of a
+ * group, the top byte of a symbol's word, or the type of an entry; `value` the attributes of a hunk, the value of a symbol or an
+ * entry, bits 30 and 31 of the size word of CODE and DATA, or that of BSS. `content` is the byte at which its name or its data
+ * begins, and `offsets` that at which its offsets begin, four bytes each. What a kind does not have is 0. */
+export interface Part {
+  what: number;
+  word: number;
+  value: number;
+  content: number;
+  contentBytes: number;
+  offsets: number;
+  offsetCount: number;
 }
 
 export interface Unit { place: number; name: number; nameBytes: number; hunks: number }
@@ -239,6 +256,7 @@ export class Hunk {
   begin(table: Table, bases: ArrayLike<number>): Loader;
   check(bytes: Bytes, most?: number): Listed<Finding>;
   warnings(bytes: Bytes, most?: number): Listed<Warning>;
+  parts(bytes: Bytes, most?: number): Listed<Part>;
   units(bytes: Bytes, most?: number): Listed<Unit>;
   blocks(bytes: Bytes, most?: number): Listed<Block>;
   symbols(bytes: Bytes, most?: number): Listed<HunkSymbol>;

@@ -266,6 +266,11 @@ export class Hunk {
     return this.#list("hunk_warnings", LAYOUTS.warning, bytes, most, roomFor);
   }
 
+  /** All that a file says, as one flat list of parts. */
+  parts(bytes, most) {
+    return this.#list("hunk_parts", LAYOUTS.part, bytes, most);
+  }
+
   units(bytes, most) {
     return this.#list("hunk_units", LAYOUTS.unit, bytes, most);
   }

@@ -53,6 +53,9 @@ export const FLAGS = Object.freeze({ ADVISORY: 1, CHIP: 2, FAST: 4 });
 /** What is wrong with an offset of an object file. */
 export const FAULTS = Object.freeze({ BadTarget: 1, OutsideHunk: 2 });
 
+/** What a part is: a hunk of a load file, a unit, a block, a group of offsets, a symbol or an entry. */
+export const PARTS = Object.freeze({ HUNK: 1, UNIT: 2, BLOCK: 3, GROUP: 4, SYMBOL: 5, ENTRY: 6 });
+
 /** The kinds of warnings of load files. `docs/warnings` writes this from docs/warnings.tsv. */
 export const WARNINGS = Object.freeze({
   OddOffset: 1,

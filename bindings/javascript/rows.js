@@ -14,6 +14,7 @@ const STRUCTS = {
   unit: "place 8 name 8 name_bytes 8 hunks 8 reserved 8",
   block:
     "place 8 bytes 8 unit 8 hunk 8 content 8 content_bytes 8 memory 8 items 8 kind 4 flags 4 reserved 8",
+  part: "what 4 word 4 value 4 reserved 4 content 8 content_bytes 8 offsets 8 offset_count 8",
   warning: "place 8 hunk 8 kind 4 offset 4 target 4 value 4 other 4 reserved 4",
   symbol: "place 8 unit 8 hunk 8 name 8 name_bytes 8 value 4 reserved 4",
   relocation: "place 8 unit 8 hunk 8 kind 4 width 4 target 4 offset 4 reserved 8",

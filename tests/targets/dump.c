@@ -93,6 +93,8 @@ TABLE(entries, hunk_entry,
       say_row(8, r.place, r.unit, r.hunk, r.name, r.name_bytes, r.references, N(r.value), N(r.kind));
       say_name(r.name, r.name_bytes))
 TABLE(references, hunk_reference, say_row(4, r.entry, r.place, N(r.offset), N(r.width)))
+TABLE(parts, hunk_part,
+      say_row(7, N(r.what), N(r.word), N(r.value), r.content, r.content_bytes, r.offsets, r.offset_count))
 
 /* With room for all that a file may have. */
 static void warnings_of_file(void)
@@ -234,6 +236,7 @@ int main(void)
         relocations_of_file();
         entries_of_file();
         references_of_file();
+        parts_of_file();
         warnings_of_file();
         strip_file();
         plain_file();

@@ -7,7 +7,7 @@ import { Hunk, HunkError, nameOf } from "../../bindings/javascript/hunk.js";
 const BUDGET = 1 << 20;
 const BASE = 0xfffff000;
 const PIECE = 7;
-const TABLES = ["check", "units", "blocks", "symbols", "relocations", "entries", "references", "warnings"];
+const TABLES = ["check", "units", "blocks", "symbols", "relocations", "entries", "references", "parts", "warnings"];
 
 const lines = [];
 const say = (line) => lines.push(line);

@@ -10,7 +10,7 @@ const SEED = 75;
 const RUNS = 80;
 const BUDGET = 1 << 16;
 const BASE = 0x21000;
-const TABLES = ["check", "units", "blocks", "symbols", "relocations", "entries", "references", "warnings"];
+const TABLES = ["check", "units", "blocks", "symbols", "relocations", "entries", "references", "parts", "warnings"];
 /** Longwords that mean something in such files. */
 const BLOCKS = [0x3e7, 0x3e8, 0x3e9, 0x3ea, 0x3eb, 0x3ec, 0x3ef, 0x3f0, 0x3f1, 0x3f2, 0x3f3, 0x3fc];
 const WORDS = [0, 1, 2, 3, 0xffffffff, ...BLOCKS, 0xc0000001];

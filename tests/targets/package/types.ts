@@ -1,6 +1,6 @@
 // A caller that compiles by the types of the package alone, with none of a browser or of node.
 import { type Block, entryKindName, HunkError, Hunk, type Input, KINDS, kindName, MEMORIES, nameOf, open } from "hunk-files";
-import { type Rows, type Warning, type WarningKind, warningName, WARNINGS } from "hunk-files";
+import { type Part, PARTS, type Rows, type Warning, type WarningKind, warningName, WARNINGS } from "hunk-files";
 import { open as openInline } from "hunk-files/inline";
 import { Hunk as Plain, type Source, takesMemory64 } from "hunk-files/hunk.js";
 import { type ElfInput, NoForm, program, relocatable } from "hunk-files/sections.js";
@@ -17,6 +17,8 @@ async function lists(hunk: Hunk, bytes: Uint8Array): Promise<string[]> {
   const warned: Warning[] = [...hunk.warnings(bytes).rows];
   const odd: WarningKind = "OddOffset";
   names.push(...warned.map((it) => `${warningName(it.kind)} ${it.kind === WARNINGS[odd]} ${it.other}`));
+  const parts: Part[] = [...hunk.parts(input).rows];
+  names.push(...parts.map((it) => `${it.what === PARTS.GROUP} ${it.offsetCount}`));
   // @ts-expect-error: a row has no such field
   rows.get(place, "nothing");
   // @ts-expect-error: a file is no text

@@ -5,7 +5,7 @@ import { readFile } from "node:fs/promises";
 import { entryKindName, faultName, flagNames, Hunk, kindName, Loader, nameOf, Rows, warningName } from "hunk-files";
 import { finish, free, hold, isFreeFrom, modules, thrown } from "./held.js";
 
-const TABLES = ["check", "units", "blocks", "symbols", "relocations", "entries", "references", "warnings"];
+const TABLES = ["check", "units", "blocks", "symbols", "relocations", "entries", "references", "parts", "warnings"];
 /** The calls that take no argument, and what only other scripts of the package call. */
 const REST = ["constructor", "abi", "error", "buffer", "want", "end", "memory", "isOf", "copy", "length"];
 /** Of other kinds than a number, even where `Number` would make one of them. */
