@@ -5,19 +5,17 @@ use Rattle.std.proofs.lemmas.Bool.{and_parts, eqb-true, ltb-false, ltb-true, not
 use Rattle.hunk_words.specs.Bits.{kind, unit_word}
 use Rattle.hunk_words.specs.Limits.{content_limit}
 use Rattle.hunk_words.specs.declared.block_word.Kind.{Kind}
-use Rattle.hunk_words.specs.declared.block_word.Kind.TheVariants as kinds
 use Rattle.hunk_grammar.specs.declared.mode.Mode.{Mode}
 use Rattle.hunk_grammar.specs.declared.mode.Mode.TheVariants as modes
 use Rattle.hunk_grammar.specs.Modes.{refuse_alone_word}
 use Rattle.hunk_grammar.specs.ObjectPositions.{refuse_place}
 use Rattle.hunk_grammar.specs.ObjectRoles.{has_content, refuse_unit}
 use Rattle.hunk_grammar.specs.Roles.{refuse_word}
-use Rattle.hunk_grammar.specs.Standings.{BlockStanding, first_of, refuse_standing, standing_of_kind}
+use Rattle.hunk_grammar.specs.Standings.{first_of, refuse_standing, standing_of_kind}
 use Rattle.hunk_grammar.specs.declared.object_position.WordPlace.{WordPlace}
-use Rattle.hunk_grammar.specs.declared.object_position.WordPlace.TheVariants.{BeforeUnits, BetweenHunks, InHunk}
 use Rattle.hunk_grammar.proofs.BlockWords as loads
 use Rattle.hunk_grammar.proofs.ObjectWords as objects
-use Rattle.hunk_files.proofs.walk.HunkOrder.{first_both}
+use Rattle.hunk_files.proofs.{cuts.UnitReading.unit_kind, object_walk.ObjectProgress.standing_goes, walk.HunkOrder.first_both}
 use Rattle.hunk_parts.specs.PartFaults.{PartSize, by_reason, fits_kind, has_no_offsets, is_in_place, refuse_block_word, refuse_content, refuse_far, refuse_part, refuse_row, refuse_size, size_of_part}
 use Rattle.hunk_parts.specs.Parts.{block_part, part}
 use Rattle.hunk_parts.proofs.spelled.Passing.{spot}
@@ -37,17 +35,8 @@ pub record BlockPasses (hunks longs : ℕ) (place : WordPlace) (list : Option Ki
 
 -- ---- the word of a block
 
-is_unit : kind unit_word ≡ kinds.Unit
-unfolding kind
-is_unit = refl
-
 no_unit : (word : ℕ) (q : PartSize) → fits_kind (kind word) q ≡ true → word ≡ unit_word → ⊥
-no_unit word q h e = let clash = rw (e, is_unit) at h in cc
-
-in_hunk : (place : WordPlace) (s : BlockStanding) → refuse_place place s ≡ None → refuse_standing (has_content place) s ≡ None
-in_hunk BeforeUnits s e = absurd cc
-in_hunk BetweenHunks s e = e
-in_hunk (InHunk has) s e = e
+no_unit word q h e = let clash = rw (e, unit_kind) at h in cc
 
 word_passes : (hunks longs : ℕ) (place : WordPlace) (list : Option Kind) (word : ℕ) (q : PartSize) → refuse_block_word (spot hunks longs place list) word ≡ None → fits_kind (kind word) q ≡ true →
     (refuse_alone_word (mode_of hunks) word ≡ None) × (refuse_standing (has_content place) (standing_of_kind (kind word)) ≡ None)
@@ -59,7 +48,7 @@ word_passes zero longs place list word q e fits = by_word (eqb word unit_word) r
     by_word : (b : Bool) → eqb word unit_word ≡ b → cond b (refuse_unit place) (first_of (refuse_alone_word modes.Object word) (refuse_place place (standing_of_kind (kind word)))) ≡ None →
         (refuse_alone_word modes.Object word ≡ None) × (refuse_standing (has_content place) (standing_of_kind (kind word)) ≡ None)
     by_word true is ok = absurd (no_unit word q fits (eqb-true word unit_word is))
-    by_word false is ok = let h = first_both _ _ ok in (h.0, in_hunk place _ h.1)
+    by_word false is ok = let h = first_both _ _ ok in (h.0, standing_goes place _ h.1)
 
 pub block_passes : (hunks longs : ℕ) (place : WordPlace) (list : Option Kind) (word value : ℕ) (content offsets : List ℕ) →
     refuse_row (spot hunks longs place list) (Some (part block_part word value content offsets)) ≡ None → BlockPasses hunks longs place list word value content offsets

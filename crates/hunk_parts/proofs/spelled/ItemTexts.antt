@@ -72,7 +72,7 @@ module _ (list : Option Kind) where
 abbrev pub Ends : Kind → List FilePart → Type 0
 Ends k rest = list_of k ≡ Some k → text_from (Some k) rest ≡ 0 ∷ text_from None rest
 
-relocating_list : (k : Kind) → is_relocation k ≡ true → list_of k ≡ Some k
+pub relocating_list : (k : Kind) → is_relocation k ≡ true → list_of k ≡ Some k
 relocating_list kinds.Unit h = absurd cc
 relocating_list _ h = cc
 

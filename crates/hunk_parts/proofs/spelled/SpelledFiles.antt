@@ -21,7 +21,7 @@ use Rattle.hunk_parts.specs.declared.part_row.PartRow.{PartRow}
 use Rattle.hunk_parts.proofs.spelled.LoadTails.{blocks_first, load_tail}
 use Rattle.hunk_parts.proofs.spelled.ObjectTails.{object_tail, unit_rest}
 use Rattle.hunk_parts.proofs.spelled.Passing.{Pass, Passing, passing}
-use Rattle.hunk_parts.proofs.spelled.SeenLongs.{IsRow, sees_all}
+use Rattle.hunk_parts.proofs.spelled.SeenLongs.{IsRow, hunks_seen, longs_seen}
 use Rattle.hunk_parts.proofs.spelled.Tails.{HasLongs}
 
 -- These are the parts of a file, which nothing follows.
@@ -81,14 +81,14 @@ module _ (bytes : List ℕ) (fit : IsBytes bytes) where
   load_rows : (rows : List PartRow) (n : ℕ) → AllByRecursion IsRow rows → length (filter is_hunk_row rows) ≡ n → 0 < n → n ≤ most_hunks → (qs : List FilePart) → map (seen bytes) rows ≡ map Some qs →
       Pass n 0 BeforeUnits None qs → OfFile qs
   load_rows rows zero are count some most qs e pass = absurd (omega (arith, some))
-  load_rows rows (suc n) are count some most qs e pass = let all = sees_all bytes rows qs fit are e in load_of n qs all.longs (all.hunks ∙ count) most pass
+  load_rows rows (suc n) are count some most qs e pass = load_of n qs (longs_seen bytes rows qs fit are e) (hunks_seen bytes rows qs e ∙ count) most pass
 
   of_rows : (r : PartRow) (rows : List PartRow) → AllByRecursion IsRow (r ∷ rows) → (b : Bool) → is_hunk_row r ≡ b →
       nat_lt most_hunks (cond b (start (length (filter is_hunk_row (r ∷ rows))) (20 + table_bytes (r ∷ rows))) (start 0 0)).hunks ≡ false →
       (p : Passing bytes (r ∷ rows) (cond b (start (length (filter is_hunk_row (r ∷ rows))) (20 + table_bytes (r ∷ rows))) (start 0 0))) → OfFile p.parts
   of_rows r rows are true e most p =
       load_rows (r ∷ rows) (length (filter is_hunk_row (r ∷ rows))) are refl (some_hunk r rows e) (ltb-false most_hunks (length (filter is_hunk_row (r ∷ rows))) most) p.parts p.seen_are p.pass
-  of_rows r rows are false e most p = object_of p.parts (sees_all bytes (r ∷ rows) p.parts fit are p.seen_are).longs p.pass
+  of_rows r rows are false e most p = object_of p.parts (longs_seen bytes (r ∷ rows) p.parts fit are p.seen_are) p.pass
 
   -- Rows without a fault are the parts of a file.
   pub some_file : (rows : List PartRow) → AllByRecursion IsRow rows → row_fault bytes rows ≡ None → (file : HunkFile) × AreParts bytes rows file
