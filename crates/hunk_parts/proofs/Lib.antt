@@ -9,3 +9,8 @@ pub mod RowSizes
 mod SeenParts
 pub mod spelled
 mod Standing
+pub mod ExtTypes
+pub mod PointedBytes
+pub mod GroupOffsets
+pub mod RowSizes
+pub mod LongBytes

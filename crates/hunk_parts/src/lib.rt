@@ -3,6 +3,7 @@
 
 pub mod laws;
 mod listing;
+mod longs;
 mod faults;
 mod fields;
 mod part_row;
@@ -13,6 +14,7 @@ mod row_fault;
 mod rows;
 mod seen_part;
 mod steps;
+mod writing;
 
 pub use crate::listing::list_parts;
 pub use crate::part_row::{

@@ -1,5 +1,5 @@
 //! A row with the bytes that it points at.
-ghost use Rattle.std.specs.Prelude.{◌≡◌, ◌*◌, ◌<◌, ◌≤◌, ◌^◌, IfNone, IfSome, None, Some};
+ghost use Rattle.std.specs.Prelude.{◌≡◌, ◌*◌, ◌<◌, ◌≤◌, ◌^◌, ◌%◌, IfNone, IfSome, None, Some, length};
 ghost use Rattle.std.specs.Option.{option_copied};
 ghost use Rattle.hunk_parts.specs.PartFaults.{size_of_part};
 ghost use Rattle.hunk_parts.specs.Parts.{run_at, seen};
@@ -38,6 +38,7 @@ impl<'a> SeenPart<'a> {
     /// The row with its bytes, where they are there.
     pub(crate) fn of(bytes: &'a [u8], row: &PartRow) -> Option<SeenPart<'a>>
         ensures some { IfSome result (λ part. seen bytes.now row.now ≡ Some (part_seen part)) }
+        ensures whole { IfSome result (λ part. length part.offsets.now % 4 ≡ 0) }
         ensures none { IfNone result (seen bytes.now row.now ≡ None) }
     {
         let content = run_at(bytes, row.content, row.content_bytes)?;

@@ -1,11 +1,12 @@
 //! What a part leads to.
-ghost use Rattle.std.specs.Prelude.{◌≡◌, ◌≤◌, ◌+◌, ◌*◌, ◌<◌, ◌^◌};
+ghost use Rattle.std.specs.Prelude.{◌&&◌, ◌||◌, ◌==◌, is_some, ◌≡◌, ◌≤◌, ◌+◌, ◌*◌, ◌<◌, ◌^◌};
 ghost use Rattle.hunk_words.specs.Bits.{entry_longs};
 ghost use Rattle.hunk_words.specs.Carriers.{saturated};
 ghost use Rattle.hunk_grammar.specs.ExtKinds.{ext_shape};
 ghost use Rattle.hunk_parts.specs.PartFaults as faults;
 ghost use Rattle.hunk_parts.specs.PartFaults.{begins_at, block_longs, closing_bytes, ends_at, list_after, part_longs};
 ghost use Rattle.hunk_parts.specs.PartFaults.{place_after, shape_longs, step_part};
+ghost use Rattle.hunk_parts.specs.Parts.{block_part, unit_part};
 
 use crate::fields::{items_of, shape_of_type};
 use crate::part_row::{
@@ -17,16 +18,19 @@ use crate::refusals::has_content;
 use hunk_grammar::{ExtShape, WordPlace};
 use hunk_words::{BlockWord, Kind, SizeWord};
 
+/// Whether a zero ends the open list before such a part.
+pub(crate) fn closes(list: Option<Kind>, what: u32) -> bool
+    ensures { result ≡ (is_some list && (what == unit_part || what == block_part)) }
+{
+    list.is_some() && (what == UNIT_PART || what == BLOCK_PART)
+}
+
 /// The bytes of the zero that ends the open list before such a part.
 fn closing_bytes(list: Option<Kind>, what: u32) -> u64
     ensures value { result ≡ closing_bytes list what }
     ensures bound { result ≤ 4 }
 {
-    if list.is_some() && (what == UNIT_PART || what == BLOCK_PART) {
-        4
-    } else {
-        0
-    }
+    if closes(list, what) { 4 } else { 0 }
 }
 
 /// The list that is open after such a part.
