@@ -1,3 +1,4 @@
+mod Examples
 pub mod ExtTypes
 pub mod FewParts
 pub mod GroupOffsets
