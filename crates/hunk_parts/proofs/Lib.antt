@@ -8,6 +8,6 @@ pub mod LongBytes
 pub mod Payloads
 pub mod PointedBytes
 pub mod RowSizes
-mod SeenParts
+pub mod SeenParts
 pub mod spelled
 mod Standing

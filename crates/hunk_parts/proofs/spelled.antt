@@ -2,6 +2,7 @@ pub mod BlockBodies
 pub mod BlockTests
 pub mod BlocksInFront
 pub mod BlocksPass
+pub mod BuiltFiles
 pub mod EntryWords
 pub mod FileTexts
 pub mod FilesPass

@@ -11,6 +11,7 @@ mod part_size;
 mod place;
 mod refusals;
 mod row_fault;
+mod row_fields;
 mod rows;
 mod seen_part;
 mod steps;

@@ -2,11 +2,12 @@
 use Rattle.std.proofs.Common.{◌≡◌, ℕ, zero, suc, ◌+◌, ◌*◌, Bool, true, false, cond, List, [], ◌∷◌, ◌++◌, length, map, take, drop, refl, ap, sym, ap₂, subst, ◌∙◌, arith, Some}
 use Rattle.std.specs.List.{AllByRecursion, filter}
 use Rattle.std.proofs.lemmas.List.{get_or-drop}
-use Rattle.hunk_words.specs.Longs.{IsBytes, IsLong}
+use Rattle.hunk_words.specs.Longs.{IsBytes}
 use Rattle.hunk_words.proofs.LongLaws.{longs_fit}
 use Rattle.hunk_parts.specs.PartFaults.{is_hunk_row}
 use Rattle.hunk_parts.specs.Parts.{FilePart, seen}
 use Rattle.hunk_parts.specs.RowsText.{is_hunk, row_part}
+use Rattle.hunk_parts.specs.RowFields.{AreRows}
 use Rattle.hunk_parts.specs.declared.part_row.PartRow.{PartRow}
 use Rattle.hunk_parts.proofs.RowSizes.{seen_part}
 use Rattle.hunk_parts.proofs.spelled.Passing.{heads}
@@ -35,11 +36,6 @@ hunks_seen bytes rows qs e = ap (λ (xs : List FilePart). length (filter is_hunk
 
 -- ---- their longwords have 32 bits
 
--- Two fields of a row are longwords.
-pub record IsRow (r : PartRow) : Type 0 where
-  pub word : IsLong r.word
-  pub value : IsLong r.value
-
 taken : (bytes : List ℕ) (n : ℕ) → IsBytes bytes → IsBytes (take n bytes)
 taken bytes zero fit i = omega arith
 taken [] (suc n) fit i = omega arith
@@ -57,7 +53,7 @@ padded [] fit (suc (suc (suc i))) = omega arith
 padded (b ∷ bytes) fit zero = fit 0
 padded (b ∷ bytes) fit (suc i) = padded bytes (λ k. fit (suc k)) i
 
-all_longs : (bytes : List ℕ) (rows : List PartRow) → IsBytes bytes → AllByRecursion IsRow rows → AllByRecursion HasLongs (map (row_part bytes) rows)
+all_longs : (bytes : List ℕ) (rows : List PartRow) → IsBytes bytes → AreRows rows → AllByRecursion HasLongs (map (row_part bytes) rows)
 all_longs bytes [] fit are = tt
 all_longs bytes (r ∷ rows) fit are =
     let run : (place count : ℕ) → IsBytes (take count (drop place bytes)) = λ place count. taken (drop place bytes) count (dropped bytes place fit) in (
@@ -70,5 +66,5 @@ all_longs bytes (r ∷ rows) fit are =
       all_longs bytes rows fit are.1,
     )
 
-pub longs_seen : (bytes : List ℕ) (rows : List PartRow) (qs : List FilePart) → IsBytes bytes → AllByRecursion IsRow rows → map (seen bytes) rows ≡ map Some qs → AllByRecursion HasLongs qs
+pub longs_seen : (bytes : List ℕ) (rows : List PartRow) (qs : List FilePart) → IsBytes bytes → AreRows rows → map (seen bytes) rows ≡ map Some qs → AllByRecursion HasLongs qs
 longs_seen bytes rows qs fit are e = subst (AllByRecursion HasLongs) (parts_seen bytes rows qs e) (all_longs bytes rows fit are)

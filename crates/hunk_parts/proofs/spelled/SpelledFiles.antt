@@ -17,11 +17,12 @@ use Rattle.hunk_files.specs.declared.hunk_file.HunkFile.TheVariants as files
 use Rattle.hunk_parts.specs.PartFaults.{first_place, is_hunk_row, row_fault, rows_fault, start, table_bytes}
 use Rattle.hunk_parts.specs.Parts.{AreParts, FilePart, block_file_parts, hunk_file_parts, parts_of, seen}
 use Rattle.hunk_parts.specs.RowsText.{is_hunk}
+use Rattle.hunk_parts.specs.RowFields.{AreRows}
 use Rattle.hunk_parts.specs.declared.part_row.PartRow.{PartRow}
 use Rattle.hunk_parts.proofs.spelled.LoadTails.{blocks_first, load_tail}
 use Rattle.hunk_parts.proofs.spelled.ObjectTails.{object_tail, unit_rest}
 use Rattle.hunk_parts.proofs.spelled.Passing.{Pass, Passing, passing}
-use Rattle.hunk_parts.proofs.spelled.SeenLongs.{IsRow, hunks_seen, longs_seen}
+use Rattle.hunk_parts.proofs.spelled.SeenLongs.{hunks_seen, longs_seen}
 use Rattle.hunk_parts.proofs.spelled.Tails.{HasLongs}
 
 -- These are the parts of a file, which nothing follows.
@@ -78,12 +79,12 @@ module _ (bytes : List ℕ) (fit : IsBytes bytes) where
   file_of : (rows : List PartRow) (qs : List FilePart) → map (seen bytes) rows ≡ map Some qs → OfFile qs → (file : HunkFile) × AreParts bytes rows file
   file_of rows qs e f = (f.file, record { whole = f.whole; parts = e ∙ ap (λ (ps : List FilePart). map Some ps) f.parts })
 
-  load_rows : (rows : List PartRow) (n : ℕ) → AllByRecursion IsRow rows → length (filter is_hunk_row rows) ≡ n → 0 < n → n ≤ most_hunks → (qs : List FilePart) → map (seen bytes) rows ≡ map Some qs →
+  load_rows : (rows : List PartRow) (n : ℕ) → AreRows rows → length (filter is_hunk_row rows) ≡ n → 0 < n → n ≤ most_hunks → (qs : List FilePart) → map (seen bytes) rows ≡ map Some qs →
       Pass n 0 BeforeUnits None qs → OfFile qs
   load_rows rows zero are count some most qs e pass = absurd (omega (arith, some))
   load_rows rows (suc n) are count some most qs e pass = load_of n qs (longs_seen bytes rows qs fit are e) (hunks_seen bytes rows qs e ∙ count) most pass
 
-  of_rows : (r : PartRow) (rows : List PartRow) → AllByRecursion IsRow (r ∷ rows) → (b : Bool) → is_hunk_row r ≡ b →
+  of_rows : (r : PartRow) (rows : List PartRow) → AreRows (r ∷ rows) → (b : Bool) → is_hunk_row r ≡ b →
       nat_lt most_hunks (cond b (start (length (filter is_hunk_row (r ∷ rows))) (20 + table_bytes (r ∷ rows))) (start 0 0)).hunks ≡ false →
       (p : Passing bytes (r ∷ rows) (cond b (start (length (filter is_hunk_row (r ∷ rows))) (20 + table_bytes (r ∷ rows))) (start 0 0))) → OfFile p.parts
   of_rows r rows are true e most p =
@@ -91,7 +92,7 @@ module _ (bytes : List ℕ) (fit : IsBytes bytes) where
   of_rows r rows are false e most p = object_of p.parts (longs_seen bytes (r ∷ rows) p.parts fit are p.seen_are) p.pass
 
   -- Rows without a fault are the parts of a file.
-  pub some_file : (rows : List PartRow) → AllByRecursion IsRow rows → row_fault bytes rows ≡ None → (file : HunkFile) × AreParts bytes rows file
+  pub some_file : (rows : List PartRow) → AreRows rows → row_fault bytes rows ≡ None → (file : HunkFile) × AreParts bytes rows file
   some_file [] are e = absurd cc
   some_file (r ∷ rows) are e =
       let both = passed_both (nat_lt most_hunks (first_place (r ∷ rows)).hunks) _ (rows_fault bytes (first_place (r ∷ rows)) 0 (r ∷ rows)) e in
