@@ -66,17 +66,17 @@ judged class (Some part) meaning = words_of_class class ++ (codes " in " ++ (par
 abbrev pub verdict_line : Verdict → List ℕ
 verdict_line verdict = judged (class_of verdict.refusal) verdict.part (meaning_of verdict.refusal.reason)
 
--- what `--wide` can do about a refusal for this reason: in any file, and where an END may be missing in a hunk of a load file
-abbrev pub hint_in : Part → Reason → List ℕ
-hint_in part reasons.ShortReloc = codes "; --wide reads such blocks"
-hint_in (parts.Hunk number) reasons.SecondContent = codes "; --wide reads it, if only the END before it is missing"
-hint_in (parts.Hunk number) reasons.Truncated = codes "; --wide reads it, if only the last END is missing"
-hint_in _ _ = []
+-- What may help with a refusal for this reason: which types are PowerPC code; and where the order has no such flag, what `--wide` can do, in any file, and where an
+-- END may be missing in a hunk of a load file.
+abbrev pub hint_in : Bool → Part → Reason → List ℕ
+hint_in wide part reasons.UnknownBlock = codes "; if it is 4E9 or 4EA, this is a program with PowerPC code, which is not supported"
+hint_in false part reasons.ShortReloc = codes "; --wide reads such blocks"
+hint_in false (parts.Hunk number) reasons.SecondContent = codes "; --wide reads it, if only the END before it is missing"
+hint_in false (parts.Hunk number) reasons.Truncated = codes "; --wide reads it, if only the last END is missing"
+hint_in _ _ _ = []
 
--- That is said where the order has no such flag.
 abbrev pub hint_of : Refusal → Bool → List ℕ
-hint_of refusal true = []
-hint_of refusal false = hint_in refusal.part refusal.fault.reason
+hint_of refusal wide = hint_in wide refusal.part refusal.fault.reason
 
 -- what is said of a fault, but where the system's own words are in it
 abbrev pub fault_note : RunFault → Option (List ℕ) → Option Error → Option (List ℕ) → Bool → Option (List ℕ)
