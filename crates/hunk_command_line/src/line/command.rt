@@ -232,18 +232,25 @@ fn program<'a>(alloc: Global) -> Command<'a>
 
 /// The program with a subcommand more, where there was memory for both.
 fn extended<'a>(
-    program: Command<'a>,
+    program: Result<Command<'a>, AllocError>,
     subcommand: Result<Command<'a>, AllocError>,
 ) -> Result<Command<'a>, AllocError>
     requires { IfOk subcommand (λ command. (fields_of command).has_globals ≡ false) }
-    ensures { (app more : App) → app_of program.entry ≡ app
+    ensures { (app more : App) → IfOk program.entry (λ command. app_of command ≡ app)
         → IfOk subcommand.entry (spec.IsCommand more)
         → IfOk result (λ grown. app_of grown ≡ with_subcommand app more.top) }
 {
-    match subcommand {
-        Ok(subcommand) => program.subcommand(subcommand),
+    let subcommand = match subcommand {
+        Ok(subcommand) => subcommand,
         Err(AllocError) => {
             drop(program);
+            return Err(AllocError);
+        }
+    };
+    match program {
+        Ok(program) => program.subcommand(subcommand),
+        Err(AllocError) => {
+            drop(subcommand);
             Err(AllocError)
         }
     }
@@ -256,9 +263,9 @@ pub(super) fn hunkinfo<'a>(alloc: Global) -> Result<Command<'a>, AllocError>
     let shows = "Lists the hunks and blocks of a load file or an object file";
     let validates = "Checks a file, and lists relocations and references that are out of range";
     let show = plain_command(alloc, "show", shows, AFTER_SHOW);
-    let program = extended(program(alloc), show)?;
+    let program = extended(Ok(program(alloc)), show);
     let validate = plain_command(alloc, "validate", validates, AFTER_VALIDATE);
-    let program = extended(program, validate)?;
-    let program = extended(program, relocate(alloc))?;
+    let program = extended(program, validate);
+    let program = extended(program, relocate(alloc));
     extended(program, rewrite(alloc))
 }
