@@ -9,6 +9,7 @@ use Rattle.hunk_wide.specs.Plain.{plain}
 use Rattle.hunk_wide.proofs.Along.{plain_stays}
 use Rattle.hunk_wide.proofs.SpelledObjects.{object_stays}
 use Rattle.hunk_commands.specs.Engine.{ReadsNoFile}
+use Rattle.hunk_commands.specs.Faults.{IsWrite}
 use Rattle.hunk_commands.specs.Inputs.{ReadsInVain, ReadsWhole}
 use Rattle.hunk_commands.specs.Refusals.{RefusesBytes}
 use Rattle.hunk_commands.specs.Rewritten.{IsRewritten}
@@ -20,13 +21,13 @@ use Rattle.hunk_commands.specs.declared.rewriting.Rewritten.{Rewritten}
 use Rattle.hunk_run.specs.Asked.{AnswersListing, EndsAtOnce, ListsFirst, ListsFirstOf, ListsRead, StopsRewriting, TellsInput}
 use Rattle.hunk_run.specs.Inputs.{unread}
 use Rattle.hunk_run.specs.Orders.{AnswersRewriting, RewritesFirst, RewritesInput, RewritesTo}
-use Rattle.hunk_run.specs.Refusals.{IsOfFile, IsRead, StopsInput}
+use Rattle.hunk_run.specs.Refusals.{IsOfFile, IsRead, ListsSupply, StopsInput, StopsListing, refuses_input}
 use Rattle.hunk_run.specs.Runs.{IsListed, ListsSource}
-use Rattle.hunk_run.specs.Status.{TellsOutcome}
 use Rattle.hunk_run.specs.Stores.{Holdings, Leaves, MadeFile, bytes_of_input}
 use Rattle.hunk_run.specs.Wide.{IsPlain, IsUnread}
 use Rattle.hunk_run.specs.declared.listing.Listing.{Listing}
 use Rattle.hunk_run.specs.declared.listing.Listing.TheVariants as listings
+use Rattle.hunk_run.proofs.Failing.{listing_failed}
 use Rattle.hunk_run.proofs.Telling.{listed_slice}
 
 pub plain_file : (bytes : List ℕ) → AreFile bytes → plain bytes ≡ bytes
@@ -73,7 +74,7 @@ listed_file status (listings.Relocate base budget) bytes written (done, is) = in
 -- ---- of a source
 
 -- it was read to its end
-read_file : (before after : Supply) (most : ℕ) (input : List ℕ) → ReadsWhole before after most input → AreFile input → IfSome before.left AreFile
+pub read_file : (before after : Supply) (most : ℕ) (input : List ℕ) → ReadsWhole before after most input → AreFile input → IfSome before.left AreFile
 read_file before after most input read is = Consumes-whole before.left after.left input AreFile read.given read.at_end is
 
 -- ---- what is listed of a file is listed of its plain spelling
@@ -166,16 +167,51 @@ module _ {W : Type 0} (outlet : W → Outlet) (listing : Listing) (known : Optio
       told (inr (inl memory)) = inl (λ flag. subst IsUnread (sym memory) tt)
       told (inr (inr read)) = inl (λ flag. subst IsUnread (sym read.1) tt)
 
-  -- after a fault of writing
-  pub lists_written : (left : Option (List ℕ)) (fault : RunFault) (written : ℕ) → fault ≡ Write written → TellsOutcome outlet old new (Err fault) → IsOfFile {T = ℕ} left (Err fault) →
-      ListsFirst outlet listing left most old new (Err (Write written))
-  lists_written left fault written is outcome of_file = record {
-    outcome = subst (λ (f : RunFault). TellsOutcome outlet old new (Err f)) is outcome;
-    done = tt;
-    ends = inl tt;
-    stops = λ read. let (place, is_read) = read in absurd (cc is_read);
-    is_plain = λ write. plain_known left (subst (λ (f : RunFault). IsOfFile {T = ℕ} left (Err f)) is of_file);
+-- where the input is not refused the answer ends the run
+pub ends_accepted : {T : Type 0} (answer : Result T RunFault) → refuses_input answer ≡ false → IfErr answer EndsAtOnce
+ends_accepted (Ok value) is = tt
+ends_accepted (Err (Write written)) is = inl tt
+ends_accepted (Err Memory) is = inr (inl refl)
+ends_accepted (Err (Read place)) is = inr (inr (place, refl))
+ends_accepted (Err HexText) is = absurd (true≢false is)
+ends_accepted (Err (Refused refusal)) is = absurd (true≢false is)
+ends_accepted (Err (RefusedIn refusal)) is = absurd (true≢false is)
+
+-- where it is, this holds, which does after any fault but one of writing
+pub of_refused : {T : Type 0} (answer : Result T RunFault) (Holds : Type 0) → refuses_input answer ≡ true → IfErr answer (λ fault. ¬ IsWrite fault → Holds) → Holds
+of_refused (Err (Refused refusal)) Holds is holds = holds (λ write. write)
+of_refused (Err (RefusedIn refusal)) Holds is holds = holds (λ write. write)
+of_refused (Err HexText) Holds is holds = holds (λ write. write)
+of_refused (Ok value) Holds is holds = absurd (true≢false (sym is))
+of_refused (Err (Write written)) Holds is holds = absurd (true≢false (sym is))
+of_refused (Err Memory) Holds is holds = absurd (true≢false (sym is))
+of_refused (Err (Read place)) Holds is holds = absurd (true≢false (sym is))
+
+-- a source of these bytes is listed as it is
+module _ {W : Type 0} (outlet : W → Outlet) (listing : Listing) (left : Option (List ℕ)) (failed : Bool) (after : Supply) (most : ℕ) (old new : Writing W) where
+  pub lists_first : (answer : Result ℕ RunFault) → refuses_input answer ≡ false → ListsSupply outlet false listing (record { left = left; failed = failed }) after most old new answer →
+      IsOfFile left answer → ListsFirst outlet listing left most old new answer
+  lists_first (Ok status) is lists of_file = record {
+    outcome = lists.outcome;
+    done = lists_plainly outlet status listing left failed after old new lists.done;
+    ends = tt;
+    stops = tt;
+    is_plain = plain_known left of_file;
   }
+  lists_first (Err fault) is lists of_file = record {
+    outcome = lists.outcome;
+    done = tt;
+    ends = ends_accepted {T = ℕ} (Err fault) is;
+    stops = λ (place, read).
+        let stops : StopsListing listing (record { left = left; failed = failed }) after most (Read place) =
+        subst (λ (f : RunFault). StopsListing listing (record { left = left; failed = failed }) after most f) read (lists.stops (subst (λ (f : RunFault). ¬ IsWrite f) (sym read) (λ write. write))) in
+        inr (after, subst (λ (f : RunFault). ReadsInVain f (unread left) after most) (sym read) (listing_failed listing (record { left = left; failed = failed }) after most place stops));
+    is_plain = written fault of_file;
+  }
+    where
+      written : (fault : RunFault) → IsOfFile {T = ℕ} left (Err fault) → IsWrite fault → IsPlain left
+      written (Write count) of_file write = plain_known left of_file
+      written fault of_file write = absurd write
 
 -- ---- what is written of a file is written of its plain spelling
 
@@ -292,15 +328,13 @@ module _ (first made : Option MadeFile) (known : Option (List ℕ)) (output : Li
   says_plain (Err (RefusedIn refusal)) cause (inr (inl memory)) answers = absurd (cc memory)
   says_plain (Err (RefusedIn refusal)) cause (inr (inr read)) answers = absurd (cc read.1)
 
-  -- with `--wide`, where the answer is told as it is
-  pub answers_asked : (wide : Bool) (own result : Result Rewritten RunFault) (cause : Option Error) → wide ≡ true → own ≡ result → IfErr result EndsAtOnce →
-      AnswersRewriting first made known output strip false most own cause → AnswersRewriting first made known output strip wide most result cause
-  answers_asked true own result cause flag is ends answers =
-      answers_plain result cause ends (subst (λ (r : Result Rewritten RunFault). AnswersRewriting first made known output strip false most r cause) is answers)
-  answers_asked false own result cause flag is ends answers = absurd (true≢false (sym flag))
+  -- with `--wide`, where the input is not refused
+  pub answers_asked : (wide : Bool) (result : Result Rewritten RunFault) (cause : Option Error) → wide ≡ true → refuses_input result ≡ false →
+      AnswersRewriting first made known output strip false most result cause → AnswersRewriting first made known output strip wide most result cause
+  answers_asked true result cause flag is answers = answers_plain result cause (ends_accepted result is) answers
+  answers_asked false result cause flag is answers = absurd (true≢false (sym flag))
 
-  pub says_asked : (wide : Bool) (own result : Result Rewritten RunFault) (cause : Option Error) → wide ≡ true → own ≡ result → IfErr result EndsAtOnce →
-      AnswersRewriting first made known output strip false most own cause → TellsInput known false wide most result None
-  says_asked true own result cause flag is ends answers =
-      says_plain result cause ends (subst (λ (r : Result Rewritten RunFault). AnswersRewriting first made known output strip false most r cause) is answers)
-  says_asked false own result cause flag is ends answers = absurd (true≢false (sym flag))
+  pub says_asked : (wide : Bool) (result : Result Rewritten RunFault) (cause : Option Error) → wide ≡ true → refuses_input result ≡ false →
+      AnswersRewriting first made known output strip false most result cause → TellsInput known false wide most result None
+  says_asked true result cause flag is answers = says_plain result cause (ends_accepted result is) answers
+  says_asked false result cause flag is answers = absurd (true≢false (sym flag))

@@ -7,7 +7,7 @@ use Rattle.hunk_words.specs.Carriers.{Outlet, Supply, Writing}
 use Rattle.hunk_words.specs.declared.fault.Fault.{Fault}
 use Rattle.hunk_words.specs.declared.reason.Reason.{Reason}
 use Rattle.hunk_words.specs.declared.reason.Reason.TheVariants as reasons
-use Rattle.hunk_scatter.specs.LoadOutcomes.{IsLoadFault, IsLoadFaultBy}
+use Rattle.hunk_scatter.specs.LoadOutcomes.{Gives, IsLoadFault, IsLoadFaultBy}
 use Rattle.hunk_scatter.specs.LoadRefusals.{fault_of}
 use Rattle.hunk_scatter.specs.Placing.{Placing, packed_from}
 use Rattle.hunk_scatter.specs.declared.load_refusal.LoadRefusal.{LoadRefusal}
@@ -16,7 +16,7 @@ use Rattle.hunk_scatter.specs.declared.loading.Limits.{Limits}
 use Rattle.hunk_wide.specs.Plain.{plain}
 use Rattle.hunk_wide.specs.declared.spelling.Spelling.{Spelling}
 use Rattle.hunk_commands.specs.Faults.{IsWrite, load_refused, refused_for}
-use Rattle.hunk_commands.specs.Inputs.{TellsReading}
+use Rattle.hunk_commands.specs.Inputs.{ReadsInVain, TellsReading}
 use Rattle.hunk_commands.specs.declared.fault.RunFault.{RunFault}
 use Rattle.hunk_commands.specs.declared.fault.RunFault.TheVariants.{HexText, Memory, Read, Refused, RefusedIn, Write}
 use Rattle.hunk_run.specs.Asked.{AnswersListing, AsksListing, HasAsked, ListsAsked, StopsAsked}
@@ -30,30 +30,31 @@ use Rattle.hunk_run.proofs.Plainly.{asked_left}
 
 -- ---- where it is answered the source has failed, and it was read up to there
 
-load_failed : (base : Placing) (limits : Limits) (after : Supply) (given : List ℕ) (refusal : Fault) (place : ℕ) (reason : Reason) →
-    Read place ≡ refused_for reason refusal → IsLoadFaultBy reason base limits after given refusal.place → after.failed ≡ true
-load_failed base limits after given refusal place reasons.Read told is = is.1
-load_failed base limits after given refusal place reasons.OutOfMemory told is = absurd (cc told)
-load_failed base limits after given refusal place _ told is = absurd (cc told)
+load_failed : (base : Placing) (limits : Limits) (before after : Supply) (given : List ℕ) (refusal : Fault) (place : ℕ) (reason : Reason) → Gives before after limits.file_bytes given →
+    Read place ≡ refused_for reason refusal → IsLoadFaultBy reason base limits after given refusal.place → ReadsInVain (Read place) before after limits.file_bytes
+load_failed base limits before after given refusal place reasons.Read gives told is =
+    let same : refusal.place ≡ place = cc in (is.1, (given, gives.consumed, sym is.0 ∙ same))
+load_failed base limits before after given refusal place reasons.OutOfMemory gives told is = absurd (cc told)
+load_failed base limits before after given refusal place _ gives told is = absurd (cc told)
 
-listing_failed : (listing : Listing) (before after : Supply) (most place : ℕ) → StopsListing listing before after most (Read place) → after.failed ≡ true
-listing_failed listings.Show before after most place (inl in_vain) = in_vain.0
+pub listing_failed : (listing : Listing) (before after : Supply) (most place : ℕ) → StopsListing listing before after most (Read place) → ReadsInVain (Read place) before after most
+listing_failed listings.Show before after most place (inl in_vain) = in_vain
 listing_failed listings.Show before after most place (inr input) = absurd input.holds
-listing_failed listings.Validate before after most place (inl in_vain) = in_vain.0
+listing_failed listings.Validate before after most place (inl in_vain) = in_vain
 listing_failed listings.Validate before after most place (inr input) = absurd input.holds
 listing_failed (listings.Relocate base budget) before after most place (given, gives, stops) = by_refusal stops.refusal stops.told stops.is_fault
   where
     by_refusal : (refusal : LoadRefusal) → Read place ≡ load_refused refusal →
-        IsLoadFault (packed_from base) (record { budget = budget; file_bytes = most }) after given (fault_of refusal) → after.failed ≡ true
+        IsLoadFault (packed_from base) (record { budget = budget; file_bytes = most }) after given (fault_of refusal) → ReadsInVain (Read place) before after most
     by_refusal (Judged refusal) told is = absurd (cc told)
-    by_refusal (NotJudged fault) told is = load_failed (packed_from base) (record { budget = budget; file_bytes = most }) after given fault place fault.reason told is
+    by_refusal (NotJudged fault) told is = load_failed (packed_from base) (record { budget = budget; file_bytes = most }) before after given fault place fault.reason gives told is
 
 -- a source that is read through a slice has not failed
 slice_sound : (listing : Listing) (bytes rest : List ℕ) (most place : ℕ) → StopsListing listing (slice bytes) (slice rest) most (Read place) → ⊥
-slice_sound listing bytes rest most place stops = true≢false (sym (listing_failed listing (slice bytes) (slice rest) most place stops))
+slice_sound listing bytes rest most place stops = true≢false (sym (listing_failed listing (slice bytes) (slice rest) most place stops).0)
 
 source_failed : (hex : Bool) (listing : Listing) (before after : Supply) (most place : ℕ) → StopsSource hex listing before after most (Read place) → after.failed ≡ true
-source_failed false listing before after most place stops = listing_failed listing before after most place stops
+source_failed false listing before after most place stops = (listing_failed listing before after most place stops).0
 source_failed true listing before after most place (inl in_vain) = in_vain.0
 source_failed true listing before after most place (inr spelled) = absurd (slice_sound listing spelled.bytes spelled.rest most place spelled.stops)
 

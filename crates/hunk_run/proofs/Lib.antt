@@ -1,5 +1,6 @@
 mod Accepted
 mod Failing
+mod Listed
 mod Noting
 mod Plainly
 mod Stopping

@@ -1,5 +1,5 @@
 -- What a run lists or rewrites, by what an engine function has written.
-use Rattle.std.proofs.Common.{◌≡◌, ◌≢◌, ◌++◌, ◌∙◌, ℕ, zero, suc, Bool, true, false, List, [], Option, Some, None, length, take, refl, ap, sym, subst, arith, append-nil, append_assoc}
+use Rattle.std.proofs.Common.{◌≡◌, ◌++◌, ◌∙◌, ℕ, Bool, true, false, List, [], Option, Some, None, length, take, refl, ap, sym, subst, arith, append-nil, append_assoc}
 use Rattle.std.specs.Prelude.{Ok}
 use Rattle.std.specs.Io.KnownBytes.{Consumes, IsAtEnd}
 use Rattle.std.proofs.lemmas.List.{take_all}
@@ -20,12 +20,7 @@ use Rattle.hunk_run.specs.declared.listing.Listing.TheVariants as listings
 use Rattle.hunk_commands.specs.HexText.{SpellsHex}
 use Rattle.hunk_commands.specs.Inputs.{ReadsInput}
 use Rattle.hunk_commands.specs.Relocating.{IsListingOf, Relocates}
-use Rattle.hunk_run.specs.Runs.{IsListed, ListsSource, StopsReading, found_status}
-
--- a report that finds something has its own status
-pub some_found : (count : ℕ) → count ≢ 0 → 1 ≡ found_status count
-some_found zero some = absurd (some refl)
-some_found (suc more) some = refl
+use Rattle.hunk_run.specs.Runs.{IsListed, ListsSource, StopsReading}
 
 -- a text that was put whole
 pub takes_whole : {W : Type 0} (outlet : W → Outlet) (old new : Writing W) (Is : List ℕ → Type 0) (all : PutsAll outlet Is old new) → Takes outlet old new all.0.text

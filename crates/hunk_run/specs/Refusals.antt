@@ -4,7 +4,7 @@ use Rattle.hunk_files.specs.HunkFile.{AreFile}
 use Rattle.hunk_words.specs.Carriers.{Outlet, Supply, Writing}
 use Rattle.hunk_scatter.specs.LoadOutcomes.{Gives}
 use Rattle.hunk_commands.specs.declared.fault.RunFault.{RunFault}
-use Rattle.hunk_commands.specs.declared.fault.RunFault.TheVariants.{Memory, Read, Write}
+use Rattle.hunk_commands.specs.declared.fault.RunFault.TheVariants.{HexText, Memory, Read, Refused, RefusedIn, Write}
 use Rattle.hunk_run.specs.declared.listing.Listing.{Listing}
 use Rattle.hunk_run.specs.declared.listing.Listing.TheVariants as listings
 use Rattle.hunk_commands.specs.Engine.{ReadsNoFile}
@@ -70,6 +70,13 @@ abbrev pub failed_at_files : {T : Type 0} → Result T RunFault → Bool
 failed_at_files (Err (Read place)) = true
 failed_at_files (Err (Write written)) = true
 failed_at_files _ = false
+
+-- the answer is a refusal of the input
+abbrev pub refuses_input : {T : Type 0} → Result T RunFault → Bool
+refuses_input (Err (Refused refusal)) = true
+refuses_input (Err (RefusedIn refusal)) = true
+refuses_input (Err HexText) = true
+refuses_input _ = false
 
 -- ---- what comes of listing what a source has, or where `hex` is set what its text spells
 

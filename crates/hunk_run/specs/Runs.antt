@@ -1,5 +1,5 @@
 -- What a run has done: its output is a writer that is old before it and new after it.
-use Rattle.std.specs.Prelude.{◌≡◌, ◌⊎◌, ◌+◌, ◌++◌, ℕ, zero, suc, Bool, true, false, List}
+use Rattle.std.specs.Prelude.{◌≡◌, ◌⊎◌, ◌+◌, ◌++◌, ℕ, zero, suc, Bool, true, false, List, Result, Ok, Err}
 use Rattle.std.specs.Io.KnownBytes.{Consumes, IsAtEnd}
 use Rattle.hunk_words.specs.Carriers.{Outlet, Supply, Writing}
 use Rattle.hunk_words.specs.Longs.{bytes_of}
@@ -26,6 +26,11 @@ use Rattle.hunk_run.specs.Status.{PrintsOrFails, with_newline}
 abbrev pub found_status : ℕ → ℕ
 found_status zero = 0
 found_status (suc more) = 1
+
+-- the status where a command has answered this, or its fault
+abbrev pub answered : {T : Type 0} → (T → ℕ) → Result T RunFault → Result ℕ RunFault
+answered status (Ok value) = Ok (status value)
+answered status (Err fault) = Err fault
 
 -- what is printed of an input, with this status: 0, or 1 where `validate` finds something
 abbrev pub IsListed : ℕ → Listing → List ℕ → List ℕ → Type 0

@@ -91,6 +91,13 @@ AreListed listings.Show bytes most = AreFile bytes
 AreListed listings.Validate bytes most = AreFile bytes
 AreListed (listings.Relocate base budget) bytes most = HasFileWithin (packed_from base) (record { budget = budget; file_bytes = most }) (slice bytes)
 
+-- What comes of listing them.
+pub record ListsHeld {W : Type 0} (outlet : W → Outlet) (listing : Listing) (bytes : List ℕ) (most : ℕ) (old new : Writing W) (result : Result ℕ RunFault) : Type 0 where
+  pub outcome : TellsOutcome outlet old new result
+  pub done : IfOk result (λ status. ListsBytes outlet status listing bytes old new)
+  pub stops : IfErr result (λ fault. ¬ IsWrite fault → StopsBytes listing bytes most fault)
+  pub succeeds : AreListed listing bytes most → (outlet new.sink).failed ≡ false → IfErr result (λ fault. fault ≡ Memory)
+
 -- ---- the plain spelling
 
 -- that it has too many bytes, `most` of them or more

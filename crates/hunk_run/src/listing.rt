@@ -6,7 +6,7 @@ ghost use Rattle.hunk_commands.specs.Inputs.{TellsReading};
 ghost use Rattle.hunk_run.specs.Asked.{AnswersListing, AsksListing, TellsInput, TellsSpelling};
 ghost use Rattle.hunk_run.specs.Orders.{SaysInput};
 ghost use Rattle.hunk_run.specs.Refusals.{FromInput, IsOfFile, ListsSupply, failed_reading};
-ghost use Rattle.hunk_run.specs.Runs.{ReadsNoText};
+ghost use Rattle.hunk_run.specs.Runs.{ReadsNoText, answered, found_status};
 ghost use Rattle.hunk_run.specs.Stores.{bytes_of_input};
 ghost use Rattle.hunk_run.specs.Wide.{IsUnread};
 
@@ -25,7 +25,7 @@ use std::io;
 use std::io::Read;
 
 /// The exit status where `validate` found something.
-pub(crate) const FOUND: u8 = 1;
+const FOUND: u8 = 1;
 
 /// What is printed of an input.
 #[derive(Clone, Copy)]
@@ -140,31 +140,11 @@ fn list_once<S: Store, W: Sink>(
     ensures makes { S.made store.new ≡ S.made store.old }
     ensures holds { S.holdings store.new ≡ S.holdings store.old }
 {
-    match file {
-        Some(name) => list_named(store, alloc, listing, name, form, out),
-        None => list_standard(store, alloc, listing, form, out),
-    }
-}
-
-/// The same of the file of this name.
-fn list_named<S: Store, W: Sink>(
-    store: &mut S,
-    alloc: Global,
-    listing: Listing,
-    name: &FileName,
-    form: Form,
-    out: &mut LongWriter<W>,
-) -> (Result<u8, RunFault>, Option<io::Error>, Option<Spelling>)
-    ensures answers { AnswersListing W.outlet form.hex form.wide listing
-        (bytes_of_input (S.holdings store.old) (S.opened store.old) (S.made store.old)
-        (Some name.now)) FILE_BYTES out.old out.new result.0 result.1 }
-    ensures spelled { TellsSpelling (FromInput
-        (bytes_of_input (S.holdings store.old) (S.opened store.old) (S.made store.old)
-        (Some name.now))) form.hex form.wide FILE_BYTES result.0 result.2 }
-    ensures fails { S.failed store.new ≡ (S.failed store.old || failed_reading result.0) }
-    ensures makes { S.made store.new ≡ S.made store.old }
-    ensures holds { S.holdings store.new ≡ S.holdings store.old }
-{
+    let Some(name) = file else {
+        let mut source = FromRead::new(store.input());
+        let (answer, spelling) = list_asked(alloc, listing, &mut source, form, out);
+        return (answer, store.close_input(source), spelling);
+    };
     let file = match store.open(name.as_str()) {
         Ok(file) => file,
         Err(error) => return (Err(RunFault::Read { place: 0 }), Some(error), None),
@@ -175,29 +155,6 @@ fn list_named<S: Store, W: Sink>(
     };
     let (answer, spelling) = list_asked(alloc, listing, &mut source, form, out);
     (answer, store.close(source), spelling)
-}
-
-/// The same of standard input.
-fn list_standard<S: Store, W: Sink>(
-    store: &mut S,
-    alloc: Global,
-    listing: Listing,
-    form: Form,
-    out: &mut LongWriter<W>,
-) -> (Result<u8, RunFault>, Option<io::Error>, Option<Spelling>)
-    ensures answers { AnswersListing W.outlet form.hex form.wide listing
-        (bytes_of_input (S.holdings store.old) (S.opened store.old) (S.made store.old) None)
-        FILE_BYTES out.old out.new result.0 result.1 }
-    ensures spelled { TellsSpelling (FromInput
-        (bytes_of_input (S.holdings store.old) (S.opened store.old) (S.made store.old) None))
-        form.hex form.wide FILE_BYTES result.0 result.2 }
-    ensures fails { S.failed store.new ≡ (S.failed store.old || failed_reading result.0) }
-    ensures makes { S.made store.new ≡ S.made store.old }
-    ensures holds { S.holdings store.new ≡ S.holdings store.old }
-{
-    let mut source = FromRead::new(store.input());
-    let (answer, spelling) = list_asked(alloc, listing, &mut source, form, out);
-    (answer, store.close_input(source), spelling)
 }
 
 /// The bytes of a file. A load asks for little at a time, so its file is read through a buffer;
@@ -298,21 +255,32 @@ pub(crate) fn list_bytes<R: Source, W: Sink>(
     ensures of_file { IsOfFile (R.supply source.old).left result }
 {
     match listing {
-        Listing::Show => {
-            show(alloc, source, out, FILE_BYTES)?;
-            Ok(DONE)
-        }
-        Listing::Validate => match validate(alloc, source, out, FILE_BYTES)? {
-            0 => Ok(DONE),
-            _ => Ok(FOUND),
-        },
+        Listing::Show => done(show(alloc, source, out, FILE_BYTES)),
+        Listing::Validate => found(validate(alloc, source, out, FILE_BYTES)),
         Listing::Relocate { base, budget } => {
             let limits = Limits {
                 budget,
                 file_bytes: FILE_BYTES,
             };
-            relocate(alloc, source, out, limits, base)?;
-            Ok(DONE)
+            done(relocate(alloc, source, out, limits, base))
         }
+    }
+}
+
+/// The exit status where all is done.
+pub(crate) fn done(answer: Result<(), RunFault>) -> Result<u8, RunFault>
+    ensures { result ≡ answered (λ _. 0) answer }
+{
+    answer?;
+    Ok(DONE)
+}
+
+/// The exit status where so many findings were printed.
+pub(crate) fn found(answer: Result<u64, RunFault>) -> Result<u8, RunFault>
+    ensures { result ≡ answered found_status answer }
+{
+    match answer? {
+        0 => Ok(DONE),
+        _ => Ok(FOUND),
     }
 }

@@ -6,6 +6,7 @@ ghost use Rattle.hunk_run.specs.Stores.{bytes_of_input};
 
 use crate::FILE_BYTES;
 use crate::listing::{Form, Listing, list_bytes, source_of};
+use crate::plain::is_refused;
 use crate::store::Store;
 use hunk_command_line::FileName;
 use hunk_commands::RunFault;
@@ -80,11 +81,9 @@ fn list_as_it_is<R: Source, W: Sink>(
         (λ answer. (R.supply source.new).failed ≡ failed_reading answer) }
     ensures works { IfNone result ((R.supply source.new).failed ≡ false) }
 {
-    match list_bytes(alloc, listing, source, out) {
-        Ok(status) => Some(Ok(status)),
-        Err(RunFault::Write { written }) => Some(Err(RunFault::Write { written })),
-        Err(RunFault::Memory) => Some(Err(RunFault::Memory)),
-        Err(RunFault::Read { place }) => Some(Err(RunFault::Read { place })),
-        Err(_) => None,
+    let answer = list_bytes(alloc, listing, source, out);
+    if is_refused(&answer) {
+        return None;
     }
+    Some(answer)
 }

@@ -1,17 +1,13 @@
 //! The plain spelling of an input, listed.
-ghost use Rattle.std.specs.Prelude.{◌≡◌, false, true, IfErr, IfOk, Some};
-ghost use Rattle.hunk_commands.specs.Faults.{IsWrite};
-ghost use Rattle.hunk_commands.specs.declared.fault.RunFault.TheVariants.{Memory};
+ghost use Rattle.std.specs.Prelude.{◌≡◌, true, Some};
 ghost use Rattle.hunk_run.specs.Asked.{AsksListing};
-ghost use Rattle.hunk_run.specs.Status.{TellsOutcome};
 ghost use Rattle.hunk_wide.specs.Plain.{plain};
-ghost use Rattle.hunk_run.specs.Wide.{AreListed, ListsBytes, ListsPlain, StopsBytes};
+ghost use Rattle.hunk_run.specs.Wide.{ListsHeld, ListsPlain};
 
-use crate::listing::{FOUND, Listing};
+use crate::FILE_BYTES;
+use crate::listing::{Listing, done, found, list_bytes};
 use crate::plain::{PlainSpelling, in_input, input_bytes};
-use crate::{DONE, FILE_BYTES};
-use hunk_commands::{RunFault, relocate, show_bytes, validate_bytes};
-use hunk_scatter::Limits;
+use hunk_commands::{RunFault, show_bytes, validate_bytes};
 use hunk_wide::{Spelling, spelling_of};
 use hunk_words::{FromSlice, LongWriter, Sink, Source};
 use std::alloc::Global;
@@ -65,30 +61,11 @@ fn list_held<W: Sink>(
     bytes: &[u8],
     out: &mut LongWriter<W>,
 ) -> Result<u8, RunFault>
-    ensures outcome { TellsOutcome W.outlet out.old out.new result }
-    ensures done { IfOk result
-        (λ status. ListsBytes W.outlet status listing bytes.now out.old out.new) }
-    ensures stops { IfErr result
-        (λ fault. ¬ IsWrite fault → StopsBytes listing bytes.now FILE_BYTES fault) }
-    ensures succeeds { AreListed listing bytes.now FILE_BYTES
-        → (W.outlet out.new.sink).failed ≡ false → IfErr result (λ fault. fault ≡ Memory) }
+    ensures { ListsHeld W.outlet listing bytes.now FILE_BYTES out.old out.new result }
 {
     match listing {
-        Listing::Show => {
-            show_bytes(bytes, out)?;
-            Ok(DONE)
-        }
-        Listing::Validate => match validate_bytes(bytes, out)? {
-            0 => Ok(DONE),
-            _ => Ok(FOUND),
-        },
-        Listing::Relocate { base, budget } => {
-            let limits = Limits {
-                budget,
-                file_bytes: FILE_BYTES,
-            };
-            relocate(alloc, &mut FromSlice::new(bytes), out, limits, base)?;
-            Ok(DONE)
-        }
+        Listing::Show => done(show_bytes(bytes, out)),
+        Listing::Validate => found(validate_bytes(bytes, out)),
+        Listing::Relocate { .. } => list_bytes(alloc, listing, &mut FromSlice::new(bytes), out),
     }
 }

@@ -2,6 +2,7 @@
 ghost use Rattle.std.specs.Prelude.{◌≡◌, IfErr, IfNone, IfOk, IfSome};
 ghost use Rattle.hunk_wide.specs.Plain.{plain};
 ghost use Rattle.hunk_commands.specs.Inputs.{TellsReading};
+ghost use Rattle.hunk_run.specs.Refusals.{refuses_input};
 ghost use Rattle.hunk_run.specs.Wide.{MakesNone, ReadsBytes, ReadsNoBytes, fault_at, placed};
 
 use crate::FILE_BYTES;
@@ -99,6 +100,16 @@ fn plain_bytes(alloc: Global, input: &[u8]) -> Result<Vec<u8>, RunFault>
 {
     let mut source = Plain::new(FromSlice::new(input));
     read_input(alloc, &mut source, FILE_BYTES)
+}
+
+/// Whether the input was refused: neither reading or writing has failed, nor was memory refused.
+pub(crate) fn is_refused<T>(answer: &Result<T, RunFault>) -> bool
+    ensures { result ≡ refuses_input answer.now }
+{
+    match answer {
+        Err(RunFault::Refused(_) | RunFault::RefusedIn(_) | RunFault::HexText) => true,
+        Err(RunFault::Read { .. } | RunFault::Write { .. } | RunFault::Memory) | Ok(_) => false,
+    }
 }
 
 /// A fault of the plain spelling, as one of the input: where a place is told, it is that in the

@@ -13,6 +13,7 @@ ghost use Rattle.hunk_run.specs.Stores.{bytes_of_input};
 ghost use Rattle.hunk_run.specs.Wide.{IsUnread};
 
 use crate::note::{Ended, Note, output_failed};
+use crate::plain::is_refused;
 use crate::rewriting_plain::rewrite_wide;
 use crate::spelled::{Spelled, said_of};
 use crate::store::Store;
@@ -36,6 +37,10 @@ pub(crate) struct Way {
     pub wide: bool,
 }
 
+/// The store, how much was written of a file, what the system says of one that can't be read or
+/// written, and what is told of how the input is spelled.
+type Rewriting<S, T> = (S, Result<Rewritten, RunFault>, Option<io::Error>, Option<T>);
+
 /// Writes the file `input` again, to `output`, and gives how much was written, and what the system
 /// says of a file that can't be read or written. The store is given back.
 ///
@@ -47,12 +52,7 @@ pub(crate) fn rewrite_file<S: Store>(
     input: &FileName,
     output: &FileName,
     way: Way,
-) -> (
-    S,
-    Result<Rewritten, RunFault>,
-    Option<io::Error>,
-    Option<Spelled>,
-)
+) -> Rewriting<S, Spelled>
     ensures answers { AnswersRewriting (S.made store) (S.made result.0)
         (bytes_of_input (S.holdings store) (S.opened store) (S.made store) (Some input.now))
         output.now way.strip way.wide FILE_BYTES result.1 result.2 }
@@ -92,12 +92,7 @@ fn rewrite_input<S: Store>(
     input: &FileName,
     output: &FileName,
     way: Way,
-) -> (
-    S,
-    Result<Rewritten, RunFault>,
-    Option<io::Error>,
-    Option<Spelling>,
-)
+) -> Rewriting<S, Spelling>
     ensures answers { AnswersRewriting (S.made store) (S.made result.0)
         (bytes_of_input (S.holdings store) (S.opened store) (S.made store) (Some input.now))
         output.now way.strip way.wide FILE_BYTES result.1 result.2 }
@@ -115,15 +110,10 @@ fn rewrite_input<S: Store>(
         wide: false,
     };
     let (store, answer, cause, _) = rewrite_named(store, alloc, input, output, as_it_is);
-    match answer {
-        Ok(done) => (store, Ok(done), cause, None),
-        Err(RunFault::Write { written }) => {
-            (store, Err(RunFault::Write { written }), cause, None)
-        }
-        Err(RunFault::Memory) => (store, Err(RunFault::Memory), cause, None),
-        Err(RunFault::Read { place }) => (store, Err(RunFault::Read { place }), cause, None),
-        Err(_) => rewrite_named(store, alloc, input, output, way),
+    if is_refused(&answer) {
+        return rewrite_named(store, alloc, input, output, way);
     }
+    (store, answer, cause, None)
 }
 
 /// The same, and how the input is spelled where it was read and that was asked for.
@@ -133,12 +123,7 @@ fn rewrite_named<S: Store>(
     input: &FileName,
     output: &FileName,
     way: Way,
-) -> (
-    S,
-    Result<Rewritten, RunFault>,
-    Option<io::Error>,
-    Option<Spelling>,
-)
+) -> Rewriting<S, Spelling>
     ensures answers { AnswersRewriting (S.made store) (S.made result.0)
         (bytes_of_input (S.holdings store) (S.opened store) (S.made store) (Some input.now))
         output.now way.strip way.wide FILE_BYTES result.1 result.2 }
@@ -177,12 +162,7 @@ fn rewrite_to<S: Store, R: Source, K: Outset>(
     source: &mut R,
     output: &FileName,
     way: Way,
-) -> (
-    S,
-    Result<Rewritten, RunFault>,
-    Option<io::Error>,
-    Option<Spelling>,
-)
+) -> Rewriting<S, Spelling>
     // It only names what is there.
     requires { (S.holdings store ≡ K.holdings) × (S.made store ≡ K.made)
         × (output.now ≡ K.name) × (S.failed store ≡ K.failed) }

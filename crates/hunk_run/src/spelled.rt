@@ -1,6 +1,6 @@
 //! What is said of an input that is spelled otherwise than its plain spelling.
 ghost use Rattle.std.specs.Prelude.{◌≡◌, Some};
-ghost use Rattle.hunk_run.specs.Notes.{spelled_line, spelled_told};
+ghost use Rattle.hunk_run.specs.Notes.{block_words, spelled_line, spelled_told};
 
 use crate::note::Named;
 use hunk_command_line::FileName;
@@ -38,6 +38,13 @@ pub(crate) fn said_of(name: Option<FileName>, spelling: Option<Spelling>) -> Opt
     })
 }
 
+/// What so many blocks are called.
+fn block_words(blocks: u64) -> &'static str
+    ensures { result.now ≡ block_words blocks }
+{
+    if blocks == 1 { "block" } else { "blocks" }
+}
+
 impl fmt::Display for Spelled {
     ghost output = { λ spelled. Some (spelled_line spelled) };
 
@@ -45,7 +52,7 @@ impl fmt::Display for Spelled {
         let name = Named(&self.name, "standard input");
         let blocks = self.short_blocks;
         let ends = self.ends;
-        let what = if blocks == 1 { "block" } else { "blocks" };
+        let what = block_words(blocks);
         if blocks == 0 {
             return write!(f, "hunkinfo: {name}: {ends} END put in\n");
         }

@@ -1,36 +1,18 @@
-use Rattle.std.proofs.Common.{◌≢◌, ap, refl, rules, subst, sym}
-use Rattle.hunk_commands.specs.Shown.{IsShown}
-use Rattle.hunk_commands.specs.Validated.{IsValidated}
-use Rattle.hunk_run.specs.Runs.{IsListed, found_status}
-use Rattle.hunk_run.specs.declared.listing.Listing.{Listing}
-use Rattle.hunk_run.proofs.Telling.{some_found, takes_whole}
+use Rattle.std.proofs.Common.{ℕ, List, false, subst}
+use Rattle.hunk_run.specs.Inputs.{slice}
+use Rattle.hunk_run.specs.Refusals.{ListsSupply}
+use Rattle.hunk_run.proofs.Listed.{held_relocated, held_shown, held_validated}
 use Rattle.hunk_run.proofs.listing_plain.list_held.Goals as goal
 
-pub returns-in_ok-show_bytes-in-Show-clause-done : goal.returns-in_ok-show_bytes-in-Show-clause-done
-returns-in_ok-show_bytes-in-Show-clause-done g c =
-    let all = c.in_ok-show_bytes-in-Show.ensures.done in (
-      all.0.text,
-      subst (λ (l : Listing). IsListed 0 l c.args.bytes.now all.0.text) (sym c.in-Show.is) (refl, all.0.is_text),
-      takes_whole g.W.Sink.outlet c.args.out.now c.show_bytes.new.w (IsShown c.args.bytes.now) all,
-    )
+pub returns-in-Show : goal.returns-in-Show
+returns-in-Show g c = held_shown g.W.Sink.outlet c.args.listing 67108864 c.args.out.now c.show_bytes.new.w c.done.result c.args.bytes.now c.show_bytes.result c.in-Show.is c.done.ensures c.show_bytes.ensures
 
-pub returns-in-0-clause-done : goal.returns-in-0-clause-done
-returns-in-0-clause-done g c =
-    let count = c.in_ok-validate_bytes-in-Validate.field-0 in
-    let all = c.in_ok-validate_bytes-in-Validate.ensures.done in
-    let text = all.0.text in (
-      text,
-      subst (λ (l : Listing). IsListed 0 l c.args.bytes.now text) (sym c.in-Validate.is) (count, ap found_status (sym c.in-0.is), all.0.is_text),
-      takes_whole g.W.Sink.outlet c.args.out.now c.validate_bytes.new.w (IsValidated count c.args.bytes.now) all,
-    )
+pub returns-in-Validate : goal.returns-in-Validate
+returns-in-Validate g c =
+    held_validated g.W.Sink.outlet c.args.listing 67108864 c.args.out.now c.validate_bytes.new.w c.found.result c.args.bytes.now c.validate_bytes.result c.in-Validate.is c.found.ensures c.validate_bytes.ensures
 
-pub returns-in_default-clause-done : goal.returns-in_default-clause-done
-returns-in_default-clause-done g c =
-    let count = c.in_ok-validate_bytes-in-Validate.field-0 in
-    let some : count ≢ 0 = search rules in
-    let all = c.in_ok-validate_bytes-in-Validate.ensures.done in
-    let text = all.0.text in (
-      text,
-      subst (λ (l : Listing). IsListed 1 l c.args.bytes.now text) (sym c.in-Validate.is) (count, some_found count some, all.0.is_text),
-      takes_whole g.W.Sink.outlet c.args.out.now c.validate_bytes.new.w (IsValidated count c.args.bytes.now) all,
-    )
+pub returns-in-Relocate : goal.returns-in-Relocate
+returns-in-Relocate g c =
+    held_relocated g.W.Sink.outlet c.args.listing 67108864 c.args.out.now c.list_bytes.new.out c.list_bytes.result c.args.bytes.now c.list_bytes.new.source c.in-Relocate.base c.in-Relocate.budget c.in-Relocate.is
+    (subst (λ (xs : List ℕ). ListsSupply g.W.Sink.outlet false c.args.listing (slice xs) (slice c.list_bytes.new.source) 67108864 c.args.out.now c.list_bytes.new.out c.list_bytes.result) c.new.ensures
+    c.list_bytes.ensures.lists)
