@@ -59,7 +59,7 @@ blocks_are_long (b ∷ bs) =
       length-append (block_text b) (block_texts bs),
     )
 
-hunk_is_long : (h : HunkValue) → length (relocations h) ≤ length (block_texts h.blocks)
+pub hunk_is_long : (h : HunkValue) → length (relocations h) ≤ length (block_texts h.blocks)
 hunk_is_long h = omega (arith, blocks_are_long h.blocks, length-map {B = ℕ} (relocations h) (λ (p : ℕ × ℕ). p.0))
 
 hunks_are_long : (v : LoadFileValue) → most v ≤ length (hunk_texts v)

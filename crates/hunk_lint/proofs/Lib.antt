@@ -2,6 +2,7 @@ mod AnyOrder
 mod Collected
 mod EnoughRoom
 pub mod FewWarnings
+mod Heaps
 mod InTurn
 mod Least
 mod NoneTold

@@ -63,6 +63,11 @@ pub record LookedAt (room : ℕ) (v left : LoadFileValue) : Type 0 where
   pub within : most left ≤ room → most v ≤ room
   pub over : room < most left → room < most v
 
+pub one_looked_at : (room : ℕ) (v old left : LoadFileValue) (h : HunkValue) → old ≡ h ∷ left → length (relocations h) ≤ room → LookedAt room v old → LookedAt room v left
+one_looked_at room v old left h first le before =
+    let all : most old ≡ most (h ∷ left) = ap most first in
+    record { within = λ rest. before.within (omega (arith, all, le, rest)); over = λ rest. before.over (omega (arith, all, rest)) }
+
 -- ---- the sizes of all hunks
 
 pub sizes_are : (v : LoadFileValue) → map (λ (e : TableEntry). 4 * size_longs e.word) (table v) ≡ sizes_of v

@@ -1,5 +1,6 @@
 pub mod Collecting
 pub mod Facts
+pub mod Heap
 pub mod Known
 pub mod Room
 pub mod Stripped

@@ -1,6 +1,5 @@
 //! The warnings of a load file, hunk by hunk.
 ghost use Rattle.std.specs.Prelude.{◌≡◌, ◌<◌, ◌≤◌, ◌^◌, IfErr, OnOk, length};
-ghost use Rattle.std.specs.List.Sorted.{IsNonDecreasing, IsPermutation};
 ghost use Rattle.hunk_files.specs.Image.{relocations};
 ghost use Rattle.hunk_files.specs.LoadFile.{IsHunk};
 ghost use Rattle.hunk_files.specs.LoadHunks.{hunk_seen};
@@ -12,6 +11,7 @@ use crate::collecting::collect;
 use crate::known::KnownHunk;
 use crate::listing::list_blocks;
 use crate::room::{has_room, put_sizes};
+use crate::sorting::sort;
 use crate::warning::Warning;
 use hunk_files::{BlockViews, LoadHunkView, LoadView, Takes};
 
@@ -47,7 +47,9 @@ pub fn list_warnings<T: Takes<Warning>>(
 
 /// Hands over the warnings of all hunks.
 ///
-/// Two views go over the hunks, as the blocks of each are read twice.
+/// Two views go over the hunks, as the blocks of each are read twice. The caller also reads files:
+/// it needs less stack where it does not hold what this does.
+#[inline(never)]
 fn list_hunks<T: Takes<Warning>>(taker: &mut T, file: &LoadView<'_>, room: &mut [u32])
     requires { room_for file.now ≤ length room.old }
     ensures { T.takes taker.old (warnings file.now) taker.new }
@@ -95,12 +97,4 @@ fn list_hunk<T: Takes<Warning>>(
         is_bss: collected.is_bss,
     };
     list_blocks(taker, &known, hunk.blocks);
-}
-
-/// Puts the offsets in rising order.
-fn sort(offsets: &mut [u32])
-    ensures rising { IsNonDecreasing offsets.new }
-    ensures order { IsPermutation offsets.old offsets.new }
-{
-    offsets.sort_unstable();
 }

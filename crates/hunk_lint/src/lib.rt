@@ -8,6 +8,7 @@ pub mod laws;
 mod listing;
 mod neighbours;
 mod room;
+mod sorting;
 mod suspicious;
 mod warning;
 

@@ -20,7 +20,9 @@ pub(crate) fn has_room(file: &LoadView<'_>, room: usize) -> bool
     let offsets = (room - count) as u64;
     let mut hunks = file.iter();
     'looking: while let Some(hunk) = hunks.next() {
-        if offsets < relocation_count(hunk.blocks) {
+        // No hunk has more offsets than longwords.
+        let longs = (hunks.place() - hunk.blocks.place()) / 4;
+        if offsets < longs && offsets < relocation_count(hunk.blocks) {
             return false;
         }
     }
