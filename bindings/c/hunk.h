@@ -5,9 +5,8 @@
  * Whatever the bytes are, each call gives one of the answers listed with it. docs/PROVED.md of the
  * source tree says what of this is proved. A call reads and writes only what its arguments point
  * to, asks for no memory, and keeps nothing between two calls. So threads may call at the same
- * time, as long as no call writes memory that another one uses. hunk_load_packed and hunk_warnings
- * need 6 KiB of stack. Each other call needs less than 1 KiB, on Arm of 32 bits 1.25, and on
- * Windows 1.5.
+ * time, as long as no call writes memory that another one uses. hunk_load_packed needs 6 KiB of
+ * stack. Each other call needs less than 1 KiB, on Arm of 32 bits 1.25, and on Windows 1.5.
  *
  * What the caller has to make sure of:
  * - Each pointer points to as many elements as its length says, aligned for their type. Where the

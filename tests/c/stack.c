@@ -12,7 +12,7 @@
 #else
 #define ALL 1024
 #endif
-#define MUCH (6 * 1024)    /* that hunk_load_packed and hunk_warnings may */
+#define MUCH (6 * 1024)    /* that hunk_load_packed may */
 #define HUNKS 2
 #define HEADER 28
 #define FINDINGS 2
@@ -177,8 +177,8 @@ static const struct {
     {"hunk_units", units, ALL},
     {"hunk_parts", parted, ALL},
     {"hunk_parts of a load file", parted_load, ALL},
-    {"hunk_warnings", warned, MUCH},
-    {"hunk_warnings of many offsets", warned_of_many, MUCH},
+    {"hunk_warnings", warned, ALL},
+    {"hunk_warnings of many offsets", warned_of_many, ALL},
     {"hunk_strip", strip, ALL},
     {"hunk_strip of a load file", strip_load, ALL},
     {"hunk_plain", plain, ALL},

@@ -137,7 +137,7 @@ MEASURE=${MEASURE:-}
 if has 'small systems of Arm' arm-none-eabi-gcc qemu-system-arm; then
   cortex cortex-m4 mps2-an386
   examples ports/small/mps2.ld mps2-an386
-  cortex cortex-m0 mps2-an385 '__aeabi_lmul __clzsi2'
+  cortex cortex-m0 mps2-an385 __aeabi_lmul
   sed 's/LENGTH = 4M/LENGTH = 256K/; s/0x21000000, LENGTH = 16M/0x20000000, LENGTH = 16K/' ports/small/mps2.ld \
     > "$work/microbit.ld"
   examples "$work/microbit.ld" microbit
