@@ -5,7 +5,6 @@ binding.py --show FILE..: prints what `hunk show` prints of the files, in the wo
 It ends with status 1 where something does not stand at the place that its row has, also before the fault of a file that is
 refused."""
 
-import ctypes
 import io
 import itertools
 import pathlib
@@ -324,7 +323,7 @@ def wrong_calls(texts):
                 yield f"{error} where the error is wanted: {wanted}"
             if isinstance(error, hunk.HunkError) and len(error.meaning) <= len(error.reason):
                 yield f"{error}: no sentence says what it means"
-    if not is_out_of_memory(lambda: hunk.library.array(ctypes.c_uint64, 1 << 62)):
+    if not is_out_of_memory(lambda: hunk.library.room(1 << 66)):
         yield "an array that no machine can address: no MemoryError is raised"
     calls = (hunk.table, hunk.load, hunk.check, hunk.strip, hunk.read, hunk.spelling, hunk.plain)
     for call, data in itertools.product(calls, (5, list(one), "text")):

@@ -18,6 +18,7 @@ from hunk.building import Part, parts
 from hunk.library import HunkError
 from hunk.loading import BUDGET, load, load_at, table
 from hunk.reading import File, check, read
+from hunk.lists import Rows
 from hunk.rows import (
     Block,
     Data,
@@ -52,6 +53,7 @@ __all__ = [
     "Part",
     "Reference",
     "Relocation",
+    "Rows",
     "Spelling",
     "Symbol",
     "Unit",

@@ -8,10 +8,9 @@ from __future__ import annotations
 
 import ctypes
 import os
-import struct
 import sys
 from ctypes import c_char_p, c_uint8, c_uint32, c_uint64, c_void_p
-from typing import Any, Callable, Iterator, Optional
+from typing import Any, Callable, Optional, Union
 
 from hunk.rows import Data
 
@@ -118,20 +117,26 @@ def number_of(value: int, bits: int, what: str) -> int:
     return value
 
 
-def array(kind: Any, count: int) -> Any:
-    """An array of so many, which a file says. More than the machine can address are a MemoryError, too."""
+def room(size: int) -> bytearray:
+    """So many bytes to write to, which a file says. More than the machine can address are a MemoryError, too."""
     try:
-        return (kind * count)()
+        return bytearray(size)
     except OverflowError as error:
-        raise MemoryError(f"{count} of {kind.__name__}") from error
+        raise MemoryError(f"{size} bytes") from error
 
 
-def rows_of(call: Call, layout: struct.Struct, data: bytes, *words: Any, counted: str = "count") -> Iterator[Any]:
-    """The rows that the call writes. It is asked first how many there are, which this field of its answer says."""
-    wanted = call(data, len(data), *words, None, 0)
-    if wanted.number != NO_ROOM:
-        accepted(wanted)
-    count = getattr(wanted, counted)
-    rows = array(c_uint64, count * layout.size // 8)
-    accepted(call(data, len(data), *words, rows, count))
-    return layout.iter_unpack(rows)
+def address_of(memory: Union[bytearray, memoryview]) -> Optional[int]:
+    """Where bytes that may be written to stand, for a call that is made while they stay as long; of none it is None."""
+    return ctypes.addressof(c_uint8.from_buffer(memory)) if memory else None
+
+
+def rows_of(call: Call, size: int, data: bytes, *words: Any, expected: int = 0) -> bytearray:
+    """The rows of so many bytes that the call writes, with room for as many as are expected. Where they are more, it says how
+    many, and is called again."""
+    rows = room(size * expected)
+    answer = call(data, len(data), *words, address_of(rows), expected)
+    if answer.number == NO_ROOM:
+        rows = room(size * answer.count)
+        answer = call(data, len(data), *words, address_of(rows), answer.count)
+    del rows[size * accepted(answer).count :]
+    return rows

@@ -2,19 +2,18 @@
 
 from __future__ import annotations
 
-import itertools
-import struct
 from ctypes import c_uint8, c_uint32, c_uint64
 from typing import Any, Sequence, Union
 
-from hunk.library import BYTES, ROOM, accepted, array, bytes_of, call, number_of, rows_of
+from hunk.library import BYTES, NO_ROOM, ROOM, accepted, address_of, bytes_of, call, number_of, room
 from hunk.rows import MEMORY, Data, Hunk
 from hunk.spellings import by_plain
 
 # The most bytes that the hunks of a file may have in memory together, where a caller does not say.
 BUDGET = 1 << 24
-# The row of hunk.h.
-ROW = struct.Struct("=4I")
+# So many longwords has a row of hunk.h, and for so many rows there is room before it is known how many they are.
+ROW, FEW = 4, 64
+_Few = c_uint32 * (ROW * FEW)
 
 read_header = call("hunk_table", *BYTES, c_uint64, *ROOM)
 _load = call("hunk_load", *BYTES, *ROOM, *ROOM)
@@ -26,15 +25,32 @@ def _bases(bases: Sequence[int]) -> Any:
     return (c_uint32 * len(bases))(*(number_of(it, 32, "base") for it in bases))
 
 
-def segments_of(memory: Any, sizes: Sequence[int]) -> list[bytes]:
-    ends = list(itertools.accumulate(sizes, initial=0))
-    return [bytes(memoryview(memory)[start:end]) for start, end in zip(ends, ends[1:])]
+def segments_of(memory: bytearray, sizes: Sequence[int]) -> list[bytes]:
+    segments, end, view = [], 0, memoryview(memory)
+    for size in sizes:
+        start, end = end, end + size
+        segments.append(view[start:end].tobytes())
+    return segments
+
+
+def header_of(data: bytes, budget: int) -> tuple[Any, int, int]:
+    """The library's rows of the hunks that the header declares, in longwords, and how many these are: of each hunk its word, its
+    attributes, its bytes and its memory. Then how many bytes the hunks have together."""
+    rows: Any = _Few()
+    number_of(budget, 64, "budget")
+    answer = read_header(data, len(data), budget, rows, FEW)
+    if answer.number == NO_ROOM:
+        more = room(4 * ROW * answer.hunk)
+        rows, answer = memoryview(more).cast("I"), read_header(data, len(data), budget, address_of(more), answer.hunk)
+    accepted(answer)
+    return rows, ROW * answer.hunk, answer.count
 
 
 def table(data: Data, budget: int = BUDGET) -> list[Hunk]:
     """The hunks that the header at the front of the bytes declares. Bytes after it are not read."""
-    rows = rows_of(read_header, ROW, bytes_of(data), number_of(budget, 64, "budget"), counted="hunk")
-    return [Hunk(size, MEMORY[memory], extra, 0, i) for i, (_, extra, size, memory) in enumerate(rows)]
+    rows, end, _ = header_of(bytes_of(data), budget)
+    each = enumerate(zip(rows[1:end:ROW], rows[2:end:ROW], rows[3:end:ROW]))
+    return [Hunk(size, MEMORY[memory], attributes, 0, number) for number, (attributes, size, memory) in each]
 
 
 def load(data: Data, base: Union[int, Sequence[int]] = 0x1000, budget: int = BUDGET, wide: bool = False) -> list[bytes]:
@@ -45,14 +61,15 @@ def load(data: Data, base: Union[int, Sequence[int]] = 0x1000, budget: int = BUD
     if wide:
         return by_plain(lambda text: load(text, base, budget), data)
     data = bytes_of(data)
-    sizes = [hunk.size for hunk in table(data, budget)]
-    memory = array(c_uint8, sum(sizes))
+    rows, end, total = header_of(data, budget)
+    memory = room(total)
     if isinstance(base, int):
-        accepted(_load_packed(data, len(data), number_of(base, 32, "base"), memory, len(memory)))
+        answer = _load_packed(data, len(data), number_of(base, 32, "base"), address_of(memory), total)
     else:
         bases = _bases(base)
-        accepted(_load(data, len(data), bases, len(bases), memory, len(memory)))
-    return segments_of(memory, sizes)
+        answer = _load(data, len(data), bases, len(bases), address_of(memory), total)
+    accepted(answer)
+    return segments_of(memory, rows[2:end:ROW])
 
 
 def load_at(data: Data, bases: Sequence[int], start: int, memory: Union[bytearray, memoryview]) -> int:
@@ -61,6 +78,6 @@ def load_at(data: Data, bases: Sequence[int], start: int, memory: Union[bytearra
     `start` is the address of the first byte of `memory`. Answers how many bytes the hunks have together. Where one of them has no
     base, or does not lie in the memory, that is NoBase, and the memory is as it was, as at each error."""
     data = bytes_of(data)
-    listed, room = _bases(bases), (c_uint8 * memoryview(memory).nbytes).from_buffer(memory)
-    answer = _load_at(data, len(data), listed, len(listed), number_of(start, 32, "start"), room, len(room))
+    listed, place = _bases(bases), (c_uint8 * memoryview(memory).nbytes).from_buffer(memory)
+    answer = _load_at(data, len(data), listed, len(listed), number_of(start, 32, "start"), place, len(place))
     return int(accepted(answer).count)

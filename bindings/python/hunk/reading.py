@@ -2,22 +2,19 @@
 
 from __future__ import annotations
 
-import itertools
-import struct
-from ctypes import c_uint8, c_uint32
+import bisect
 from functools import cached_property
-from typing import Iterator, Optional
+from typing import Any, Optional, Type, TypeVar
 
-from hunk.library import BYTES, NO_ROOM, ROOM, HunkError, accepted, array, bytes_of, call, rows_of
+from hunk.library import BYTES, NO_ROOM, OK, ROOM, HunkError, accepted, address_of, bytes_of, call, room, rows_of
+from hunk.lists import KINDS, Blocks, Entries, Findings, References, Relocations, Rows, Symbols, Units, Warnings, row_of
 from hunk.loading import table
 from hunk.rows import (
-    FAULTS,
     MEMORY,
     WARNINGS,
     Block,
     Data,
     Entry,
-    EntryKind,
     Finding,
     Hunk,
     Kind,
@@ -27,10 +24,10 @@ from hunk.rows import (
     Symbol,
     Unit,
     Warning,
-    flags_of,
-    kind_of,
 )
 from hunk.spellings import by_plain, in_input, spelling
+
+_List = TypeVar("_List", bound=Rows[Any])
 
 _check = call("hunk_check", *BYTES, *ROOM)
 _warnings = call("hunk_warnings", *BYTES, *ROOM, *ROOM)
@@ -39,25 +36,23 @@ _units, _blocks, _symbols, _relocations, _entries, _references = (
     call(f"hunk_{it}", *BYTES, *ROOM) for it in ("units", "blocks", "symbols", "relocations", "entries", "references")
 )
 
-# The rows of hunk.h.
-_FINDING = struct.Struct("=3Q2I8x")
-_WARNING = struct.Struct("=2Q5I4x")
-_UNIT = struct.Struct("=4Q8x")
-_BLOCK = struct.Struct("=8Q2I8x")
-_SYMBOL = struct.Struct("=5QI4x")
-_RELOCATION = struct.Struct("=3Q4I8x")
-_ENTRY = struct.Struct("=6Q2I8x")
-_REFERENCE = struct.Struct("=2Q2I8x")
+# There is room for so many rows before it is known how many a file has.
+FEW = 64
+# Of so many bytes it is worth a look at the blocks how many items a file has, where these are few.
+LARGE = 1 << 16
+CONTENTS = (Kind.CODE, Kind.DATA, Kind.BSS)
+# Those of blocks of relocations.
+OFFSETS = {it for it in Kind if "REL" in it.name}
 
 
-def check(data: Data) -> list[Finding]:
+def check(data: Data) -> Rows[Finding]:
     """What is wrong with the offsets of an object file; of a load file nothing, or it is refused."""
-    rows = rows_of(_check, _FINDING, bytes_of(data))
-    return [Finding(place, unit, hunk, offset, FAULTS[fault]) for place, unit, hunk, offset, fault in rows]
+    return Findings(rows_of(_check, Findings.LAYOUT.size, bytes_of(data)))
 
 
 class File:
-    """What stands in a load file or an object file, in the order of the file. Each list is made when it is first asked for.
+    """What stands in a load file or an object file, in the order of the file. Each list is made when it is first asked for, and
+    each of its rows when that is.
 
     `place` of each item is the byte of `data` at which it begins. `size` is the bytes of the file, which others may follow.
     `spelling` says how the input spelled it: `data` is its plain spelling. `refusal` is None, unless the file was read with
@@ -68,11 +63,15 @@ class File:
         self.data = self._listed = bytes_of(data)
         self.refusal: Optional[HunkError] = None
         self.spelling = Spelling(len(self.data), 0, 0)
-        answer = _blocks(self.data, len(self.data), None, 0)
+        few = FEW if len(self.data) > LARGE else 0
+        rows = room(few * Blocks.LAYOUT.size)
+        answer = _blocks(self.data, len(self.data), address_of(rows), few)
         if answer.number != NO_ROOM:
             accepted(answer)
         self.size: int = answer.place
         self.is_object: bool = answer.hunk == 0
+        self._block_count: int = answer.count
+        self._few = rows if answer.number == OK else None
 
     def __repr__(self) -> str:
         refused = f", {self.refusal}" if self.refusal else ""
@@ -82,77 +81,78 @@ class File:
         """The data of a block, or its name with padding, as it stands in the file."""
         return self.data[block.content : block.content + block.content_bytes]
 
-    def _name(self, place: int, count: int) -> bytes:
-        return self.data[place : place + count]
+    def _rows(self, kind: Type[_List], call: Any, *given: Any, expected: int = FEW) -> _List:
+        return kind(rows_of(call, kind.LAYOUT.size, self._listed, expected=expected), *given)
+
+    def _items(self, *kinds: Kind) -> int:
+        """How many items blocks of these kinds have, as far as that is known without a look at all of a file."""
+        if not self._few:
+            return FEW
+        blocks = self._listed_blocks
+        return sum(items for kind, items in zip(blocks.column("kind"), blocks.column("items")) if kind in kinds)
 
     @cached_property
     def hunks(self) -> list[Hunk]:
-        contents = [it for it in self._listed_blocks if it.kind in (Kind.CODE, Kind.DATA, Kind.BSS)]
+        blocks, size = self._listed_blocks, self.size
         if self.is_object:
-            rows = [Hunk(it.memory, MEMORY[it.flags >> 1], 0, it.unit, it.hunk) for it in contents]
-        else:
-            rows = table(self.data, (1 << 64) - 1)
-        return [row._replace(kind=it.kind if it.place < self.size else None) for row, it in zip(rows, contents)]
+            contents = ((it, it.kind if it.place < size else None) for it in blocks if it.kind in CONTENTS)
+            return [Hunk(it.memory, MEMORY[it.flags >> 1], 0, it.unit, it.hunk, kind) for it, kind in contents]
+        found = zip(blocks.column("kind"), blocks.column("place"))
+        kinds = (KINDS[kind] if place < size else None for kind, place in found if kind in CONTENTS)
+        return [row_of(Hunk, (*it[:5], kind)) for it, kind in zip(table(self.data, (1 << 64) - 1), kinds)]
 
     @cached_property
-    def units(self) -> list[Unit]:
-        rows = rows_of(_units, _UNIT, self._listed)
-        return [Unit(place, self._name(*name), hunks) for place, *name, hunks in rows]
+    def units(self) -> Rows[Unit]:
+        return self._rows(Units, _units, self.data)
 
     @cached_property
-    def _listed_blocks(self) -> list[Block]:
+    def _listed_blocks(self) -> Blocks:
         """The blocks, with those that close what stands before a fault: BSS and END."""
-        rows = rows_of(_blocks, _BLOCK, self._listed)
-        return [
-            Block(place, size, unit, hunk, kind_of(kind), flags_of(flags), content, count, memory, items)
-            for place, size, unit, hunk, content, count, memory, items, kind, flags in rows
-        ]
+        if self._few is None:
+            return self._rows(Blocks, _blocks, expected=self._block_count)
+        return Blocks(self._few[: self._block_count * Blocks.LAYOUT.size])
 
     @cached_property
-    def blocks(self) -> list[Block]:
+    def blocks(self) -> Rows[Block]:
         blocks = self._listed_blocks
-        return [it for it in blocks if it.place < self.size] if self.refusal else blocks
+        return blocks[: bisect.bisect_left(blocks.column("place"), self.size)] if self.refusal else blocks
 
     @cached_property
-    def symbols(self) -> list[Symbol]:
-        rows, data = rows_of(_symbols, _SYMBOL, self._listed), self.data
-        return [Symbol(place, unit, hunk, value, data[at : at + count]) for place, unit, hunk, at, count, value in rows]
+    def symbols(self) -> Rows[Symbol]:
+        return self._rows(Symbols, _symbols, self.data, expected=self._items(Kind.SYMBOL))
 
     @cached_property
-    def relocations(self) -> list[Relocation]:
-        rows = rows_of(_relocations, _RELOCATION, self._listed)
-        return [
-            Relocation(place, unit, hunk, kind_of(kind), width, target, offset)
-            for place, unit, hunk, kind, width, target, offset in rows
-        ]
+    def relocations(self) -> Rows[Relocation]:
+        return self._rows(Relocations, _relocations, expected=self._items(*OFFSETS))
 
     @cached_property
-    def entries(self) -> list[Entry]:
-        references = (Reference._make(row[1:]) for row in rows_of(_references, _REFERENCE, self._listed))
-        return [
-            Entry._make((*row[:3], EntryKind(row[7]), row[6], self._name(*row[3:5]), [*itertools.islice(references, row[5])]))
-            for row in rows_of(_entries, _ENTRY, self._listed)
-        ]
+    def entries(self) -> Rows[Entry]:
+        """The entries of EXT blocks, each with its references."""
+        return self._rows(Entries, _entries, self.data, self.references, expected=self._items(Kind.EXT))
 
     @cached_property
-    def findings(self) -> list[Finding]:
+    def references(self) -> Rows[Reference]:
+        """The references of all entries. Its column `entry` has the number of the entry that each is of."""
+        return self._rows(References, _references)
+
+    @cached_property
+    def findings(self) -> Rows[Finding]:
         """None of a file that is refused, as the target of a relocation may be a hunk after the fault."""
-        return [] if self.refusal else check(self.data)
+        return Findings(bytearray()) if self.refusal else check(self.data)
 
     @cached_property
-    def warnings(self) -> list[Warning]:
+    def warnings(self) -> Rows[Warning]:
         """What is suspicious in a load file. An object file has none, and, as above, a file that is refused has none."""
-        return [*self._each_warning()]
-
-    def _each_warning(self) -> Iterator[Warning]:
-        """One after the other: there may be four for each longword of the file."""
         if self.is_object or self.refusal:
-            return
-        room = array(c_uint32, len(self.data) // 4)
-        for place, hunk, kind, *told in rows_of(_warnings, _WARNING, self.data, room, len(room)):
-            # A library that is newer than this package may have more kinds.
-            if kind in WARNINGS:
-                yield Warning(place, hunk, WARNINGS[kind], *told)
+            return Warnings(bytearray())
+        longs, size = room(len(self.data) // 4 * 4), Warnings.LAYOUT.size
+        rows = rows_of(_warnings, size, self.data, address_of(longs), len(longs) // 4)
+        kinds = Warnings(rows).column("kind")
+        if WARNINGS.keys() >= {*kinds}:
+            return Warnings(rows)
+        # A library that is newer than this package may have more kinds.
+        known = (rows[i * size : (i + 1) * size] for i, kind in enumerate(kinds) if kind in WARNINGS)
+        return Warnings(bytearray().join(known))
 
 
 def _before_fault(data: Data) -> File:
@@ -162,8 +162,8 @@ def _before_fault(data: Data) -> File:
         return File(data)
     except HunkError as error:
         refusal = error
-    text = array(c_uint8, _front(data, len(data), None, 0).count)
-    size = accepted(_front(data, len(data), text, len(text))).place
+    text = room(_front(data, len(data), None, 0).count)
+    size = accepted(_front(data, len(data), address_of(text), len(text))).place
     if size == 0:
         raise refusal
     file = File(bytes(text))

@@ -3,7 +3,6 @@
 from __future__ import annotations
 
 import enum
-from functools import lru_cache
 from typing import NamedTuple, Optional, Sequence, Union
 
 Data = Union[bytes, bytearray, memoryview]
@@ -61,10 +60,6 @@ class Flags(enum.IntFlag):
     """The flags of a block's word."""
 
     ADVISORY, CHIP, FAST = 1, 2, 4
-
-
-# An enumeration is slow to look its members up.
-kind_of, flags_of = lru_cache(maxsize=None)(Kind), lru_cache(maxsize=None)(Flags)
 
 
 class Hunk(NamedTuple):

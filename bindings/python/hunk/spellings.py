@@ -3,10 +3,10 @@
 from __future__ import annotations
 
 import ctypes
-from ctypes import c_uint8, c_uint64
+from ctypes import c_uint64
 from typing import Callable, TypeVar
 
-from hunk.library import BYTES, ROOM, HunkError, accepted, array, bytes_of, call, number_of
+from hunk.library import BYTES, ROOM, HunkError, accepted, address_of, bytes_of, call, number_of, room
 from hunk.rows import Data, Spelling
 
 
@@ -31,8 +31,8 @@ def spelling(data: Data) -> Spelling:
 def plain(data: Data) -> bytes:
     """The plain spelling of a load file with short relocations, or with END left out. Other bytes are as they are."""
     data = bytes_of(data)
-    text = array(c_uint8, spelling(data).size)
-    accepted(_plain(data, len(data), text, len(text)))
+    text = room(spelling(data).size)
+    accepted(_plain(data, len(data), address_of(text), len(text)))
     return bytes(text)
 
 
@@ -59,6 +59,6 @@ def by_plain(call: Callable[[bytes], _Made], data: Data) -> _Made:
 def strip(data: Data) -> bytes:
     """The object file that the bytes are, or the load file that they begin with, without names, symbols and debug data."""
     data = bytes_of(data)
-    text = (c_uint8 * len(data))()
-    written = accepted(_strip(data, len(data), text, len(text))).count
-    return bytes(memoryview(text)[:written])
+    text = room(len(data))
+    written = accepted(_strip(data, len(data), address_of(text), len(text))).count
+    return memoryview(text)[:written].tobytes()

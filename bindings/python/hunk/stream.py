@@ -9,11 +9,11 @@
 from __future__ import annotations
 
 import itertools
-from ctypes import c_uint8, c_uint32, c_uint64, c_void_p
+from ctypes import c_uint32, c_uint64, c_void_p
 from typing import Any, BinaryIO
 
-from hunk.library import BYTES, NO_BASE, NO_ROOM, ROOM, TRUNCATED, accepted, array, bytes_of, call, number_of, refusal, rows_of
-from hunk.loading import BUDGET, ROW, read_header, segments_of
+from hunk.library import BYTES, NO_BASE, NO_ROOM, ROOM, TRUNCATED, accepted, address_of, bytes_of, call, number_of, refusal, room
+from hunk.loading import BUDGET, ROW, header_of, read_header, segments_of
 from hunk.rows import Data
 
 _LOADER_WORDS = 96 // 8
@@ -37,7 +37,7 @@ class Loader:
         self._sizes: list[int] = []
         self._loader = (c_uint64 * _LOADER_WORDS)()
         self._places: Any = (c_uint32 * 0)()
-        self._memory: Any = (c_uint8 * 0)()
+        self._memory = bytearray()
         self.want = 0
         self._read_header(b"")
 
@@ -53,20 +53,20 @@ class Loader:
             accepted(answer)
 
     def _begin(self, total: int) -> None:
-        rows = list(rows_of(read_header, ROW, self._header, self._budget, counted="hunk"))
-        self._sizes = [size for _, _, size, _ in rows]
+        rows, count, _ = header_of(self._header, self._budget)
+        self._sizes = [*rows[2:count:ROW]]
         bases = [self._base + start for start in itertools.accumulate(self._sizes, initial=0)]
         for i, end in enumerate(bases[1:]):
             if end > 1 << 32 or bases[i] >> 32:
                 raise refusal(NO_BASE, len(self._header), i)
-        words = (it for row, base in zip(rows, bases) for it in (row[0], row[1], base))
-        self._places = (c_uint32 * (3 * len(rows)))(*words)
-        self._memory = array(c_uint8, total)
-        accepted(_begin(self._loader, *self._parts()[:2], len(self._header), self._memory, total))
+        words = itertools.chain.from_iterable(zip(rows[:count:ROW], rows[1:count:ROW], bases))
+        self._places = (c_uint32 * (3 * len(self._sizes)))(*words)
+        self._memory = room(total)
+        accepted(_begin(self._loader, *self._parts()[:2], len(self._header), address_of(self._memory), total))
         self.want = accepted(_want(self._loader)).count
 
     def _parts(self) -> tuple[Any, int, Any, int]:
-        return self._places, len(self._sizes), self._memory, len(self._memory)
+        return self._places, len(self._sizes), address_of(self._memory), len(self._memory)
 
     def feed(self, data: Data) -> int:
         """Takes the next bytes of the file, and says how many: all of them, unless the file is whole before their end."""

@@ -12,7 +12,7 @@ from typing import Callable, Iterator, List, NamedTuple, Optional, Tuple
 import hunk
 from hunk.command.disks import Bytes
 from hunk.command.layout import CONTENTS
-from hunk.library import NO_ROOM, OK, ROOM, TRUNCATED, accepted, array, call
+from hunk.library import NO_ROOM, OK, ROOM, TRUNCATED, accepted, address_of, call, room
 
 # The first longwords of a load file as far as it may be accepted: at most 65,536 hunks, of which the first is 0. The first longword
 # of an object file, and that of the length of its name.
@@ -156,8 +156,8 @@ class Finder:
     def _units_at(self, place: int) -> Optional[Units]:
         """What stands before the fault of an object file; None where nothing does."""
         address, most = self._address + place, self._whole_blocks(place)
-        text = array(c_uint8, _front(address, most, None, 0).count)
-        size = accepted(_front(address, most, text, len(text))).place
+        text = room(_front(address, most, None, 0).count)
+        size = accepted(_front(address, most, address_of(text), len(text))).place
         return Units(place, hunk.read(bytes(text)), size) if size else None
 
     def _whole_blocks(self, place: int) -> int:

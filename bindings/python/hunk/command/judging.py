@@ -8,9 +8,6 @@ from typing import Callable, NamedTuple, Optional, Tuple
 
 import hunk
 from hunk.command import inputs, reasons
-from hunk.library import rows_of
-from hunk.reading import _FINDING, _check
-from hunk.rows import FAULTS
 
 LOAD, OBJECT, FINDINGS, WIDE = "load", "object", "findings", "wide"
 CLASSES = (LOAD, OBJECT, FINDINGS, WIDE, *reasons.CLASSES)
@@ -41,9 +38,9 @@ class Row(NamedTuple):
 
 def accepted(file: hunk.File, name: bytes) -> Row:
     """The row of a file that is accepted. Of findings, which may be many, just the first is looked at."""
-    finding = next(rows_of(_check, _FINDING, file.data), None) if file.is_object else None
+    finding = next(iter(file.findings), None) if file.is_object else None
     kind = FINDINGS if finding else OBJECT if file.is_object else LOAD
-    return Row(kind, FAULTS[finding[4]] if finding else None, None, len(file.data) - file.size, name)
+    return Row(kind, finding.fault if finding else None, None, len(file.data) - file.size, name)
 
 
 def refused(error: hunk.HunkError, name: bytes, data: Optional[bytes] = None) -> Row:

@@ -88,7 +88,7 @@ def text_of(it: hunk.Warning, file: hunk.File, names: Names) -> str:
 def rows_of(file: hunk.File) -> Iterator[Dict[str, Any]]:
     """What is told of a file, in its order. A load file has no findings, and an object file no warnings."""
     names = Names(file)
-    for it in file._each_warning():
+    for it in file.warnings:
         yield {"place": it.place, "unit": 0, **it._asdict(), "text": text_of(it, file, names)}
     for finding in file.findings:
         made = finding._asdict()

@@ -1,0 +1,119 @@
+"""lists.py: holds the lists of a File of bindings/python to lists of its rows, and counts what is asked of the library and made.
+Prints what differs, and ends with status 1 where something does."""
+
+import copy
+import pathlib
+import pickle
+import sys
+from unittest import mock
+
+sys.path.insert(0, str(pathlib.Path(__file__).resolve().parents[2] / "bindings/python"))
+import hunk
+import hunk.lists
+import hunk.loading
+import hunk.reading
+
+# A unit `u` of CODE of 8 bytes, with three relocations of hunk 5, one outside; a definition, two references of one name and one
+# of another; and two symbols.
+OBJECT = bytes.fromhex(
+    "000003e7 00000001 75000000 000003e9 00000002 00000000 00000000"
+    "000003ec 00000003 00000000 00000000 00000004 00000008 00000000"
+    "000003ef 01000001 5f610000 00000004 81000001 5f620000 00000002 00000000 00000004 83000001 5f630000 00000001 00000002 00000000"
+    "000003f0 00000001 78000000 00000001 00000002 79797979 7a000000 00000002 00000000 000003f2")
+# A hunk of a longword with 100 symbols `a`, whose values are 0 to 99, and that file with so many more that it is large.
+HEAD = "000003f3 00000000 00000001 00000000 00000000 00000001 000003e9 00000001 00000000 000003f0"
+
+
+def named(count):
+    rows = "".join(f"00000001 61000000 {it:08x}" for it in range(count))
+    return bytes.fromhex(f"{HEAD} {rows} 00000000 000003f2")
+
+
+NAMED, LARGE = named(100), named(6000)
+LISTS = ("units", "blocks", "symbols", "relocations", "entries", "references", "findings", "warnings")
+SLICES = [slice(*it) for it in ((None,), (1, None), (None, -1), (1, 2), (2, 1), (None, None, 2), (None, None, -1), (-1, 0, -2))]
+
+
+def counted(where, name, act):
+    """What `act` answers, and how often it came to the call of this name."""
+    with mock.patch.object(where, name, wraps=getattr(where, name)) as call:
+        return act(), call.call_count
+
+
+def wrong_lists(file):
+    """Where a list of a file is not as the list of its rows is."""
+    for name in LISTS:
+        rows = getattr(file, name)
+        made = [*rows]
+        places = [*range(len(made)), *range(-len(made), 0)]
+        parts = {
+            "length": (len(rows), len(made)),
+            "rows": ([rows[it] for it in places], [made[it] for it in places]),
+            "slices": ([rows[it] for it in SLICES], [made[it] for it in SLICES]),
+            "slices of slices": ([rows[1:][it] for it in SLICES], [made[1:][it] for it in SLICES]),
+            "rows of slices": ([[*rows[it]] for it in SLICES], [made[it] for it in SLICES]),
+            "reversed": ([*reversed(rows)], made[::-1]),
+            "equality": ((rows == made, made == rows, rows != made, rows == [*made, 0], rows == ()), (True, True, False, False, False)),
+            "text": (repr(rows), repr(made)),
+            "pickled": (pickle.loads(pickle.dumps(rows)), made),
+            "a copy": (copy.deepcopy(rows)[::-1], made[::-1]),
+        }
+        numbers = [it for it in rows.columns if made and isinstance(getattr(made[0], it, None), int)]
+        for it in numbers:
+            parts[f"column {it}"] = [*rows.column(it)], [getattr(row, it) for row in made]
+            parts[f"column {it} of slices"] = [[*rows[which].column(it)] for which in SLICES], [
+                [getattr(row, it) for row in made[which]] for which in SLICES]
+        for part, (got, wanted) in parts.items():
+            if got != wanted:
+                yield f"{name}, {part}: {got} where {wanted} is wanted"
+
+
+def opened_and_one():
+    """Of which rows the list of symbols makes one: of none until one is asked for."""
+    symbols = hunk.read(NAMED).symbols
+    return symbols[7].value, symbols[50:][-1].value, len(symbols[3:9])
+
+
+def wrong_calls():
+    offsets = hunk.read(OBJECT).relocations
+    asked = hunk.reading
+    names = hunk.read(OBJECT).entries
+    calls = {
+        "a column": ([*offsets.column("offset")], [0, 4, 8]),
+        "its format": ((offsets.column("offset").format, offsets.column("place").format), ("I", "Q")),
+        "a view and no copy": (offsets.column("offset").obj is offsets[1:].column("place").obj, True),
+        "a view to read": (offsets.column("offset").readonly, True),
+        "numbers of kinds": ([*names.column("kind")], [1, 129, 131]),
+        "places of names": ([OBJECT[it : it + 2] for it in names.column("name")], [b"_a", b"_b", b"_c"]),
+        "references": ([[it.offset for it in entry.references] for entry in names], [[], [0, 4], [2]]),
+        "entries of references": ([*hunk.read(OBJECT).references.column("entry")], [1, 1, 2]),
+        "rows that are made": (counted(hunk.lists, "row_of", opened_and_one), ((7, 99, 6), 2)),
+        "read asks for no list": (counted(asked, "_symbols", lambda: hunk.read(NAMED).size)[1], 0),
+        "a list asks once": (counted(asked, "_relocations", lambda: hunk.read(OBJECT).relocations)[1], 1),
+        "a list is kept": (counted(asked, "_units", lambda: [it.units for it in [hunk.read(OBJECT)] * 3])[1], 1),
+        "many rows": (counted(asked, "_symbols", lambda: len(hunk.read(NAMED).symbols)), (100, 2)),
+        "many rows of a large file": (counted(asked, "_symbols", lambda: len(hunk.read(LARGE).symbols)), (6000, 1)),
+        "load asks once": (counted(hunk.loading, "read_header", lambda: hunk.load(NAMED)), ([bytes(4)], 1)),
+    }
+    for name, (got, wanted) in calls.items():
+        if got != wanted:
+            yield f"{name}: {got} where {wanted} is wanted"
+    for what, call, wanted in (("column", lambda: offsets.column("name"), KeyError), ("row", lambda: offsets[3], IndexError)):
+        try:
+            yield f"{call()} where there is no such {what}"
+        except wanted:
+            pass
+
+
+def main():
+    files = (OBJECT, NAMED, LARGE[:-4] + bytes(4))
+    wrong = [it for data in files for it in wrong_lists(hunk.read(data, partial=True))] + [*wrong_calls()]
+    pickled = pickle.loads(pickle.dumps(hunk.read(OBJECT)))
+    if pickled.entries != hunk.read(OBJECT).entries:
+        wrong.append("a File that was pickled has other entries")
+    print(*wrong, sep="\n", end="\n" if wrong else "")
+    return 1 if wrong else 0
+
+
+if __name__ == "__main__":
+    sys.exit(main())
