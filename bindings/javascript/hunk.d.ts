@@ -69,7 +69,7 @@ export function faultName(fault: number): string;
 /** The name of a warning's kind, as "OddOffset". */
 export function warningName(kind: number): string;
 
-/** The rows of a table. A row is made when it is asked for; `[...rows]` makes all of them. Those of an Input stand in its
+/** The rows of a table. A row is made when it is asked for; `[...rows]` makes all of them, and a column none. Those of an Input stand in its
  * memory, and end with it: to read them then throws. */
 export class Rows<Row> implements Iterable<Row> {
   private constructor();
@@ -78,6 +78,8 @@ export class Rows<Row> implements Iterable<Row> {
   at(i: number): Row;
   /** One field of row i. A name that is no field of these rows throws. */
   get(i: number, name: keyof Row & string): number;
+  /** One field of all rows, in memory of its own: of a place or a count a Float64Array, of the other fields a Uint32Array. */
+  column(name: keyof Row & string): Float64Array | Uint32Array;
   /** The same rows in memory of their own, which stay when an Input is freed. */
   copy(): Rows<Row>;
   [Symbol.iterator](): IterableIterator<Row>;

@@ -11,7 +11,8 @@
 import { bytesOf, callable, longs, MOST_BYTES, MOST_LONG, refuseKind, whole } from "./arguments.js";
 import { Loader } from "./loader.js";
 import { Input, Memory, words } from "./memory.js";
-import { copyOf, LAYOUTS, Rows } from "./rows.js";
+import { copyOf, Rows } from "./rows.js";
+import { LAYOUTS } from "./structs.js";
 
 export * from "./kinds.js";
 export { Input, LAYOUTS, Loader, Rows };

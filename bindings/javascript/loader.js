@@ -2,7 +2,8 @@
 
 import { bytesOf, longs, MOST_BYTES, refuseKind, whole } from "./arguments.js";
 import { Lease, Memory, words } from "./memory.js";
-import { LAYOUTS, Rows } from "./rows.js";
+import { Rows } from "./rows.js";
+import { LAYOUTS } from "./structs.js";
 
 const OK = 0;
 const PIECE = 65536;

@@ -1,7 +1,7 @@
 // The memory of an instance, after the module's own data, in regions: what a call is given, and what it writes.
 
 import { bytesOf, MOST_BYTES, whole } from "./arguments.js";
-import { LAYOUTS, number } from "./rows.js";
+import { LAYOUTS, number } from "./structs.js";
 
 const PAGE = 65536;
 /** Regions begin at multiples of this, which is enough for each struct. */

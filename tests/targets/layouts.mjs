@@ -1,5 +1,5 @@
-// Prints C that compiles where the structs of hunk.h are laid out as bindings/javascript/rows.js reads them.
-import { LAYOUTS } from "../../bindings/javascript/rows.js";
+// Prints C that compiles where the structs of hunk.h are laid out as bindings/javascript/structs.js reads them.
+import { LAYOUTS } from "../../bindings/javascript/structs.js";
 
 const snake = (name) => name.replace(/[A-Z]/g, (letter) => `_${letter.toLowerCase()}`);
 const lines = ['#include "hunk.h"', "#include <stddef.h>"];

@@ -49,6 +49,13 @@ function checked(hunk, bytes) {
   return `accepted ${hunks} ${declared}`;
 }
 
+const LISTS = ["check", "units", "blocks", "symbols", "relocations", "entries", "references", "warnings"];
+
+/** Whether each row has, one by one and in its columns, the numbers that its object has. */
+function agree(rows) {
+  return [...rows].every((row, i) => Object.keys(row).every((name) => rows.get(i, name) === row[name] && rows.column(name)[i] === row[name]));
+}
+
 function declaresTooMuch(hunk, bytes) {
   return told(() => hunk.table(bytes, BUDGET)).toString().endsWith(` ${BUDGET_NUMBER}`);
 }
@@ -80,6 +87,8 @@ for (const table of tables.slice(0, -1)) {
     const isOf = table.endsWith("objects.tsv") || (!table.endsWith("load.tsv") && isObject(bytes));
     if (isOf === isObject(bytes)) {
       hold(`${what}, checked`, wanted, told(() => checked(hunk, bytes)));
+      const rows = () => (LISTS.every((name) => agree(hunk[name](bytes).rows)) ? wanted : "rows that differ from their fields");
+      hold(`${what}, its rows`, wanted, told(rows));
       hold(`${what}, stripped`, wanted, told(() => hunk.strip(bytes) && wanted));
     }
     if (!isOf && !declaresTooMuch(hunk, bytes)) hold(`${what}, loaded`, wanted, told(() => loaded(hunk, bytes)));

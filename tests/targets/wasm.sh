@@ -23,7 +23,7 @@ module() {
 if has WebAssembly node; then
   builds wasm
   node "$here/layouts.mjs" > "$work/layouts.c"
-  "$CC" -std=c11 -Ibindings/c -fsyntax-only "$work/layouts.c" || lack 'bindings/javascript/rows.js and hunk.h differ'
+  "$CC" -std=c11 -Ibindings/c -fsyntax-only "$work/layouts.c" || lack 'bindings/javascript/structs.js and hunk.h differ'
   pass
   node "$here/kinds.mjs" docs/FORMAT.md > "$work/told" || lack "$(head -n 1 "$work/told")"
   pass

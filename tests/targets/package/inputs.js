@@ -51,6 +51,21 @@ function holdGrowth(hunk, bytes) {
   input.free();
 }
 
+/** A column has what the rows have, in memory of its own. */
+function holdColumns(hunk, bytes) {
+  const input = hunk.put(bytes);
+  const { rows } = hunk.blocks(input);
+  const [places, kinds] = [rows.column("place"), rows.column("kind")];
+  hold("columns are of their rows", `${[...places]} ${[...kinds]}` === `24,36,56 ${[KINDS.CODE, KINDS.SYMBOL, KINDS.END]}`);
+  hold("a column is a typed array", places instanceof Float64Array && kinds instanceof Uint32Array);
+  const more = fill(hunk);
+  const grown = hunk.alloc(1);
+  hold("it goes on where the memory grows", String(rows.column("place")) === String(places) && places.length === 3);
+  for (const it of [more, grown, input]) it.free();
+  hold("it stays, and no other is made, when its Input is freed", places[1] === 36 && refuses(TypeError, () => rows.column("place")));
+  hold("a column of no rows", hunk.relocations(bytes).rows.column("offset").length === 0);
+}
+
 /** A list of bases that makes the memory grow as it is read, and a view that it makes invalid by that. */
 function holdLists(hunk, bytes) {
   const input = hunk.put(bytes);
@@ -149,6 +164,7 @@ const module = await beside("hunk32.wasm");
 await holdModules(module);
 for (const hunk of [await open(), await Hunk.open(module)]) {
   holdGrowth(hunk, bytes);
+  holdColumns(hunk, bytes);
   holdLists(hunk, bytes);
   holdFree(hunk, bytes);
   holdMemory(hunk, bytes);

@@ -12,6 +12,8 @@ async function lists(hunk: Hunk, bytes: Uint8Array): Promise<string[]> {
   for (const it of hunk.entries(input.bytes).rows) names.push(entryKindName(it.kind) + nameOf(input, it));
   for (const it of hunk.table(bytes).rows.copy()) names.push(MEMORIES[it.memory] ?? "");
   const place: number = rows.get(0, "place");
+  const kinds: Uint32Array | Float64Array = rows.column("kind");
+  names.push(kindName(kinds[0] ?? place));
   const { text, bytes: end }: { text: Uint8Array; bytes: number } = hunk.front(input);
   names.push(...Array.from(hunk.blocks(text).rows, (it) => String(it.place < end)));
   const warned: Warning[] = [...hunk.warnings(bytes).rows];
@@ -21,6 +23,8 @@ async function lists(hunk: Hunk, bytes: Uint8Array): Promise<string[]> {
   names.push(...parts.map((it) => `${it.what === PARTS.GROUP} ${it.offsetCount}`));
   // @ts-expect-error: a row has no such field
   rows.get(place, "nothing");
+  // @ts-expect-error: nor a column of it
+  rows.column("nothing");
   // @ts-expect-error: a file is no text
   hunk.check("file");
   // @ts-expect-error: an address is no text

@@ -127,9 +127,10 @@ function holdRows(what, hunk, file) {
   const indexes = [...COUNTS, 3, 2 ** 32];
   const fields = [undefined, null, 0, "", "x", "reserved", "toString", "__proto__", Symbol("place"), {}, ["place"]];
   const { at, get } = { at: (i) => rows.at(i), get: (i, name) => rows.get(i, name) };
-  holdAll(Rows, ["at", "get"]);
+  holdAll(Rows, ["at", "get", "column"]);
   holdCall(`${what}: rows.at`, at, [[2], needed("i", indexes)]);
   holdCall(`${what}: rows.get`, get, [[2, "place"], needed("i", indexes), other("name", fields)]);
+  holdCall(`${what}: rows.column`, (name) => rows.column(name), [["place"], other("name", fields)]);
 }
 
 function holdLoader(what, hunk, file) {
