@@ -43,7 +43,7 @@ fn refused(error: &Error) -> Vec<String> {
 fn load_answer(data: &[u8]) -> Vec<String> {
     match hunk::load_packed(data, 0x1000, BUDGET) {
         Ok(segments) => {
-            let total: usize = segments.iter().map(Vec::len).sum();
+            let total: usize = segments.iter().map(<[u8]>::len).sum();
             vec!["accepted".into(), segments.len().to_string(), total.to_string()]
         }
         Err(error) => refused(&error),
@@ -110,7 +110,7 @@ fn wrong_spellings(one: &[u8]) -> Vec<String> {
         ("plain", plain.bytes()[40..] == bytes_of("000003ec00000001000000000000000000000000000003f2")),
         ("plain of a plain file", as_is.bytes() == one && as_is.spelling().is_plain()),
         ("wide", plain.read().unwrap().relocations()[0].offset == 0 && plain.read().unwrap().bytes().len() == 64),
-        ("wide load", plain.load_packed(0x21000, BUDGET) == Ok(vec![bytes_of("0002100000000000")])),
+        ("wide load", plain.load_packed(0x21000, BUDGET).unwrap().into_memory() == bytes_of("0002100000000000")),
         ("wide refusal", Plain::of(&bad).read().unwrap_err().to_string() == "refused at byte 46: BadTarget (23)"),
         ("no wide load", Plain::of(&bad).load_packed(0, BUDGET).unwrap_err().place == 46),
         ("input place", plain.input_place(60) == wide.len() as u64),
@@ -147,6 +147,38 @@ fn wrong_fronts(one: &[u8]) -> Vec<String> {
         ("its findings", begun.findings().is_empty() && begun.relocations().len() == 1),
         ("no front", Front::of(&broken[..27]).is_none() && Front::of(b"text").is_none()),
         ("front of a file", Front::of(one).unwrap().place() == 36 && Front::of(one).unwrap().bytes() == one),
+    ];
+    checks.iter().filter(|(_, holds)| !holds).map(|(name, _)| format!("{name}: another answer")).collect()
+}
+
+/// Which lists of a file were asked for: `made` in how it is displayed.
+fn asked(file: &File) -> usize {
+    format!("{file:?}").matches(": made").count()
+}
+
+/// What is not as it must be where a list is asked for: that is done once, and not before.
+fn wrong_lists(load: &[Row]) -> Vec<String> {
+    let data = &load.iter().find(|row| row.name == "two-hunks").unwrap().data;
+    let (file, same) = (hunk::read(data).unwrap(), hunk::read(data).unwrap());
+    let before = asked(&file);
+    let (first, again) = (file.relocations().as_ptr(), file.relocations().as_ptr());
+    let copy = file.clone();
+    let segments = hunk::load_packed(data, 0x1000, BUDGET).unwrap();
+    let lists: Vec<Vec<u8>> = segments.clone().into();
+    let (base, second) = (segments[0].as_ptr(), segments[1].as_ptr());
+    // A header of 70 hunks of no bytes, more than there is room for at once.
+    let many = [vec![0x3F3, 0, 70, 0, 69], vec![0; 70], [0x3EB, 0, 0x3F2].repeat(70)].concat();
+    let many: Vec<u8> = many.iter().flat_map(|it: &u32| it.to_be_bytes()).collect();
+    let checks = [
+        ("lists before they are asked for", before == 0),
+        ("a list that was asked for", asked(&file) == 1 && first == again),
+        ("the same file", file == same && asked(&same) == 0 && file != hunk::read(&many).unwrap()),
+        ("a copy", copy == file && copy.relocations() == file.relocations()),
+        ("lists of several threads", std::thread::scope(|it| it.spawn(|| file.blocks().len()).join().unwrap()) == file.blocks().len()),
+        ("hunks in one memory", second == base.wrapping_add(segments[0].len()) && segments.len() == 2),
+        ("each hunk", segments.iter().eq(&lists) && segments.iter().len() == 2 && (&segments).into_iter().count() == 2),
+        ("many hunks", hunk::table(&many, BUDGET).unwrap().len() == 70 && hunk::load_packed(&many, 0, BUDGET).unwrap().len() == 70),
+        ("many rows", hunk::read(&many).unwrap().blocks().len() == 140),
     ];
     checks.iter().filter(|(_, holds)| !holds).map(|(name, _)| format!("{name}: another answer")).collect()
 }
@@ -355,6 +387,7 @@ fn main() -> ExitCode {
     let (load, objects) = (rows_of(&paths[0]), rows_of(&paths[1]));
     let mut wrong = wrong_rows(&load, &objects);
     wrong.extend(wrong_calls(&load, &objects));
+    wrong.extend(wrong_lists(&load));
     let one = &load.iter().find(|row| row.name == "one-hunk").unwrap().data;
     wrong.extend(wrong_spellings(one));
     wrong.extend(wrong_fronts(one));

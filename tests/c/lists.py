@@ -90,7 +90,7 @@ def wrong_calls():
         "rows that are made": (counted(hunk.lists, "row_of", opened_and_one), ((7, 99, 6), 2)),
         "read asks for no list": (counted(asked, "_symbols", lambda: hunk.read(NAMED).size)[1], 0),
         "a list asks once": (counted(asked, "_relocations", lambda: hunk.read(OBJECT).relocations)[1], 1),
-        "a list is kept": (counted(asked, "_units", lambda: [it.units for it in [hunk.read(OBJECT)] * 3])[1], 1),
+        "a list is kept": (counted(asked, "_symbols", lambda: [it.symbols for it in [hunk.read(OBJECT)] * 3])[1], 1),
         "many rows": (counted(asked, "_symbols", lambda: len(hunk.read(NAMED).symbols)), (100, 2)),
         "many rows of a large file": (counted(asked, "_symbols", lambda: len(hunk.read(LARGE).symbols)), (6000, 1)),
         "load asks once": (counted(hunk.loading, "read_header", lambda: hunk.load(NAMED)), ([bytes(4)], 1)),

@@ -38,7 +38,7 @@ _units, _blocks, _symbols, _relocations, _entries, _references = (
 
 # There is room for so many rows before it is known how many a file has.
 FEW = 64
-# Of so many bytes it is worth a look at the blocks how many items a file has, where these are few.
+# Of a file of more bytes it is quicker to ask its blocks how many items they have, where these are few, than to ask for that.
 LARGE = 1 << 16
 CONTENTS = (Kind.CODE, Kind.DATA, Kind.BSS)
 # Those of blocks of relocations.
@@ -63,15 +63,12 @@ class File:
         self.data = self._listed = bytes_of(data)
         self.refusal: Optional[HunkError] = None
         self.spelling = Spelling(len(self.data), 0, 0)
-        few = FEW if len(self.data) > LARGE else 0
-        rows = room(few * Blocks.LAYOUT.size)
-        answer = _blocks(self.data, len(self.data), address_of(rows), few)
+        # Units are quickest to ask for.
+        answer = _units(self.data, len(self.data), None, 0)
         if answer.number != NO_ROOM:
             accepted(answer)
         self.size: int = answer.place
         self.is_object: bool = answer.hunk == 0
-        self._block_count: int = answer.count
-        self._few = rows if answer.number == OK else None
 
     def __repr__(self) -> str:
         refused = f", {self.refusal}" if self.refusal else ""
@@ -84,9 +81,16 @@ class File:
     def _rows(self, kind: Type[_List], call: Any, *given: Any, expected: int = FEW) -> _List:
         return kind(rows_of(call, kind.LAYOUT.size, self._listed, expected=expected), *given)
 
+    @cached_property
+    def _few(self) -> tuple[Optional[bytearray], int]:
+        """The library's rows of the blocks where these are few, and how many they are."""
+        rows = room(FEW * Blocks.LAYOUT.size)
+        answer = _blocks(self._listed, len(self._listed), address_of(rows), FEW)
+        return rows[: answer.count * Blocks.LAYOUT.size] if answer.number == OK else None, answer.count
+
     def _items(self, *kinds: Kind) -> int:
-        """How many items blocks of these kinds have, as far as that is known without a look at all of a file."""
-        if not self._few:
+        """How many items the blocks of these kinds have; of a small file, or one with many blocks, what is expected."""
+        if len(self._listed) <= LARGE or self._few[0] is None:
             return FEW
         blocks = self._listed_blocks
         return sum(items for kind, items in zip(blocks.column("kind"), blocks.column("items")) if kind in kinds)
@@ -108,9 +112,8 @@ class File:
     @cached_property
     def _listed_blocks(self) -> Blocks:
         """The blocks, with those that close what stands before a fault: BSS and END."""
-        if self._few is None:
-            return self._rows(Blocks, _blocks, expected=self._block_count)
-        return Blocks(self._few[: self._block_count * Blocks.LAYOUT.size])
+        rows, count = self._few
+        return self._rows(Blocks, _blocks, expected=count) if rows is None else Blocks(rows)
 
     @cached_property
     def blocks(self) -> Rows[Block]:

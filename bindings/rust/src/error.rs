@@ -84,7 +84,17 @@ pub fn rows<R: Clone + Default>(
     Ok(rows)
 }
 
+/// Of so many bytes, a file gets room for as many rows as it may have: that is quicker than to ask how many they are.
+const SMALL: usize = 1 << 15;
+
 /// The rows of one kind of the file that the bytes are, or begin with.
 pub fn listed<R: raw::Listed>(data: &[u8]) -> Result<Vec<R>, Error> {
-    rows(|rows| raw::list(data, rows), |answer| answer.count)
+    let most = if data.len() <= SMALL { data.len() / 4 } else { 0 };
+    let (rows, answer) = raw::list(data, most);
+    if answer.number != raw::NO_ROOM {
+        return accepted(answer).map(|_| rows);
+    }
+    // A file in memory has fewer of anything than it has bytes.
+    let (rows, answer) = raw::list(data, answer.count as usize);
+    accepted(answer).map(|_| rows)
 }

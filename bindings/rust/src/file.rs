@@ -1,8 +1,9 @@
 //! What stands in a file, in lists.
 
 use crate::error::{accepted, listed, Error};
+use crate::lazy::Lazy;
 use crate::row::Bytes;
-use crate::{check, raw, table, Block, Entry, Finding, Hunk, Reference, Relocation, Symbol, Unit};
+use crate::{raw, table, Block, Entry, Finding, Hunk, Reference, Relocation, Symbol, Unit};
 
 /// What stands in the object file that the bytes are, or in the load file that they begin with.
 ///
@@ -18,12 +19,13 @@ use crate::{check, raw, table, Block, Entry, Finding, Hunk, Reference, Relocatio
 ///
 /// # Errors
 ///
-/// As [`check`].
+/// As [`crate::check`].
 pub fn read(data: &[u8]) -> Result<File<'_>, Error> {
     File::read(data)
 }
 
-/// What stands in a load file or an object file: rows in the order of the file, whose names are slices of its bytes.
+/// What stands in a load file or an object file: rows in the order of the file, whose names are slices of its bytes. Each list is
+/// made when it is first asked for, and then kept.
 ///
 /// ```
 /// # let longs = [0x3F3_u32, 0, 2, 0, 1, 2, 1, 0x3E9, 2, 0x4EF9_0000, 0x0000_4E71, 0x3EC, 1, 1, 2, 0, 0x3F0, 1,
@@ -33,19 +35,31 @@ pub fn read(data: &[u8]) -> Result<File<'_>, Error> {
 /// assert_eq!((file.hunks().len(), file.blocks().len(), file.relocations().len()), (2, 6, 1));
 /// # Ok::<(), hunk::Error>(())
 /// ```
-#[derive(Clone, Debug, PartialEq, Eq)]
+#[derive(Clone, Debug)]
 pub struct File<'a> {
     is_object: bool,
-    bytes: Bytes<'a>,
-    hunks: Vec<Hunk>,
-    units: Vec<Unit<'a>>,
-    blocks: Vec<Block<'a>>,
-    symbols: Vec<Symbol<'a>>,
-    relocations: Vec<Relocation>,
-    entries: Vec<Entry<'a>>,
-    references: Vec<Reference>,
-    findings: Vec<Finding>,
+    /// Whether it is the front of one that is refused; then `listed` goes on after `size` with what closes its hunks.
+    is_front: bool,
+    size: usize,
+    listed: Bytes<'a>,
+    hunks: Lazy<Vec<Hunk>>,
+    units: Lazy<Vec<Unit<'a>>>,
+    blocks: Lazy<Vec<Block<'a>>>,
+    symbols: Lazy<Vec<Symbol<'a>>>,
+    relocations: Lazy<Vec<Relocation>>,
+    entries: Lazy<Vec<Entry<'a>>>,
+    references: Lazy<Vec<Reference>>,
+    findings: Lazy<Vec<Finding>>,
 }
+
+/// Files are the same where their bytes are, of which all lists are made.
+impl PartialEq for File<'_> {
+    fn eq(&self, other: &Self) -> bool {
+        (self.is_front, self.size, self.listed) == (other.is_front, other.size, other.listed)
+    }
+}
+
+impl Eq for File<'_> {}
 
 impl<'a> File<'a> {
     /// As [`read`].
@@ -56,37 +70,42 @@ impl<'a> File<'a> {
     ///
     /// # Errors
     ///
-    /// As [`check`].
+    /// As [`crate::check`].
     pub fn read(data: &'a [u8]) -> Result<File<'a>, Error> {
-        let asked = raw::list::<raw::Unit>(data, &mut []);
+        // Units are quickest to ask for.
+        let (_, asked) = raw::list::<raw::Unit>(data, 0);
         let (is_object, size) = (asked.hunk == 0, asked.place as usize);
         if asked.number != raw::NO_ROOM {
             accepted(asked)?;
         }
-        let bytes = Bytes(&data[..size]);
-        let blocks: Vec<Block> = listed(data)?.iter().map(|row| bytes.block(row)).collect();
         Ok(File {
             is_object,
-            hunks: hunks(data, is_object, &blocks)?,
-            units: listed(data)?.iter().map(|row| bytes.unit(row)).collect(),
-            symbols: listed(data)?.iter().map(|row| bytes.symbol(row)).collect(),
-            relocations: listed(data)?.iter().map(Relocation::from).collect(),
-            entries: bytes.entries(&listed(data)?),
-            references: listed(data)?.iter().map(Reference::from).collect(),
-            findings: check(data)?,
-            blocks,
-            bytes,
+            is_front: false,
+            size,
+            listed: Bytes(&data[..size]),
+            hunks: Lazy::default(),
+            units: Lazy::default(),
+            blocks: Lazy::default(),
+            symbols: Lazy::default(),
+            relocations: Lazy::default(),
+            entries: Lazy::default(),
+            references: Lazy::default(),
+            findings: Lazy::default(),
         })
     }
 
     /// The same up to this byte, after which it has only BSS blocks and END. It has no findings: a target may be a hunk after it.
-    pub(crate) fn up_to(mut self, place: usize) -> File<'a> {
-        self.bytes = Bytes(&self.bytes.0[..place]);
-        self.blocks.retain(|it| it.place < place as u64);
-        let whole = self.blocks.iter().filter(|it| it.kind.is_content()).count();
-        self.hunks.iter_mut().skip(whole).for_each(|it| it.kind = None);
-        self.findings.clear();
-        self
+    pub(crate) fn up_to(self, place: usize) -> File<'a> {
+        File { is_front: true, size: place, ..self }
+    }
+
+    /// The rows of a list, which the library writes, as it has accepted the file before.
+    fn rows<R: raw::Listed>(&self) -> Vec<R> {
+        listed(self.listed.0).unwrap_or_default()
+    }
+
+    fn listed_blocks(&self) -> &[Block<'a>] {
+        self.blocks.get(|| self.rows().into_iter().map(|row| self.listed.block(&row)).collect())
     }
 
     /// Whether it is an object file; else it is a load file.
@@ -115,7 +134,7 @@ impl<'a> File<'a> {
     /// ```
     #[must_use]
     pub fn bytes(&self) -> &'a [u8] {
-        self.bytes.0
+        &self.listed.0[..self.size]
     }
 
     /// The hunks, of an object file unit by unit.
@@ -130,7 +149,7 @@ impl<'a> File<'a> {
     /// ```
     #[must_use]
     pub fn hunks(&self) -> &[Hunk] {
-        &self.hunks
+        self.hunks.get(|| self.each_hunk().unwrap_or_default())
     }
 
     /// The units of an object file.
@@ -144,7 +163,7 @@ impl<'a> File<'a> {
     /// ```
     #[must_use]
     pub fn units(&self) -> &[Unit<'a>] {
-        &self.units
+        self.units.get(|| self.rows().into_iter().map(|row| self.listed.unit(&row)).collect())
     }
 
     /// The blocks of all hunks.
@@ -161,7 +180,8 @@ impl<'a> File<'a> {
     /// ```
     #[must_use]
     pub fn blocks(&self) -> &[Block<'a>] {
-        &self.blocks
+        let blocks = self.listed_blocks();
+        &blocks[..blocks.partition_point(|it| it.place < self.size as u64)]
     }
 
     /// The blocks of a hunk.
@@ -180,9 +200,10 @@ impl<'a> File<'a> {
     #[must_use]
     pub fn blocks_of(&self, hunk: &Hunk) -> &[Block<'a>] {
         let wanted = (hunk.unit, hunk.number);
-        let start = self.blocks.partition_point(|it| (it.unit, it.hunk) < wanted);
-        let end = self.blocks.partition_point(|it| (it.unit, it.hunk) <= wanted);
-        &self.blocks[start..end]
+        let blocks = self.blocks();
+        let start = blocks.partition_point(|it| (it.unit, it.hunk) < wanted);
+        let end = blocks.partition_point(|it| (it.unit, it.hunk) <= wanted);
+        &blocks[start..end]
     }
 
     /// The symbols of SYMBOL blocks.
@@ -196,7 +217,7 @@ impl<'a> File<'a> {
     /// ```
     #[must_use]
     pub fn symbols(&self) -> &[Symbol<'a>] {
-        &self.symbols
+        self.symbols.get(|| self.rows().into_iter().map(|row| self.listed.symbol(&row)).collect())
     }
 
     /// The offsets that are relocated.
@@ -210,7 +231,7 @@ impl<'a> File<'a> {
     /// ```
     #[must_use]
     pub fn relocations(&self) -> &[Relocation] {
-        &self.relocations
+        self.relocations.get(|| self.rows::<raw::Relocation>().into_iter().map(Relocation::from).collect())
     }
 
     /// The entries of EXT blocks.
@@ -226,7 +247,7 @@ impl<'a> File<'a> {
     /// ```
     #[must_use]
     pub fn entries(&self) -> &[Entry<'a>] {
-        &self.entries
+        self.entries.get(|| self.listed.entries(self.rows()))
     }
 
     /// The references of all entries.
@@ -241,7 +262,7 @@ impl<'a> File<'a> {
     /// ```
     #[must_use]
     pub fn references(&self) -> &[Reference] {
-        &self.references
+        self.references.get(|| self.rows::<raw::Reference>().into_iter().map(Reference::from).collect())
     }
 
     /// The references of an entry of this file.
@@ -256,7 +277,7 @@ impl<'a> File<'a> {
     /// ```
     #[must_use]
     pub fn references_of(&self, entry: &Entry) -> &[Reference] {
-        &self.references[entry.references.0..entry.references.1]
+        &self.references()[entry.references.0..entry.references.1]
     }
 
     /// What is wrong with the offsets of an object file.
@@ -270,16 +291,20 @@ impl<'a> File<'a> {
     /// ```
     #[must_use]
     pub fn findings(&self) -> &[Finding] {
-        &self.findings
+        self.findings.get(|| {
+            let rows = if self.is_front { Vec::new() } else { self.rows::<raw::Finding>() };
+            rows.into_iter().map(Finding::from).collect()
+        })
     }
-}
 
-/// The hunks of a file with these blocks, of which each hunk has one content block.
-fn hunks(data: &[u8], is_object: bool, blocks: &[Block]) -> Result<Vec<Hunk>, Error> {
-    let contents = blocks.iter().filter(|it| it.kind.is_content());
-    if is_object {
-        return Ok(contents.map(Hunk::from).collect());
+    /// The hunks, each of which has one content block.
+    fn each_hunk(&self) -> Result<Vec<Hunk>, Error> {
+        let contents = self.listed_blocks().iter().filter(|it| it.kind.is_content());
+        let kind = |it: &Block| (it.place < self.size as u64).then_some(it.kind);
+        if self.is_object {
+            return Ok(contents.map(|it| Hunk { kind: kind(it), ..it.into() }).collect());
+        }
+        let declared = table(self.listed.0, u64::MAX)?;
+        Ok(declared.into_iter().zip(contents).map(|(hunk, it)| Hunk { kind: kind(it), ..hunk }).collect())
     }
-    let declared = table(data, u64::MAX)?;
-    Ok(declared.into_iter().zip(contents).map(|(hunk, it)| Hunk { kind: Some(it.kind), ..hunk }).collect())
 }

@@ -48,8 +48,8 @@ pub struct Finding {
     pub fault: Fault,
 }
 
-impl From<&raw::Finding> for Finding {
-    fn from(row: &raw::Finding) -> Finding {
+impl From<raw::Finding> for Finding {
+    fn from(row: raw::Finding) -> Finding {
         let fault = match row.fault {
             1 => Fault::BadTarget,
             _ => Fault::OutsideHunk,
@@ -74,7 +74,7 @@ impl From<&raw::Finding> for Finding {
 ///
 /// An error where the bytes are no object file and do not begin with a load file.
 pub fn check(data: &[u8]) -> Result<Vec<Finding>, Error> {
-    Ok(listed::<raw::Finding>(data)?.iter().map(Finding::from).collect())
+    Ok(listed::<raw::Finding>(data)?.into_iter().map(Finding::from).collect())
 }
 
 /// The object file that the bytes are, or the load file in front, without names, symbols and debug data.

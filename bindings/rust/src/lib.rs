@@ -54,11 +54,13 @@ mod file;
 mod finding;
 mod front;
 mod kind;
+mod lazy;
 mod load;
 mod part;
 mod plain;
 mod raw;
 mod row;
+mod segments;
 mod show;
 mod warning;
 
@@ -71,6 +73,7 @@ pub use load::{load, load_at, load_into, load_packed, table, Hunk, Memory, BUDGE
 pub use part::{parts, Part, PartKind};
 pub use plain::{spelling, Plain, Spelling};
 pub use row::{Block, Entry, Flags, Reference, Relocation, Symbol, Unit};
+pub use segments::{Segments, SegmentsIter};
 pub use warning::{Warning, WarningKind};
 
 /// The number of the interface that this package is written for.

@@ -1,7 +1,7 @@
 //! The table of a load file, and its hunks in memory.
 
-use crate::error::{accepted, addressable, rows, Error};
-use crate::{raw, Kind};
+use crate::error::{accepted, addressable, Error};
+use crate::{raw, Kind, Segments};
 
 /// The most bytes that the hunks of a file may have in memory together, where there is no better limit.
 ///
@@ -91,8 +91,24 @@ impl From<&raw::Row> for Hunk {
 ///
 /// An error where the bytes do not begin with the header of a load file, or its hunks have more bytes than the budget.
 pub fn table(data: &[u8], budget: u64) -> Result<Vec<Hunk>, Error> {
-    let rows = rows(|rows| raw::table(data, budget, rows), |answer| answer.hunk.into())?;
-    Ok((0..).zip(&rows).map(|(number, row)| Hunk { number, ..Hunk::from(row) }).collect())
+    let hunks = |rows: &[raw::Row]| (0..).zip(rows).map(|(number, row)| Hunk { number, ..Hunk::from(row) }).collect();
+    declared(data, budget, hunks)
+}
+
+/// For so many hunks there is room before it is known how many they are.
+const FEW: usize = 64;
+
+/// What is made of the library's rows of the table.
+fn declared<T>(data: &[u8], budget: u64, make: impl FnOnce(&[raw::Row]) -> T) -> Result<T, Error> {
+    let mut few = [raw::Row::default(); FEW];
+    let answer = raw::table(data, budget, &mut few);
+    if answer.number != raw::NO_ROOM {
+        let hunks = accepted(answer)?.hunk as usize;
+        return Ok(make(&few[..hunks]));
+    }
+    let mut rows = vec![raw::Row::default(); answer.hunk as usize];
+    accepted(raw::table(data, budget, &mut rows))?;
+    Ok(make(&rows))
 }
 
 /// The bytes of each hunk of the load file in front, relocated for an address of its own.
@@ -111,7 +127,7 @@ pub fn table(data: &[u8], budget: u64) -> Result<Vec<Hunk>, Error> {
 ///
 /// An error where the bytes do not begin with a load file, its hunks have more bytes than the budget, or one of them has no
 /// base; `OutOfMemory` where they have more bytes than the machine can address.
-pub fn load(data: &[u8], bases: &[u32], budget: u64) -> Result<Vec<Vec<u8>>, Error> {
+pub fn load(data: &[u8], bases: &[u32], budget: u64) -> Result<Segments, Error> {
     segments(data, budget, |memory| raw::load(data, bases, memory))
 }
 
@@ -130,7 +146,7 @@ pub fn load(data: &[u8], bases: &[u32], budget: u64) -> Result<Vec<Vec<u8>>, Err
 /// # Errors
 ///
 /// As [`load`]; `NoBase` where a hunk would pass the address 2^32.
-pub fn load_packed(data: &[u8], base: u32, budget: u64) -> Result<Vec<Vec<u8>>, Error> {
+pub fn load_packed(data: &[u8], base: u32, budget: u64) -> Result<Segments, Error> {
     segments(data, budget, |memory| raw::load_packed(data, base, memory))
 }
 
@@ -180,15 +196,15 @@ pub fn load_at(data: &[u8], bases: &[u32], start: u32, memory: &mut [u8]) -> Res
 }
 
 /// The hunks' bytes, where `load` writes them into memory of just their size.
-fn segments(data: &[u8], budget: u64, load: impl Fn(&mut [u8]) -> raw::Answer) -> Result<Vec<Vec<u8>>, Error> {
-    let hunks = table(data, budget)?;
-    let mut memory = vec![0; addressable(hunks.iter().map(|hunk| hunk.size).sum())?];
+fn segments(data: &[u8], budget: u64, load: impl Fn(&mut [u8]) -> raw::Answer) -> Result<Segments, Error> {
+    let sizes = |rows: &[raw::Row]| rows.iter().map(|row| row.bytes.into()).collect::<Vec<u64>>();
+    let sizes = declared(data, budget, sizes)?;
+    let mut memory = vec![0; addressable(sizes.iter().sum())?];
     accepted(load(&mut memory))?;
-    let mut rest = memory.as_slice();
-    let cut = |hunk: &Hunk| {
-        let (segment, after) = rest.split_at(hunk.size as usize);
-        rest = after;
-        segment.to_vec()
-    };
-    Ok(hunks.iter().map(cut).collect())
+    let mut end = 0;
+    let ends = sizes.iter().map(|&size| {
+        end += size as usize;
+        end
+    });
+    Ok(Segments { ends: ends.collect(), memory })
 }

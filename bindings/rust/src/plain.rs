@@ -1,6 +1,6 @@
 //! Load files in other spellings: their plain spelling.
 
-use crate::{load_packed, raw, Error, File};
+use crate::{load_packed, raw, Error, File, Segments};
 use std::borrow::Cow;
 
 /// How an input spells its file.
@@ -185,7 +185,7 @@ impl<'a> Plain<'a> {
     /// # Errors
     ///
     /// As there, with the place in the input.
-    pub fn load_packed(&self, base: u32, budget: u64) -> Result<Vec<Vec<u8>>, Error> {
+    pub fn load_packed(&self, base: u32, budget: u64) -> Result<Segments, Error> {
         load_packed(&self.text, base, budget).map_err(|error| self.in_input(error))
     }
 }

@@ -1,6 +1,6 @@
 //! The calls and structs of `hunk.h` that this package uses. A length has 64 bits on every machine.
 //!
-//! What is `unsafe` stands here alone. Each call below hands over slices with their own lengths, and writes to no other memory:
+//! What is `unsafe` stands here, and in `lazy.rs`. Each call below hands over slices with their own lengths, and writes to no other memory:
 //! what `hunk.h` asks of a caller. Which library is linked, `build.rs` says.
 
 #![allow(unsafe_code)]
@@ -19,7 +19,7 @@ pub struct Answer {
 }
 
 #[repr(C)]
-#[derive(Clone, Default)]
+#[derive(Clone, Copy, Default)]
 pub struct Row {
     pub word: u32,
     pub extra: u32,
@@ -224,10 +224,16 @@ pub fn abi() -> u32 {
     unsafe { hunk_abi() }
 }
 
-/// Writes the rows of the file that the bytes are, or begin with.
-pub fn list<R: Listed>(data: &[u8], rows: &mut [R]) -> Answer {
+/// The rows of the file that the bytes are, or begin with, where they are at most so many; and what the call answers.
+pub fn list<R: Listed>(data: &[u8], most: usize) -> (Vec<R>, Answer) {
+    let mut rows = Vec::with_capacity(most);
     // SAFETY: the pointers come with the lengths of what they point to. The rows are structs of numbers, as `hunk.h` has them.
-    unsafe { R::CALL(data.as_ptr(), length(data), rows.as_mut_ptr(), length(rows)) }
+    let answer = unsafe { R::CALL(data.as_ptr(), length(data), rows.as_mut_ptr(), most as u64) };
+    if answer.number == OK {
+        // SAFETY: it has written as many rows as it counts, at most those for which there is room.
+        unsafe { rows.set_len(answer.count as usize) };
+    }
+    (rows, answer)
 }
 
 pub fn warnings(data: &[u8], room: &mut [u32], rows: &mut [Warning]) -> Answer {

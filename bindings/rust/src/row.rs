@@ -222,9 +222,9 @@ impl<'a> Bytes<'a> {
         Symbol { place: row.place, unit: row.unit, hunk: row.hunk, value: row.value, name }
     }
 
-    pub fn entries(self, rows: &[raw::Entry]) -> Vec<Entry<'a>> {
+    pub fn entries(self, rows: Vec<raw::Entry>) -> Vec<Entry<'a>> {
         let mut end = 0;
-        let entry = |row: &raw::Entry| {
+        let entry = |row: raw::Entry| {
             let first = end;
             end += row.references as usize;
             Entry {
@@ -237,20 +237,20 @@ impl<'a> Bytes<'a> {
                 references: (first, end),
             }
         };
-        rows.iter().map(entry).collect()
+        rows.into_iter().map(entry).collect()
     }
 }
 
-impl From<&raw::Relocation> for Relocation {
-    fn from(row: &raw::Relocation) -> Relocation {
-        let &raw::Relocation { place, unit, hunk, kind, width, target, offset, .. } = row;
+impl From<raw::Relocation> for Relocation {
+    fn from(row: raw::Relocation) -> Relocation {
+        let raw::Relocation { place, unit, hunk, kind, width, target, offset, .. } = row;
         Relocation { place, unit, hunk, kind: Kind(kind), width, target, offset }
     }
 }
 
-impl From<&raw::Reference> for Reference {
-    fn from(row: &raw::Reference) -> Reference {
-        let &raw::Reference { entry, place, offset, width, .. } = row;
+impl From<raw::Reference> for Reference {
+    fn from(row: raw::Reference) -> Reference {
+        let raw::Reference { entry, place, offset, width, .. } = row;
         Reference { entry, place, offset, width }
     }
 }
