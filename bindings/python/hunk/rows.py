@@ -1,7 +1,6 @@
 """What stands in a hunk file: the rows that the lists of a file have, and the numbers that have names."""
 
-from __future__ import annotations
-
+# Annotations of named tuples are evaluated here: as texts, each is compiled when the package is imported.
 import enum
 from typing import NamedTuple, Optional, Sequence, Union
 
@@ -26,7 +25,7 @@ class _Number(enum.IntEnum):
     """A number of a file that has a name there. One without a name gets a member of its own."""
 
     @classmethod
-    def _missing_(cls, value: object) -> Optional[_Number]:
+    def _missing_(cls, value: object) -> "Optional[_Number]":
         if not isinstance(value, int):
             return None
         member = int.__new__(cls, value)

@@ -1,8 +1,6 @@
 """What a command line names: files, folders with their subfolders, and standard input as `-`. What can't be read or is refused is
 told on standard error, a line each, and the others go on."""
 
-from __future__ import annotations
-
 import argparse
 import contextlib
 import errno
@@ -10,7 +8,7 @@ import io
 import os
 import stat
 import sys
-from typing import BinaryIO, Callable, Iterator, NamedTuple, Optional, Union
+from typing import BinaryIO, Callable, Iterator, List, NamedTuple, Optional, Tuple, Union
 
 import hunk
 from hunk.command import reasons, words
@@ -66,7 +64,7 @@ def add_arguments(parser: argparse.ArgumentParser, wide: bool = True, partial: b
 # ---- Going over names.
 
 
-def listed(folder: bytes) -> list[tuple[bytes, bool]]:
+def listed(folder: bytes) -> List[Tuple[bytes, bool]]:
     """The names in a folder and whether each is a folder, so that the paths below come in the order of their bytes."""
     with os.scandir(folder) as found:
         entries = [(it.name, it.path, it.is_dir(follow_symlinks=False)) for it in found]
@@ -96,7 +94,7 @@ def found_at(name: bytes) -> Iterator[Found]:
         yield Found(name, True)
 
 
-def are_many(names: list[str]) -> bool:
+def are_many(names: List[str]) -> bool:
     """Whether more than one file may be named, so that each gets a head."""
     return len(names) > 1 or os.path.isdir(names[0]) and names[0] != "-"
 

@@ -1,9 +1,7 @@
 """Where the hunks of a file lie, what is in them, and which names stand where."""
 
-from __future__ import annotations
-
 import itertools
-from typing import Iterator, NamedTuple, Union
+from typing import Dict, Iterator, List, NamedTuple, Tuple, Union
 
 import hunk
 
@@ -51,9 +49,9 @@ class Layout:
         found = self.file.data[place.block.content + start : place.block.content + end]
         return int.from_bytes(found.ljust(width, b"\0"), "big")
 
-    def names(self) -> dict[tuple[int, int, int], list[bytes]]:
+    def names(self) -> Dict[Tuple[int, int, int], List[bytes]]:
         """The names of symbols and definitions, by unit, hunk and value."""
-        found: dict[tuple[int, int, int], list[bytes]] = {}
+        found: Dict[Tuple[int, int, int], List[bytes]] = {}
         keys = [(it.name, it.unit, it.hunk, it.value) for it in self.file.symbols]
         keys += [(it.name, it.unit, it.hunk, it.value) for it in self.file.entries if it.kind <= hunk.EntryKind.DEF]
         for name, *key in keys:
