@@ -26,16 +26,16 @@ function tell(file, what, act) {
   console.log(file, what, (least / times).toFixed(2));
 }
 
-const padded = (view, at) => 4 * view.getUint32(at);
+const bytesOf = (view, at) => 4 * view.getUint32(at);
 const RELOC32 = 0x3ec;
 const [SYMBOL, END] = [0x3f0, 0x3f2];
 
 /** The relocations, or the symbols, of a load file whose hunks have CODE or DATA and then one block of these. */
 function* read(bytes) {
   const view = new DataView(bytes.buffer, bytes.byteOffset, bytes.byteLength);
-  let at = 20 + padded(view, 8);
+  let at = 20 + bytesOf(view, 8);
   for (let hunk = 0; at < bytes.length; hunk++) {
-    at += 8 + padded(view, at + 4);
+    at += 8 + bytesOf(view, at + 4);
     const kind = view.getUint32(at);
     at += 4;
     for (let count = view.getUint32(at); kind !== END && count !== 0; count = view.getUint32(at)) {
@@ -61,7 +61,8 @@ const ofRelocation = (row) => row.offset + row.target;
 for (const path of paths) {
   const bytes = readFileSync(path);
   const input = hunk.put(bytes);
-  const [name, of, fields] = path === "symbols" ? ["symbols", ofSymbol, ["value", "nameBytes"]] : ["relocations", ofRelocation, ["offset", "target"]];
+  const [name, of, fields] =
+    path === "symbols" ? ["symbols", ofSymbol, ["value", "nameBytes"]] : ["relocations", ofRelocation, ["offset", "target"]];
   const { rows } = hunk[name](input);
   const total = (each) => {
     let all = 0;

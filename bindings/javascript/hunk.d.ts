@@ -78,7 +78,7 @@ export class Rows<Row> implements Iterable<Row> {
   at(i: number): Row;
   /** One field of row i. A name that is no field of these rows throws. */
   get(i: number, name: keyof Row & string): number;
-  /** One field of all rows, in memory of its own: of a place or a count a Float64Array, of the other fields a Uint32Array. */
+  /** One field of all rows, in memory of its own: a Float64Array where it has 8 bytes in hunk.h, a Uint32Array where it has 4. */
   column(name: keyof Row & string): Float64Array | Uint32Array;
   /** The same rows in memory of their own, which stay when an Input is freed. */
   copy(): Rows<Row>;

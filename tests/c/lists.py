@@ -53,7 +53,7 @@ def wrong_lists(file):
             "slices of slices": ([rows[1:][it] for it in SLICES], [made[1:][it] for it in SLICES]),
             "rows of slices": ([[*rows[it]] for it in SLICES], [made[it] for it in SLICES]),
             "reversed": ([*reversed(rows)], made[::-1]),
-            "equality": ((rows == made, made == rows, rows != made, rows == [*made, 0], rows == ()), (True, True, False, False, False)),
+            "equality": ([rows == made, made == rows, rows != made, rows == [*made, 0], rows == ()], [True, True] + [False] * 3),
             "text": (repr(rows), repr(made)),
             "pickled": (pickle.loads(pickle.dumps(rows)), made),
             "a copy": (copy.deepcopy(rows)[::-1], made[::-1]),

@@ -53,7 +53,8 @@ const LISTS = ["check", "units", "blocks", "symbols", "relocations", "entries", 
 
 /** Whether each row has, one by one and in its columns, the numbers that its object has. */
 function agree(rows) {
-  return [...rows].every((row, i) => Object.keys(row).every((name) => rows.get(i, name) === row[name] && rows.column(name)[i] === row[name]));
+  const is = (i, name, value) => rows.get(i, name) === value && rows.column(name)[i] === value;
+  return [...rows].every((row, i) => Object.entries(row).every(([name, value]) => is(i, name, value)));
 }
 
 function declaresTooMuch(hunk, bytes) {

@@ -9,13 +9,26 @@ import struct
 from operator import eq
 from typing import Any, Callable, ClassVar, Dict, Iterable, Iterator, Sequence, Tuple, TypeVar, Union, overload
 
-from hunk.rows import FAULTS, WARNINGS, Block, Entry, EntryKind, Finding, Flags, Kind, Reference, Relocation, Symbol, Unit, Warning
+from hunk.rows import (
+    FAULTS,
+    WARNINGS,
+    Block,
+    Entry,
+    EntryKind,
+    Finding,
+    Flags,
+    Kind,
+    Reference,
+    Relocation,
+    Symbol,
+    Unit,
+    Warning,
+    row_of,
+)
 
 _Row = TypeVar("_Row")
 _Number = TypeVar("_Number", bound=int)
 Numbers = Iterable[Tuple[int, ...]]
-# A named tuple of its fields, some four times as quick as by its own name.
-row_of: Any = tuple.__new__
 
 
 class _Members(Dict[int, _Number]):

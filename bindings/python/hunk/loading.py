@@ -6,7 +6,7 @@ from ctypes import c_uint8, c_uint32, c_uint64
 from typing import Any, Sequence, Union
 
 from hunk.library import BYTES, NO_ROOM, ROOM, accepted, address_of, bytes_of, call, number_of, room
-from hunk.rows import MEMORY, Data, Hunk
+from hunk.rows import MEMORY, Data, Hunk, row_of
 from hunk.spellings import by_plain
 
 # The most bytes that the hunks of a file may have in memory together, where a caller does not say.
@@ -50,7 +50,7 @@ def table(data: Data, budget: int = BUDGET) -> list[Hunk]:
     """The hunks that the header at the front of the bytes declares. Bytes after it are not read."""
     rows, end, _ = header_of(bytes_of(data), budget)
     each = enumerate(zip(rows[1:end:ROW], rows[2:end:ROW], rows[3:end:ROW]))
-    return [Hunk(size, MEMORY[memory], attributes, 0, number) for number, (attributes, size, memory) in each]
+    return [row_of(Hunk, (size, MEMORY[memory], attributes, 0, number, None)) for number, (attributes, size, memory) in each]
 
 
 def load(data: Data, base: Union[int, Sequence[int]] = 0x1000, budget: int = BUDGET, wide: bool = False) -> list[bytes]:

@@ -7,7 +7,7 @@ from functools import cached_property
 from typing import Any, Optional, Type, TypeVar
 
 from hunk.library import BYTES, NO_ROOM, OK, ROOM, HunkError, accepted, address_of, bytes_of, call, room, rows_of
-from hunk.lists import KINDS, Blocks, Entries, Findings, References, Relocations, Rows, Symbols, Units, Warnings, row_of
+from hunk.lists import KINDS, Blocks, Entries, Findings, References, Relocations, Rows, Symbols, Units, Warnings
 from hunk.loading import table
 from hunk.rows import (
     MEMORY,
@@ -24,6 +24,7 @@ from hunk.rows import (
     Symbol,
     Unit,
     Warning,
+    row_of,
 )
 from hunk.spellings import by_plain, in_input, spelling
 

@@ -2,9 +2,11 @@
 
 # Annotations of named tuples are evaluated here: as texts, each is compiled when the package is imported.
 import enum
-from typing import NamedTuple, Optional, Sequence, Union
+from typing import Any, NamedTuple, Optional, Sequence, Union
 
 Data = Union[bytes, bytearray, memoryview]
+# The row of a class and its fields, some four times as quick as by the name of the class.
+row_of: Any = tuple.__new__
 # How the library numbers what a hunk asks for, and what is wrong with an offset.
 MEMORY = ("any", "chip", "fast", "attributes")
 FAULTS = {1: "BadTarget", 2: "OutsideHunk"}

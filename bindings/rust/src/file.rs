@@ -231,7 +231,7 @@ impl<'a> File<'a> {
     /// ```
     #[must_use]
     pub fn relocations(&self) -> &[Relocation] {
-        self.relocations.get(|| self.rows::<raw::Relocation>().into_iter().map(Relocation::from).collect())
+        self.relocations.get(|| self.rows())
     }
 
     /// The entries of EXT blocks.

@@ -10,6 +10,7 @@ use std::fmt;
 /// assert_eq!(format!("{:?}, {:?}", Kind(0x3E9), Kind(1234)), "CODE, Kind(1234)");
 /// ```
 #[derive(Clone, Copy, PartialEq, Eq, PartialOrd, Ord, Hash)]
+#[repr(transparent)]
 pub struct Kind(pub u32);
 
 /// The type of an EXT entry.

@@ -5,6 +5,8 @@
 
 #![allow(unsafe_code)]
 
+use crate::Relocation;
+
 pub const OK: u32 = 0;
 pub const NO_BASE: u32 = 29;
 pub const OUT_OF_MEMORY: u32 = 31;
@@ -87,19 +89,6 @@ pub struct Symbol {
     pub name_bytes: u64,
     pub value: u32,
     pub reserved: u32,
-}
-
-#[repr(C)]
-#[derive(Clone, Default)]
-pub struct Relocation {
-    pub place: u64,
-    pub unit: u64,
-    pub hunk: u64,
-    pub kind: u32,
-    pub width: u32,
-    pub target: u32,
-    pub offset: u32,
-    pub reserved: u64,
 }
 
 #[repr(C)]
@@ -198,7 +187,7 @@ extern "C" {
 type Lists<R> = unsafe extern "C" fn(*const u8, u64, *mut R, u64) -> Answer;
 
 /// A row of which a file has a list, and the call that writes that.
-pub trait Listed: Clone + Default {
+pub trait Listed {
     const CALL: Lists<Self>;
 }
 

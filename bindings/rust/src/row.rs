@@ -117,7 +117,8 @@ pub struct Symbol<'a> {
 /// assert_eq!((it.hunk, it.offset, it.width, it.target), (0, 2, 4, 1));
 /// # Ok::<(), hunk::Error>(())
 /// ```
-#[derive(Clone, Copy, Debug, PartialEq, Eq)]
+#[repr(C)]
+#[derive(Clone, Copy, PartialEq, Eq)]
 pub struct Relocation {
     /// The byte of the file at which the offset stands.
     pub place: u64,
@@ -133,6 +134,8 @@ pub struct Relocation {
     pub target: u32,
     /// In bytes from the start of the hunk.
     pub offset: u32,
+    /// The library writes these rows as they are.
+    reserved: u64,
 }
 
 /// An entry of an EXT block.
@@ -238,13 +241,6 @@ impl<'a> Bytes<'a> {
             }
         };
         rows.into_iter().map(entry).collect()
-    }
-}
-
-impl From<raw::Relocation> for Relocation {
-    fn from(row: raw::Relocation) -> Relocation {
-        let raw::Relocation { place, unit, hunk, kind, width, target, offset, .. } = row;
-        Relocation { place, unit, hunk, kind: Kind(kind), width, target, offset }
     }
 }
 

@@ -1,6 +1,6 @@
 //! How rows are displayed by `Debug`: names as text, other bytes by their number.
 
-use crate::row::{Block, Bytes, Entry, Symbol, Unit};
+use crate::row::{Block, Bytes, Entry, Relocation, Symbol, Unit};
 use std::fmt;
 
 /// Bytes in `Debug`: a name as text.
@@ -39,6 +39,14 @@ impl fmt::Debug for Symbol<'_> {
         let mut out = f.debug_struct("Symbol");
         out.field("place", &self.place).field("unit", &self.unit).field("hunk", &self.hunk);
         out.field("value", &self.value).field("name", &Name(self.name)).finish()
+    }
+}
+
+impl fmt::Debug for Relocation {
+    fn fmt(&self, f: &mut fmt::Formatter<'_>) -> fmt::Result {
+        let mut out = f.debug_struct("Relocation");
+        out.field("place", &self.place).field("unit", &self.unit).field("hunk", &self.hunk).field("kind", &self.kind);
+        out.field("width", &self.width).field("target", &self.target).field("offset", &self.offset).finish()
     }
 }
 

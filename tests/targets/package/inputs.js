@@ -62,7 +62,8 @@ function holdColumns(hunk, bytes) {
   const grown = hunk.alloc(1);
   hold("it goes on where the memory grows", String(rows.column("place")) === String(places) && places.length === 3);
   for (const it of [more, grown, input]) it.free();
-  hold("it stays, and no other is made, when its Input is freed", places[1] === 36 && refuses(TypeError, () => rows.column("place")));
+  hold("it stays when its Input is freed", places[1] === 36);
+  hold("and then no other is made", refuses(TypeError, () => rows.column("place")));
   hold("a column of no rows", hunk.relocations(bytes).rows.column("offset").length === 0);
 }
 
