@@ -229,6 +229,7 @@ function listen() {
   $("save-plain").addEventListener("click", () => save(file.bytes, `${file.name}.plain`));
   $("save-memory").addEventListener("click", () => save(panels.memory, `${file.name}.memory`));
   $("save-csv").addEventListener("click", () => save(many.csv(), "hunks.csv", "text/csv"));
+  $("save-map").addEventListener("click", () => save(panels.mapSvg(), `${file.name}.svg`, "image/svg+xml"));
   whenSchemeChanges(recolour);
   addEventListener("dragover", (event) => {
     event.preventDefault();

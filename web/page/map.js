@@ -189,7 +189,7 @@ function drawBar(drawing, map, bar, y, colours) {
 }
 
 /** The height that a map needs: of arcs only where there are some. */
-function heightOf(map) {
+export function heightOf(map) {
   const arcs = map.arcs.some(({ from, to }) => from !== to) ? 96 : map.arcs.length > 0 ? 26 : 4;
   return arcs + BAR + 2 * (BAND + GAP);
 }
@@ -211,24 +211,34 @@ export function arcsText({ arcs }) {
   return what + (arcs.length > MOST_ARCS ? left : "");
 }
 
-function drawMap(canvas, map, chosen) {
-  canvas.style.height = `${heightOf(map) + 2}px`;
-  const drawing = prepared(canvas);
-  const style = getComputedStyle(canvas);
-  drawing.scale(canvas.width / canvas.clientWidth, canvas.height / canvas.clientHeight);
-  drawing.font = `12px ${style.fontFamily}`;
+/** Draws a map by the calls of a canvas, in these colours and this width: the height of it comes of that. */
+export function paintMap(drawing, map, { ink, warn, font, width }, chosen = null) {
+  drawing.font = font;
   drawing.textAlign = "center";
   drawing.textBaseline = "middle";
-  lay(map, canvas.clientWidth);
-  const base = canvas.clientHeight - BAR - 2 * (BAND + GAP);
+  lay(map, width);
+  const base = heightOf(map) - BAR - 2 * (BAND + GAP);
   const bar = chosen === null ? -1 : map.barOf(chosen);
   for (const arc of arcsOf(map, bar)) {
     drawing.globalAlpha = bar < 0 ? 0.75 : isOf(arc, bar) ? 1 : 0.1;
     drawArc(drawing, map, arc, base);
   }
   drawing.globalAlpha = 1;
-  const colours = { ink: style.color, warn: style.getPropertyValue("--amber-edge") };
-  for (const it of map.bars) drawBar(drawing, map, it, base, colours);
+  for (const it of map.bars) drawBar(drawing, map, it, base, { ink, warn });
+}
+
+/** The font and the colours that a map has where a canvas stands. */
+export function styleOf(canvas) {
+  const style = getComputedStyle(canvas);
+  const [warn, paper] = ["--amber-edge", "--paper"].map((name) => style.getPropertyValue(name));
+  return { ink: style.color, warn, paper, font: `12px ${style.fontFamily}`, width: canvas.clientWidth };
+}
+
+function drawMap(canvas, map, chosen) {
+  canvas.style.height = `${heightOf(map) + 2}px`;
+  const drawing = prepared(canvas);
+  drawing.scale(canvas.width / canvas.clientWidth, canvas.height / canvas.clientHeight);
+  paintMap(drawing, map, styleOf(canvas), chosen);
 }
 
 /** Where a hunk stands across the picture, and which one stands there: those of one bar share it alike. */

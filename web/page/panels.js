@@ -13,6 +13,7 @@ import { filePlace, memoryPlace, memoryRange } from "./places.js";
 import { whyText } from "./reasons.js";
 import { bringIntoSight } from "./sight.js";
 import { sourceOfFile, sourceOfMemory } from "./sources.js";
+import { mapSvg } from "./svg.js";
 
 /** @typedef {import("./places.js").Target} Target */
 
@@ -116,6 +117,11 @@ export class Panels {
     $("map-arcs").hidden = $("map-arcs").textContent === "";
     this.#tellLegends();
     performance.measure("the map of hunks", { start: began });
+  }
+
+  /** The map as a picture of its own. */
+  mapSvg() {
+    return mapSvg(this.map, $("map-picture"), `${this.file.name}: its hunks`);
   }
 
   #tellLegends() {
