@@ -39,3 +39,5 @@ export class NoForm extends Error {
 export function relocatable(file: ElfInput): Uint8Array;
 /** The program of a load file that is loaded at the base; `memory` has the bytes of each hunk there. */
 export function program(file: ElfInput, base: number, memory: readonly Uint8Array[]): Uint8Array;
+/** Of each hunk whether it is not zero in memory. */
+export function notZero(file: ElfInput): boolean[];

@@ -117,11 +117,11 @@ function symbolsOf({ symbols, entries }) {
   return [...own.filter(({ name }) => name !== ""), ...found.values()];
 }
 
-/** The hunks that are not zero in memory, by their numbers: all but a BSS of which nothing is relocated. */
-const notZero = ({ hunks }, patches) => {
+/** Of each hunk whether it is not zero in memory: all but a BSS of which nothing is relocated. */
+export function notZero(file, patches = patchesOf(file)) {
   const changed = new Set(patches.map(({ hunk }) => hunk));
-  return hunks.map(({ kind }, i) => kind !== KINDS.BSS || changed.has(i));
-};
+  return file.hunks.map(({ kind }, i) => kind !== KINDS.BSS || changed.has(i));
+}
 
 /** A hunk's section, with the content that it gets. */
 function sectionOf({ bytes, memory, kind }, i, address, content, relocations) {
@@ -162,7 +162,7 @@ export function relocatable(file) {
 export function program(file, base, memory) {
   whole("base", base, MOST_LONG);
   refuseUnits(file);
-  const has = notZero(file, patchesOf(file));
+  const has = notZero(file);
   let next = base;
   const sections = file.hunks.map((hunk, i) => {
     const address = next % 2 ** 32;

@@ -48,6 +48,12 @@ export class Contents {
     return number < this.count ? this.get(number, "memory") : 0;
   }
 
+  /** The number of its kind of memory. In an object file the block's word names it: its flags are an advisory bit, and these. */
+  memory(number) {
+    const { table } = this.file;
+    return table ? table.rows.get(number, "memory") : this.get(number, "flags") >> 1;
+  }
+
   /** The name of the block; nothing where the blocks are too many to be listed. */
   name(number) {
     return number < this.count ? blockName(this.get(number, "kind")) : "";

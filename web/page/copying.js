@@ -27,7 +27,9 @@ export async function copyText(text, said, told) {
   }
 }
 
-const cellText = (cell) => String(cell.text ?? cell).replace(/[\t\r\n]/g, " ");
+/** The text of a cell of a grid. */
+export const textOf = (cell) => String(cell.text ?? cell);
+const cellText = (cell) => textOf(cell).replace(/[\t\r\n]/g, " ");
 
 /** Rows of cells as text, a line for each. */
 export const textOfRows = (rows) => rows.map((cells) => `${cells.map(cellText).join("\t")}\n`).join("");

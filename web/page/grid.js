@@ -1,7 +1,8 @@
 // A table of any length, by Scroller: its rows are picked by a click, or by the arrow keys and Enter, and copied with tabs between
 // their cells.
 
-import { copiesFrom, textOfRows } from "./copying.js";
+import { copiesFrom, textOf, textOfRows } from "./copying.js";
+import { csvOf } from "./csv.js";
 import { Scroller, escaped, rowOfKey } from "./scroller.js";
 import { Widths } from "./widths.js";
 
@@ -107,6 +108,13 @@ export class Grid {
   text(from = 0, to = this.rows.count, hasHeads = false) {
     const rows = Array.from({ length: Math.max(0, to - from) }, (_, i) => this.rows.cells(from + i));
     return textOfRows(hasHeads ? [this.columns.map(({ name }) => name), ...rows] : rows);
+  }
+
+  /** All rows as CSV, with the heads. Numbers are without commas in them. */
+  csv() {
+    const plain = (cell, i) => (this.columns[i].isNumber ? textOf(cell).replaceAll(",", "") : textOf(cell));
+    const rows = Array.from({ length: this.rows.count }, (_, i) => this.rows.cells(i).map(plain));
+    return csvOf([this.columns.map(({ name }) => name), ...rows]);
   }
 
   #draw(first, count) {

@@ -1,5 +1,6 @@
 // What the table of many files has of each: a line is an object with some of FIELDS.
 
+import { csvOf } from "./csv.js";
 import { inOrder } from "./dropped.js";
 import { inPlain, summary } from "./file.js";
 import { classOf } from "./reasons.js";
@@ -38,9 +39,5 @@ export function sortLines(lines, field, direction) {
   });
 }
 
-const quoted = (cell) => (/[",\r\n]/.test(cell) ? `"${String(cell).replaceAll('"', '""')}"` : String(cell));
-
-export function csvOf(lines) {
-  const rows = lines.map((line) => FIELDS.map((field) => quoted(line[field] ?? "")));
-  return [FIELDS, ...rows].map((row) => `${row.join(",")}\r\n`).join("");
-}
+/** Lines as they are saved. */
+export const csvOfLines = (lines) => csvOf([FIELDS, ...lines.map((line) => FIELDS.map((field) => line[field] ?? ""))]);

@@ -97,6 +97,15 @@ export class Lists {
     else this.#fill(null, true);
   }
 
+  /** The list that is open, in a word, and its rows as they are shown: sorted, and those that were found. */
+  get name() {
+    return this.tab.list.id;
+  }
+
+  csv() {
+    return this.grid.csv();
+  }
+
   #key(event) {
     const tabs = [...this.tabs.children];
     const step = { ArrowLeft: -1, ArrowRight: 1 }[event.key];

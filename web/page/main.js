@@ -11,6 +11,7 @@ import { FIRST, Opening, entitle } from "./opening.js";
 import { unpacked } from "./packed.js";
 import { Panels } from "./panels.js";
 import { bytesOf, PARTIAL, unreadText } from "./reading.js";
+import { listenToSaving, save, showSaving } from "./saving.js";
 import { showVerdict, tellNone } from "./verdict.js";
 import { Visits } from "./visits.js";
 import { MODULES } from "./data.js";
@@ -56,10 +57,8 @@ function showWhole(bytes, name, which) {
   entitle(name);
   showVerdict(file, (other) => show(file.input, file.name, other));
   panels.show(file);
-  const isRefused = Boolean(file.about.refusal);
-  $("save-stripped").hidden = isRefused;
-  $("save-plain").hidden = !file.about.strict || isRefused;
-  for (const id of ["saved", "copied"]) $(id).textContent = "";
+  showSaving(file);
+  $("copied").textContent = "";
   $("link").hidden = true;
   $("time").textContent = `${(performance.now() - began).toFixed(0)} ms.`;
   tellShown();
@@ -184,22 +183,6 @@ function openLink() {
   } else openExample(said.example || FIRST);
 }
 
-// ---- Saving.
-
-function save(data, name, type = "application/octet-stream") {
-  const link = document.createElement("a");
-  link.href = URL.createObjectURL(new Blob([data], { type }));
-  link.download = name;
-  link.click();
-  setTimeout(() => URL.revokeObjectURL(link.href), 1000);
-}
-
-function saveStripped() {
-  const { text, bytes } = hunk.strip(file.bytes);
-  $("saved").textContent = `${counted(text.length, "byte")} of ${bytes.toLocaleString("en")}`;
-  save(text, `${file.name}.stripped`);
-}
-
 // ---- The module: that of the kit, where the browser takes 64-bit memories, else the one that binaryen made of it.
 
 async function openModule() {
@@ -225,11 +208,8 @@ function listen() {
   $("copy-link").addEventListener("click", () => {
     copyLink(linkOf({ example, bytes: file.input, base: file.table && base.text }), $("link"), $("copied"));
   });
-  $("save-stripped").addEventListener("click", saveStripped);
-  $("save-plain").addEventListener("click", () => save(file.bytes, `${file.name}.plain`));
-  $("save-memory").addEventListener("click", () => save(panels.memory, `${file.name}.memory`));
+  listenToSaving(panels);
   $("save-csv").addEventListener("click", () => save(many.csv(), "hunks.csv", "text/csv"));
-  $("save-map").addEventListener("click", () => save(panels.mapSvg(), `${file.name}.svg`, "image/svg+xml"));
   whenSchemeChanges(recolour);
   addEventListener("dragover", (event) => {
     event.preventDefault();

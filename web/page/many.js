@@ -1,7 +1,7 @@
 // Many files: a line for each, sorted by any column, filtered by class and name, and saved as CSV.
 
 import { Grid } from "./grid.js";
-import { CLASSES, csvOf, lineOf, sortLines, unreadLine } from "./lines.js";
+import { CLASSES, csvOfLines, lineOf, sortLines, unreadLine } from "./lines.js";
 import { counted } from "./names.js";
 import { bytesOf, unreadText } from "./reading.js";
 import { toneOf } from "./reasons.js";
@@ -152,6 +152,6 @@ export class Many {
 
   /** What is shown, as it is saved. */
   csv() {
-    return csvOf(this.shown);
+    return csvOfLines(this.shown);
   }
 }

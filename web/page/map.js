@@ -36,12 +36,6 @@ export class HunkMap {
     return Math.floor((hunk * this.count) / this.hunks);
   }
 
-  /** The number of its kind of memory. In an object file the block's word names it: its flags are an advisory bit, and these. */
-  #memory(hunk) {
-    const { table } = this.file;
-    return table ? table.rows.get(hunk, "memory") : this.contents.get(hunk, "flags") >> 1;
-  }
-
   #warnings(hunk) {
     return this.file.warned().hunks[hunk] ?? 0;
   }
@@ -53,7 +47,7 @@ export class HunkMap {
       bar.bytes += this.contents.bytes(i);
       bar.warnings += this.#warnings(i);
       bar.kinds[this.contents.get(i, "kind") - KINDS.CODE] += 1;
-      bar.memories[this.#memory(i)] += 1;
+      bar.memories[this.contents.memory(i)] += 1;
     }
     return bar;
   }
@@ -103,7 +97,7 @@ export class HunkMap {
   /** What is said of a hunk. */
   text(number) {
     const row = { unit: this.contents.get(number, "unit"), hunk: this.contents.get(number, "hunk") };
-    const memory = memoryName(this.#memory(number));
+    const memory = memoryName(this.contents.memory(number));
     const texts = [whereText(this.file, row), this.contents.name(number), counted(this.contents.bytes(number), "byte"), memory];
     const [first, end] = rowsOfHunk(this.file.list("relocations").rows, row.unit, row.hunk);
     if (end > first) texts.push(counted(end - first, "relocation") + this.#targetsText(number));

@@ -137,7 +137,7 @@ export class Panels {
     const [loaded, error] = file.isTooLarge ? [null, null] : file.load(file.base);
     this.memory = loaded;
     $("memory-note").textContent = loaded ? "" : noMemory(file, error);
-    for (const id of ["memory-legend", "memory-hex", "memory-item", "save-memory"]) $(id).hidden = !loaded;
+    for (const id of ["memory-legend", "memory-hex", "memory-item", "save-loaded"]) $(id).hidden = !loaded;
     const go = (at) => this.jump({ memory: memoryRange(memoryPlace(at), LONG) });
     this.memoryPicture.show(loaded ? memoryScene(file, loaded, go) : null);
   }

@@ -1,6 +1,6 @@
 // Opens the page in a browser, gives it files, and holds what it shows to what the program prints:
-// node selftest.mjs BROWSER PAGE PROGRAM EVERY ONE_OF PICTURES WORK. EVERY is what vectors/every has printed, of which one of
-// ONE_OF inputs is dropped; pictures go into the folder PICTURES, and files into WORK.
+// node selftest.mjs BROWSER PAGE PROGRAM EVERY ONE_OF PICTURES WORK [TEST..]. EVERY is what vectors/every has printed, of which one
+// of ONE_OF inputs is dropped; pictures go into the folder PICTURES, and files into WORK. With names only these tests are run.
 
 import { execFileSync } from "node:child_process";
 import { copyFileSync, mkdirSync, readFileSync, writeFileSync } from "node:fs";
@@ -14,6 +14,7 @@ import { tryMany } from "./many.mjs";
 import { compareCursor } from "./cursor.mjs";
 import { compareMap, comparePictures } from "./pictures.mjs";
 import { compareRefused } from "./refused.mjs";
+import { compareSaving } from "./saving.mjs";
 import { compareKeyboard } from "./keyboard.mjs";
 import { compareStaying } from "./staying.mjs";
 import { compareCopying } from "./copying.mjs";
@@ -25,7 +26,7 @@ import { compareWarned } from "./warned.mjs";
 import { compareWidths } from "./widths.mjs";
 import { takePictures } from "./photos.mjs";
 
-const [browserName, pagePath, program, everyPath, oneOf, pictures, work] = process.argv.slice(2);
+const [browserName, pagePath, program, everyPath, oneOf, pictures, work, ...only] = process.argv.slice(2);
 const { Chromium, Firefox } = { ...(await import("./chromium.mjs")), ...(await import("./firefox.mjs")) };
 const root = new URL("../../", import.meta.url).pathname;
 
@@ -263,6 +264,7 @@ const TESTS = {
   sight: (page) => compareSight(page, hold),
   copying: (page) => compareCopying(page, hold),
   finding: (page) => compareFinding(page, hold),
+  saving: (page) => compareSaving(page, hold, paths),
   spoken: (page) => compareSpoken(page, hold),
   drawn: (page) => compareDrawn(page, hold),
   warned: (page) => compareWarned(page, hold),
@@ -279,7 +281,7 @@ try {
   const page = new Page(browser, pagePath);
   await page.open();
   console.log(`${browserName}: ${await page.in("return document.getElementById('module').textContent")}`);
-  for (const [name, test] of Object.entries(TESTS)) {
+  for (const [name, test] of Object.entries(TESTS).filter(([it]) => only.length === 0 || only.includes(it))) {
     what = name;
     await browser.size(1280, 900);
     await page.open();
