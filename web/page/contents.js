@@ -1,10 +1,7 @@
 // Where the contents of hunks stand in a file. The hunks are numbered through, whichever unit they are of.
 
-import { KINDS } from "../../bindings/javascript/kinds.js";
-import { blockName, lastOf } from "./names.js";
+import { blockName, isContent, lastOf } from "./names.js";
 import { textPlace } from "./places.js";
-
-const isContent = (kind) => kind >= KINDS.CODE && kind <= KINDS.BSS;
 
 /** The number of each unit's first hunk, and of one after the last. */
 function firstHunks(units) {

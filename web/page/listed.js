@@ -68,8 +68,7 @@ function blockRows(file) {
     // A block with content has the memory of its hunk; what others say of one is in no memory.
     target(i) {
       const row = rows.at(i);
-      const isContent = row.kind >= KINDS.CODE && row.kind <= KINDS.BSS;
-      const memory = isContent ? file.inMemory(row.hunk, 0, Infinity) : undefined;
+      const memory = names.isContent(row.kind) ? file.inMemory(row.hunk, 0, Infinity) : undefined;
       return { file: inFile(file, row, row.bytes), memory };
     },
     cells(i) {

@@ -1,7 +1,9 @@
 // Many files: a line for each, sorted by any column, filtered by class and name, and saved as CSV.
 
 import { Grid } from "./grid.js";
-import { CLASSES, csvOfLines, lineOf, sortLines, unreadLine } from "./lines.js";
+import { CLASSES, csvOfLines, lineOf, noteSame, sortLines, unreadLine } from "./lines.js";
+import { missingOf } from "./linking.js";
+import { Missing } from "./missing.js";
 import { counted } from "./names.js";
 import { bytesOf, unreadText } from "./reading.js";
 import { toneOf } from "./reasons.js";
@@ -17,6 +19,10 @@ const COLUMNS = [
   { field: "warnings", name: "warnings", isNumber: true },
   { field: "place", name: "refused at", isNumber: true },
   { field: "reason", name: "reason" },
+  { field: "what", name: "what it is", least: 11 },
+  { field: "sum", name: "sum" },
+  { field: "copy", name: "same as", least: 11 },
+  { field: "undefined", name: "undefined", isNumber: true },
 ];
 
 /** How long lines are gathered before they are shown. */
@@ -50,6 +56,7 @@ export class Many {
     this.choices = ["", ...CLASSES].map((name) => this.#choice(name));
     part("classes").append(...this.choices);
     this.filter.addEventListener("input", () => this.#arrange());
+    this.missing = new Missing(part("missing"), (line) => this.#pick(line));
     this.lines = [];
     this.unread = [];
     this.total = 0;
@@ -79,10 +86,12 @@ export class Many {
     this.#markSorted();
     this.#arrange();
     let told = performance.now();
+    const firsts = new Map();
     for (const found of files) {
       const { line, why } = await lookAt(hunk, found);
       if (run !== this.run) return;
       if (why) this.unread.push({ name: found.name, why });
+      noteSame(line, firsts);
       this.lines.push({ ...line, found });
       if (performance.now() - told > BETWEEN) {
         this.#arrange(true);
@@ -98,6 +107,7 @@ export class Many {
     const text = this.filter.value.trim().toLowerCase();
     const isWanted = (line) => (!this.wanted || line.class === this.wanted) && line.file.toLowerCase().includes(text);
     this.shown = this.lines.filter(isWanted);
+    this.missing.show(missingOf(this.lines));
     if (this.sorted) sortLines(this.shown, COLUMNS[this.sorted.column].field, this.sorted.direction);
     this.#tell();
     const rows = {

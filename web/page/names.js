@@ -20,6 +20,7 @@ export const blockName = kindName;
 export const entryName = entryKindName;
 export const faultText = (fault) => FAULTS[fault] ?? `fault ${fault}`;
 export const flagsText = (flags) => flagNames(flags).join(" ");
+export const isContent = (kind) => kind >= KINDS.CODE && kind <= KINDS.BSS;
 export const isDefinition = (kind) => kind <= ENTRY_KINDS.ABS;
 export const isCommon = (kind) => kind === ENTRY_KINDS.COMMON || kind === ENTRY_KINDS.RELCOMMON;
 

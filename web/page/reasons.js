@@ -2,7 +2,7 @@
 
 import { FOREIGN, REASONS } from "./data.js";
 import { whatIs } from "./foreign.js";
-import { longAt } from "./names.js";
+import { isContent, longAt } from "./names.js";
 
 /** The bits of a block word that are its type; the reason by which the first longword is no hunk file's. */
 const KIND_BITS = 0x1fffffff;
@@ -20,6 +20,23 @@ export function refusalOf(error, bytes) {
   const isThere = place + 4 <= bytes.length;
   const isForeign = place === 0 && (number === NOT_LOAD_FILE || `${number} at byte 0` in REASONS);
   return { number, reason, place, text, word: isThere ? longAt(bytes, place) : 0, what: isForeign ? whatIs(bytes, FOREIGN) : null };
+}
+
+/** A slave of WHDLoad begins with a longword of code and these letters. */
+const SLAVE = "WHDLOADS";
+
+/** What a file is, as `hunk survey --what` has it: of one that is accepted, of which these are the bytes, by its first content; else
+ * by the first bytes, or by the block for which it is refused.
+ * @param {import("./file.js").About} about */
+export function whatOf(hunk, input, bytes, about) {
+  if (about.refusal) return input.length === 0 ? "empty" : (about.refusal.what ?? reasonOf(about.refusal)[3]);
+  if (!(about.hunks > 0)) return "object file";
+  const { rows } = hunk.blocks(bytes);
+  let i = 0;
+  while (!isContent(rows.get(i, "kind"))) i += 1;
+  const { content, contentBytes } = rows.at(i);
+  const first = String.fromCharCode(...bytes.subarray(content, content + contentBytes).subarray(4, 4 + SLAVE.length));
+  return first === SLAVE ? "load file, WHDLoad slave" : "load file";
 }
 
 /** The class of a file, in the words of `hunk survey`.

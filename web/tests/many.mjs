@@ -1,11 +1,16 @@
 // Many files at once, and what can't be read of them: held to what stands here.
 
+import { createHash } from "node:crypto";
 import { mkdirSync, readFileSync, rmSync, writeFileSync } from "node:fs";
 import { createServer } from "node:http";
 
 /** The digits of longwords; words of four characters are given in quotes. */
-const longs = (text) =>
+export const longs = (text) =>
   text.split(/\s+/).map((it) => (it[0] === "'" ? Buffer.from(it.slice(1)).toString("hex") : it.padStart(8, "0"))).join("");
+
+/** The three sums of digits, with commas between them. */
+const sums = (...digits) =>
+  [0, 1, 2].map((i) => (digits[i] ? createHash("sha256").update(Buffer.from(digits[i], "hex")).digest("hex") : "")).join(",");
 
 /** 164 bytes: 16 of code at 21000 with two relocated longs, at 4 and c, and 8 of data; 3 symbols, the last at byte 90. */
 export const LOAD = longs(
@@ -24,16 +29,22 @@ const FILES = Object.entries({
   load: LOAD, 'b, "Two"': LOAD, object: OBJECT, found: FINDINGS, short: SHORT, text: TEXT, bad: DAMAGED, over: OVERLAY,
 });
 
-const CSV = `file,bytes,class,answer,kind,hunks,memory,units,findings,warnings,place,reason,number
-load,164,load,accepted,load file,2,24,,,0,,,
-"b, ""Two""",164,load,accepted,load file,2,24,,,0,,,
-object,28,object,accepted,object file,,,1,0,,,,
-found,48,findings,accepted,object file,,,1,2,,,,
-short,48,wide,refused,load file,,,,,,36,ShortReloc,13
-text,20,no hunk file,refused,other file,,,,,,0,NotLoadFile,1
-bad,164,damaged,refused,load file,,,,,,76,BadOffset,24
-over,40,not supported,refused,load file,,,,,,36,Overlay,11
-`.replaceAll("\n", "\r\n");
+const HEAD = "file,bytes,class,answer,kind,hunks,memory,units,findings,warnings,place,reason,number" +
+  ",what,file sum,program sum,memory sum,same,first,undefined";
+/** The program of LOAD, which is without its symbols, and its memory, without the zeros at the end of the code. */
+const PROGRAM = longs("3f3 0 2 0 1 4 2 3e9 4 4e714e71 4 4e714e71 0 3ec 1 1 4 1 0 c 0 3f2 3ea 2 1 2 3f2");
+const MEMORY = longs("3f3 0 2 0 1 4 2 3e9 3 4e714e71 4 4e714e71 3ec 1 0 c 1 1 4 0 3f2 3e9 2 1 2 3f2");
+const [PLAIN, PLAIN_MEMORY] = ["0 ", ""].map((it) => longs(`3f3 0 1 0 0 1 3e9 ${it ? 1 : 0} ${it}3ec 1 0 0 0 3f2`));
+const LINES = `load,164,load,accepted,load file,2,24,,,0,,,,load file,${sums(LOAD, PROGRAM, MEMORY)},,,
+"b, ""Two""",164,load,accepted,load file,2,24,,,0,,,,load file,${sums(LOAD, PROGRAM, MEMORY)},file,load,
+object,28,object,accepted,object file,,,1,0,,,,,object file,${sums(OBJECT, OBJECT)},,,0
+found,48,findings,accepted,object file,,,1,2,,,,,object file,${sums(FINDINGS, FINDINGS)},,,0
+short,48,wide,refused,load file,,,,,,36,ShortReloc,13,load file,${sums(SHORT, PLAIN, PLAIN_MEMORY)},,,
+text,20,no hunk file,refused,other file,,,,,,0,NotLoadFile,1,text,${sums(TEXT)},,,
+bad,164,damaged,refused,load file,,,,,,76,BadOffset,24,,${sums(DAMAGED)},,,
+over,40,not supported,refused,load file,,,,,,36,Overlay,11,,${sums(OVERLAY)},,,
+`;
+const CSV = `${HEAD}\n${LINES}`.replaceAll("\n", "\r\n");
 
 const NAMES = `return [...document.querySelectorAll("#many-list [data-row] > :first-child")].map((it) => it.textContent).join()`;
 const NOTE = `return document.getElementById("many-note").textContent`;
@@ -102,7 +113,7 @@ async function tryLayout(page, hold) {
       const cells = rows.map((row) => row.children[i]).filter((it) => it.textContent);
       return cells.length > 0 && cells.every((it) => Math.abs(edge(it) - head) < 2);
     }).join()`;
-  hold("heads over their columns", Array(10).fill(true).join(), await page.in(edges));
+  hold("heads over their columns", Array(14).fill(true).join(), await page.in(edges));
   const cut = `return [...document.querySelectorAll("#many-list [data-row] > *")]
     .filter((it) => it.scrollWidth > it.clientWidth).length`;
   hold("texts that are cut", 0, await page.in(cut));
@@ -158,7 +169,7 @@ async function tryUnread(page, hold) {
   hold("what can't be read in a folder", wanted, await page.in(NOTE));
   hold("and the rest", "box/a:b,box/b,box/lost,box/shut,box/\ufffd,box/\ufffd", await page.in(NAMES));
   const lines = (await textOf(page, "save-csv")).split("\r\n");
-  hold("its line", "box/lost,,not judged,unread,,,,,,,,Read,30", lines.find((it) => it.startsWith("box/lost")));
+  hold("its line", "box/lost,,not judged,unread,,,,,,,,Read,30,,,,,,,", lines.find((it) => it.startsWith("box/lost")));
   hold("that names may be left out", false, await page.in(PARTIAL));
   const pick = `[...document.querySelectorAll("#many-list [data-row]")].find((it) => /lost/.test(it.textContent)).click()`;
   await page.shows(() => page.in(pick));
@@ -179,7 +190,8 @@ async function tryNoMemory(page, hold) {
   await page.shows(() => page.in(drop, TEXT));
   const told = "1 could not be read: large (the module's memory can't grow from ";
   hold("a file without memory for it", told, (await page.in(NOTE)).slice(0, told.length));
-  const wanted = "large,,not judged,unread,,,,,,,,Read,30\r\nsmall,20,no hunk file,refused,other file,,,,,,0,NotLoadFile,1\r\n";
+  const small = `small,20,no hunk file,refused,other file,,,,,,0,NotLoadFile,1,text,${sums(TEXT)},,,`;
+  const wanted = `large,,not judged,unread,,,,,,,,Read,30,,,,,,,\r\n${small}\r\n`;
   hold("its line, and the next", wanted, (await textOf(page, "save-csv")).replace(/.*\r\n/, ""));
 }
 

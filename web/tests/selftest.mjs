@@ -5,6 +5,7 @@
 import { execFileSync } from "node:child_process";
 import { copyFileSync, mkdirSync, readFileSync, writeFileSync } from "node:fs";
 import { createServer } from "node:http";
+import { compareArchives } from "./archives.mjs";
 import { compareOpening } from "./opening.mjs";
 import { compareFinding } from "./finding.mjs";
 import { tryLarge } from "./large.mjs";
@@ -252,6 +253,7 @@ const TESTS = {
   folder: (page) => browserName === "chromium" && compareFolder(page),
   served: compareServed,
   table: (page) => tryMany(page, hold, paths),
+  archives: (page) => compareArchives(page, hold, paths),
   fields: (page) => compareFields(page, hold),
   opening: (page) => compareOpening(page, hold, paths),
   refused: (page) => compareRefused(page, hold),
