@@ -40,7 +40,10 @@ function moreOf(hunk, input, { bytes = null, about }) {
   const isLoad = about.hunks > 0;
   const names = bytes && !isLoad ? namesOf(hunk, bytes) : undefined;
   const sums = sumsOf(hunk, input, bytes, isLoad);
-  return { what: whatOf(hunk, input, bytes, about), sums, sum: (sums.program ?? sums.file).slice(0, SHOWN), names };
+  const what = whatOf(hunk, input, bytes, about);
+  // What its class says already.
+  const told = about.refusal || what.includes(",") ? what : undefined;
+  return { what, told, sums, sum: (sums.program ?? sums.file).slice(0, SHOWN), names };
 }
 
 /** Notes of each line the first of its sums that an earlier one has, and the name of that one. */

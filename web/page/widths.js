@@ -14,8 +14,8 @@ const drawing = new OffscreenCanvas(1, 1).getContext("2d");
 const measured = (text) => Math.ceil(drawing.measureText(String(text).replace(/\d/g, "0")).width) + SLACK;
 
 export class Widths {
-  /** `columns`: {name, isNumber, isRest, least}, of which the one with `isRest` has the rest of the room. Its texts are whole, or
-   *  where it says so have that many ems at least. */
+  /** `columns`: {name, isNumber, isRest, least, isOptional}, of which the one with `isRest` has the rest of the room. Its texts are
+   *  whole, or where it says so have that many ems at least. One that is optional has no room while nothing is in it. */
   constructor(box, columns, isSorted) {
     const { fontFamily } = getComputedStyle(box);
     drawing.font = `600 12px ${fontFamily}`;
@@ -27,7 +27,7 @@ export class Widths {
 
   /** Begins anew, for other rows. */
   clear() {
-    this.widths = [...this.heads];
+    this.widths = this.heads.map((head, i) => (this.columns[i].isOptional ? 0 : head));
   }
 
   /** Has room for rows of a table of so many. */
@@ -44,8 +44,9 @@ export class Widths {
     for (const row of rows) {
       row.forEach((cell, i) => {
         const { least } = this.columns[i];
+        if ((cell.text ?? cell) === "") return;
         const width = measured(cell.text ?? cell) + (cell.chip ? CHIP : 0);
-        this.widths[i] = Math.max(this.widths[i], least ? Math.min(width, least * em) : width);
+        this.widths[i] = Math.max(this.widths[i], this.heads[i], least ? Math.min(width, least * em) : width);
       });
     }
     this.#apply();

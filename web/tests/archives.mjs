@@ -57,7 +57,7 @@ const FOREIGN = {
 async function compareKinds(page, hold) {
   await page.drop(Object.entries(FOREIGN).map(([name, [digits]]) => [name, digits]));
   const cells = `return [...document.querySelectorAll("#many-list [data-row]")].map((it) => it.children[10].textContent).join("|")`;
-  hold("what files are", "LhA archive|empty||load file, WHDLoad slave|load file", await page.in(cells));
+  hold("what files are", "LhA archive|empty||load file, WHDLoad slave|", await page.in(cells));
   const one = (await linesOf(page)).at(-1);
   hold("the sums of docs/SUMS.md", Array(3).fill(ONE_SUM).join(), [one["file sum"], one["program sum"], one["memory sum"]].join());
 }
