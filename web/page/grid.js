@@ -17,8 +17,8 @@ let grids = 0;
 /** @typedef {{ count: number, cells: (i: number) => Cell[], pick: (i: number) => void }} GridRows */
 
 export class Grid {
-  /** `columns`: {name, isNumber, isRest, least}, as Widths takes them. `rows.cells(i)` gives the texts of a row; `rows.pick(i)` is
-   *  called for it. `onSort(column)` is called for a head that is pressed, where it is given. */
+  /** `columns`, as Widths takes them. `rows.cells(i)` gives the texts of a row; `rows.pick(i)` is called for it. `onSort(column)` is
+   *  called for a head that is pressed, where it is given. */
   constructor(box, label, columns, onSort = null) {
     this.id = `grid${grids++}`;
     this.columns = columns;
@@ -34,7 +34,6 @@ export class Grid {
     box.setAttribute("aria-colcount", columns.length);
     box.tabIndex = 0;
     box.style.setProperty("--row", `${HEIGHT}px`);
-    box.style.setProperty("--gaps", columns.length - 1);
     this.box = box;
     this.widths = new Widths(box, columns, Boolean(onSort));
     this.#addHeads(onSort);
@@ -48,8 +47,11 @@ export class Grid {
     this.#listen();
     for (const it of [box, this.body]) copiesFrom(it, () => this.text(...this.#chosen));
     // A scrollbar of the body comes and goes; the head has the width of the rows.
-    const fit = () => box.style.setProperty("--bar", `${this.body.offsetWidth - this.body.clientWidth}px`);
-    new ResizeObserver(fit).observe(this.scroller.tall);
+    const fit = () => {
+      box.style.setProperty("--bar", `${this.body.offsetWidth - this.body.clientWidth}px`);
+      this.#fit();
+    };
+    for (const it of [this.scroller.tall, box]) new ResizeObserver(fit).observe(it);
   }
 
   #listen() {
@@ -85,8 +87,23 @@ export class Grid {
       this.widths.clear();
     }
     this.widths.sample(rows.cells, rows.count);
+    this.#fit();
     this.box.setAttribute("aria-rowcount", rows.count + 1);
     this.scroller.setCount(rows.count, isSamePlace ? this.scroller.top : 0);
+  }
+
+  /** Leaves the columns for which there is room, and tells which others there are. */
+  #fit() {
+    this.widths.fit();
+    this.head.title = this.widths.leftText ?? "";
+  }
+
+  /** Tells by which column the rows are sorted, {column, direction}, or that they are not. */
+  markSorted(sorted) {
+    [...this.head.children].forEach((head, i) => {
+      if (i !== sorted?.column) head.removeAttribute("aria-sort");
+      else head.setAttribute("aria-sort", sorted.direction > 0 ? "ascending" : "descending");
+    });
   }
 
   /** The width in which nothing is cut. */

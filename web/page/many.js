@@ -12,17 +12,17 @@ const COLUMNS = [
   { field: "file", name: "file", isRest: true, least: 10 },
   { field: "bytes", name: "bytes", isNumber: true },
   { field: "class", name: "class" },
-  { field: "hunks", name: "hunks", isNumber: true, isOptional: true },
-  { field: "memory", name: "in memory", isNumber: true, isOptional: true },
-  { field: "units", name: "units", isNumber: true, isOptional: true },
-  { field: "findings", name: "findings", isNumber: true, isOptional: true },
-  { field: "warnings", name: "warnings", isNumber: true, isOptional: true },
-  { field: "place", name: "refused at", isNumber: true, isOptional: true },
-  { field: "reason", name: "reason", isOptional: true },
-  { field: "told", name: "what it is", isOptional: true, least: 10 },
-  { field: "undefined", name: "undefined", isNumber: true, isOptional: true },
-  { field: "copy", name: "same as", isOptional: true, least: 9 },
-  { field: "sum", name: "sum" },
+  { field: "hunks", name: "hunks", isNumber: true, isOptional: true, leaves: 5 },
+  { field: "memory", name: "in memory", isNumber: true, isOptional: true, leaves: 2 },
+  { field: "units", name: "units", isNumber: true, isOptional: true, leaves: 3 },
+  { field: "findings", name: "findings", isNumber: true, isOptional: true, leaves: 8 },
+  { field: "warnings", name: "warnings", isNumber: true, isOptional: true, leaves: 10 },
+  { field: "place", name: "refused at", isNumber: true, isOptional: true, leaves: 4 },
+  { field: "reason", name: "reason", isOptional: true, leaves: 11 },
+  { field: "told", name: "what it is", isOptional: true, least: 10, leaves: 6 },
+  { field: "undefined", name: "undefined", isNumber: true, isOptional: true, leaves: 9 },
+  { field: "copy", name: "same as", isOptional: true, least: 9, leaves: 7 },
+  { field: "sum", name: "sum", leaves: 1 },
 ];
 
 /** How long lines are gathered before they are shown. */
@@ -83,7 +83,7 @@ export class Many {
     Object.assign(this, { lines: [], unread: [], total: files.length, wanted: "", sorted: null });
     this.filter.value = "";
     this.partial.textContent = partial;
-    this.#markSorted();
+    this.grid.markSorted(this.sorted);
     this.#arrange();
     let told = performance.now();
     const firsts = new Map();
@@ -149,15 +149,8 @@ export class Many {
   sort(column) {
     const direction = this.sorted?.column === column ? -this.sorted.direction : 1;
     this.sorted = { column, direction };
-    this.#markSorted();
+    this.grid.markSorted(this.sorted);
     this.#arrange();
-  }
-
-  #markSorted() {
-    [...this.grid.head.children].forEach((head, i) => {
-      if (i !== this.sorted?.column) head.removeAttribute("aria-sort");
-      else head.setAttribute("aria-sort", this.sorted.direction > 0 ? "ascending" : "descending");
-    });
   }
 
   /** What is shown, as it is saved. */

@@ -1,4 +1,4 @@
-// How wide the columns of a table are: each as what is in it, and one has the rest of the room.
+// How wide the columns of a table are: each as what is in it, and some have the rest of the room. Where they have none, some leave.
 
 /** How many rows are measured before a table is shown. Those that are drawn later are measured then. */
 const SAMPLED = 200;
@@ -10,12 +10,20 @@ const SORTED = " ▲";
 
 const drawing = new OffscreenCanvas(1, 1).getContext("2d");
 
+/** Columns that have left are not drawn: a class of the table has the number of each. */
+const MOST_COLUMNS = 16;
+const left = (i) => `.left-${i} :is(.head, [data-row]) > :nth-child(${i + 1}) { display: none }`;
+document.head.append(Object.assign(document.createElement("style"), {
+  textContent: Array.from({ length: MOST_COLUMNS }, (_, i) => left(i)).join("\n"),
+}));
+
 /** Digits have one width, that of 0. */
 const measured = (text) => Math.ceil(drawing.measureText(String(text).replace(/\d/g, "0")).width) + SLACK;
 
 export class Widths {
-  /** `columns`: {name, isNumber, isRest, least, isOptional}, of which the one with `isRest` has the rest of the room. Its texts are
-   *  whole, or where it says so have that many ems at least. One that is optional has no room while nothing is in it. */
+  /** `columns`: {name, isNumber, isRest, least, isOptional, leaves}, of which those with `isRest` have the rest of the room. Texts are
+   *  whole, or where a column says so have that many ems at least. One that is optional leaves while nothing is in it; others leave
+   *  a table that is too narrow for all, those of the lowest `leaves` first. */
   constructor(box, columns, isSorted) {
     const { fontFamily } = getComputedStyle(box);
     drawing.font = `600 12px ${fontFamily}`;
@@ -56,9 +64,41 @@ export class Widths {
     return this.widths.reduce((sum, width) => sum + width, 0);
   }
 
+  /** How wide these columns are, with what is between them and at their sides. */
+  #wide(columns) {
+    const { gap, sides } = this.#around();
+    return columns.reduce((sum, i) => sum + this.widths[i], 0) + gap * (columns.length - 1) + sides;
+  }
+
+  #around() {
+    const style = getComputedStyle(this.box);
+    const of = (name) => parseFloat(style.getPropertyValue(name)) || 0;
+    return { gap: of("--gap"), sides: 2 * of("--side") + of("--bar") };
+  }
+
+  /** The numbers of the columns for which there is room. */
+  #fitting() {
+    const found = this.columns.map((_, i) => i).filter((i) => this.widths[i] > 0);
+    const going = found.filter((i) => this.columns[i].leaves).sort((one, other) => this.columns[other].leaves - this.columns[one].leaves);
+    const { clientWidth } = this.box;
+    while (clientWidth > 0 && going.length > 0 && this.#wide(found) > clientWidth) found.splice(found.indexOf(going.pop()), 1);
+    return found;
+  }
+
+  /** Lets columns leave or come back, as after a change of the table's width. */
+  fit() {
+    if (this.widths.length > 0) this.#apply();
+  }
+
   #apply() {
-    const columns = this.widths.map((width, i) => (this.columns[i].isRest ? `minmax(${width}px, 1fr)` : `${width}px`));
-    this.box.style.setProperty("--columns", columns.join(" "));
-    this.box.style.setProperty("--least", `${this.sum}px`);
+    const { box } = this;
+    const there = this.#fitting();
+    this.columns.forEach((_, i) => box.classList.toggle(`left-${i}`, !there.includes(i)));
+    const one = (i) => (this.columns[i].isRest ? `minmax(${this.widths[i]}px, 1fr)` : `${this.widths[i]}px`);
+    box.style.setProperty("--columns", there.map(one).join(" "));
+    box.style.setProperty("--least", `${there.reduce((sum, i) => sum + this.widths[i], 0)}px`);
+    box.style.setProperty("--gaps", String(there.length - 1));
+    const gone = this.columns.filter((column, i) => this.widths[i] > 0 && !there.includes(i));
+    this.leftText = gone.length > 0 ? `No room for ${gone.map(({ name }) => name).join(", ")}: copied and saved with the rest` : "";
   }
 }

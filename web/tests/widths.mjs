@@ -1,6 +1,7 @@
 // The columns of tables: as wide as what is in them, so that common lists fit a phone and a window of 980 pixels.
 
-import { PROGRAM } from "./program.mjs";
+import { DAMAGED, PROGRAM } from "./program.mjs";
+import { digits } from "./texts.mjs";
 
 const WINDOWS = [390, 800, 980, 981, 1000, 1110, 1120, 1280, 1800, 1920, 2560];
 const LISTS = ["hunks", "blocks", "symbols", "relocations"];
@@ -32,7 +33,47 @@ const NARROW = `
     return isCut || (names?.checkVisibility() && names.getBoundingClientRect().left + 50 > room);
   }).length`;
 
+/** Files of which each column of the table of many has something: the third has a finding, and a name that none defines. */
+const FILES = [
+  ["a program with a name of some length", PROGRAM],
+  ["the same program", PROGRAM],
+  ["object", digits(`
+    000003e7 00000000 000003e9 00000001 00000000 000003ec 00000001 00000007 00000000 00000000
+    000003ef 81000001 5f660000 00000001 00000000 00000000 000003f2`)],
+  ["damaged", DAMAGED],
+  ["text", "54657874"],
+];
+
+/** How much wider the table of many files is than its box, and the columns that are seen, and whether the others are told. */
+const MANY = `
+  const grid = document.getElementById("many-list");
+  const heads = [...grid.querySelectorAll("[role=columnheader]")];
+  const seen = heads.filter((it) => it.checkVisibility());
+  const isTold = seen.length === heads.length || /^No room for .*sum/.test(grid.querySelector(".head").title);
+  return [grid.scrollWidth - grid.clientWidth, ["file", "bytes", "class"].every((it) => seen.some((head) => head.textContent === it)), isTold].join()`;
+
+async function compareMany(page, hold) {
+  for (const width of WINDOWS) {
+    await page.browser.size(width, 800);
+    await page.browser.touch(width === 390);
+    await page.open();
+    await page.drop(FILES);
+    hold(`the table of many files at ${width} pixels`, "0,true,true", await page.in(MANY));
+  }
+  await page.browser.touch(false);
+  await page.browser.size(1280, 900);
+  const there = `return [...document.querySelectorAll("#many-list [role=columnheader]")].filter((it) => it.checkVisibility()).length`;
+  const wide = await page.in(there);
+  await page.browser.size(800, 900);
+  await page.in("await new Promise((done) => setTimeout(done, 200))");
+  hold("columns that leave a narrow window", true, (await page.in(there)) < wide);
+  await page.browser.size(1280, 900);
+  await page.in("await new Promise((done) => setTimeout(done, 200))");
+  hold("columns that come back", wide, await page.in(there));
+}
+
 export async function compareWidths(page, hold) {
+  await compareMany(page, hold);
   for (const width of WINDOWS) {
     await page.browser.size(width, 800);
     await page.browser.touch(width === 390);
