@@ -45,7 +45,7 @@ export class Grid {
     box.append(this.body);
     this.scroller = new Scroller(this.body, HEIGHT, (first, count) => this.#draw(first, count), () => this.#nameActive());
     this.#listen();
-    for (const it of [box, this.body]) copiesFrom(it, () => this.text(...this.#chosen));
+    for (const it of [box, this.body]) copiesFrom(it, () => this.text(...this.chosen));
     // A scrollbar of the body comes and goes; the head has the width of the rows.
     const fit = () => {
       box.style.setProperty("--bar", `${this.body.offsetWidth - this.body.clientWidth}px`);
@@ -117,7 +117,7 @@ export class Grid {
   }
 
   /** The first row that is chosen, and the one behind the last. */
-  get #chosen() {
+  get chosen() {
     return [Math.min(this.active, this.anchor), Math.min(Math.max(this.active, this.anchor) + 1, this.rows.count)];
   }
 
@@ -152,7 +152,7 @@ export class Grid {
   }
 
   #isChosen(i) {
-    const [from, to] = this.#chosen;
+    const [from, to] = this.chosen;
     return i >= from && i < to;
   }
 

@@ -2,6 +2,7 @@
 
 import { Hunk } from "../../bindings/javascript/hunk.js";
 import { BaseField } from "./base.js";
+import { Compared } from "./compared.js";
 import { droppedFiles, pickedFiles } from "./dropped.js";
 import { Examined } from "./file.js";
 import { copyLink, fromHex, linkAt, linkOf, readLink } from "./link.js";
@@ -28,6 +29,7 @@ let run = 0;
 const panels = new Panels();
 const opening = new Opening(document.querySelectorAll("#examples a"), $("example"));
 const many = new Many($("many"), (found) => openFile(found, many.visit));
+const compared = new Compared($("compare"));
 const base = new BaseField($("base"), $("base-note"), rebase);
 const visits = new Visits(revisit);
 
@@ -53,6 +55,7 @@ function showWhole(bytes, name, which) {
   file = new Examined(hunk, bytes, name, which);
   file.base = base.address;
   document.body.classList.add("has-file");
+  compared.close();
   opening.mark(example);
   entitle(name);
   showVerdict(file, (other) => show(file.input, file.name, other));
@@ -84,6 +87,7 @@ function closeFile(text) {
 
 /** Says why no file is shown. */
 function showNone(text, title) {
+  compared.close();
   opening.mark(null);
   entitle(title);
   closeFile(text);
@@ -142,6 +146,36 @@ async function openAll({ files, isPartial }) {
   await openTable(table);
 }
 
+/** Reads two files, and shows them beside each other. */
+async function readPair(visit) {
+  const ownRun = ++run;
+  const read = await Promise.all(visit.pair.map((found) => bytesOf(found)));
+  if (ownRun !== run) return;
+  example = null;
+  const names = visit.pair.map(({ name }) => name);
+  const unread = read.map(({ why }, i) => ({ name: names[i], why })).filter(({ why }) => why);
+  showNone(unreadText(unread), names.join(" and "));
+  if (unread.length === 0) compared.show(read.map(({ bytes }, i) => new Examined(hunk, bytes, names[i])));
+  tellShown();
+}
+
+async function openPair(pair, table = null) {
+  const visit = { table, pair };
+  visits.add(visit);
+  showMany(table);
+  await readPair(visit);
+}
+
+/** What is shown, as a file that was found. */
+const shownFile = () => ({ file: new File([file.input], file.name), name: file.name });
+
+/** Shows the two of the table that are chosen beside each other. */
+function openTwo() {
+  const pair = many.pair();
+  if (pair) openPair(pair, many.visit);
+  else many.tellPair();
+}
+
 /** The field is empty afterwards, so that the same file can be picked again, as after a change of it. */
 async function openPicked(field) {
   const files = pickedFiles(field);
@@ -152,7 +186,10 @@ async function openPicked(field) {
 /** Shows again what was shown at a place of the history, or what the address says there. */
 async function revisit(visit) {
   if (!visit) openLink();
-  else if (!visit.found) await openTable(visit.table);
+  else if (visit.pair) {
+    showMany(visit.table);
+    await readPair(visit);
+  } else if (!visit.found) await openTable(visit.table);
   else {
     showMany(visit.table);
     await readFile(visit);
@@ -209,6 +246,12 @@ function listen() {
     copyLink(linkOf({ example, bytes: file.input, base: file.table && base.text }), $("link"), $("copied"));
   });
   listenToSaving(panels);
+  $("compare-two").addEventListener("click", openTwo);
+  $("pick-other").addEventListener("change", () => {
+    const [other] = pickedFiles($("pick-other"));
+    $("pick-other").value = "";
+    if (other) openPair([shownFile(), other]);
+  });
   $("save-csv").addEventListener("click", () => save(many.csv(), "hunks.csv", "text/csv"));
   whenSchemeChanges(recolour);
   addEventListener("dragover", (event) => {

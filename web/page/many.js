@@ -153,6 +153,17 @@ export class Many {
     this.#arrange();
   }
 
+  /** The two files that are chosen, or those of a table of two; nothing where it is not two. */
+  pair() {
+    const [from, to] = this.shown.length === 2 ? [0, 2] : this.grid.chosen;
+    return to - from === 2 ? this.shown.slice(from, to).map(({ found }) => found) : null;
+  }
+
+  /** Says how two are chosen. */
+  tellPair() {
+    this.summary.textContent = "Choose two rows: one by a click, the next with Shift and an arrow key, or Shift and a click.";
+  }
+
   /** What is shown, as it is saved. */
   csv() {
     return csvOfLines(this.shown);

@@ -47,6 +47,10 @@ function acceptedTexts({ about, input, end }) {
   return [`A${what.slice(1)}${rest}.`];
 }
 
+/** What a file is, in a sentence.
+ * @param {import("./file.js").Examined} file */
+export const verdictText = (file) => (file.about.refusal ? refusalTexts(file.about, file.fault) : acceptedTexts(file))[0];
+
 /** Tells a first sentence in large letters, and what else there is to tell.
  * @param {string[]} texts
  * @param {string} tone */

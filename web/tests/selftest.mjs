@@ -6,6 +6,7 @@ import { execFileSync } from "node:child_process";
 import { copyFileSync, mkdirSync, readFileSync, writeFileSync } from "node:fs";
 import { createServer } from "node:http";
 import { compareArchives } from "./archives.mjs";
+import { compareCompared } from "./compared.mjs";
 import { compareOpening } from "./opening.mjs";
 import { compareFinding } from "./finding.mjs";
 import { tryLarge } from "./large.mjs";
@@ -254,6 +255,7 @@ const TESTS = {
   served: compareServed,
   table: (page) => tryMany(page, hold, paths),
   archives: (page) => compareArchives(page, hold, paths),
+  compared: (page) => compareCompared(page, hold, paths),
   fields: (page) => compareFields(page, hold),
   opening: (page) => compareOpening(page, hold, paths),
   refused: (page) => compareRefused(page, hold),

@@ -1,0 +1,114 @@
+// Two files beside each other: in what they are the same, what differs, and where that stands in each.
+
+import { differences } from "./differences.js";
+import { Grid } from "./grid.js";
+import { HexView } from "./hexview.js";
+import { ItemLine } from "./itemline.js";
+import { counted } from "./names.js";
+import { save } from "./saving.js";
+import { sourceOfFile } from "./sources.js";
+import { SUMS, sumsOf } from "./sums.js";
+import { verdictText } from "./verdict.js";
+
+/** @typedef {import("./file.js").Examined} Examined */
+/** @typedef {import("./differences.js").Difference} Difference */
+
+const COLUMNS = [
+  { name: "hunk", isNumber: true },
+  { name: "what differs", least: 24 },
+  { name: "in A", least: 12 },
+  { name: "in B", isRest: true, least: 12 },
+];
+const LONG = 4;
+
+/** Why two files have no memory to compare, as `hunk same` says it. */
+function whyNone(files) {
+  const object = files.findIndex((it) => !it.table);
+  return object < 0 ? "relocated longwords overlap" : `${"AB"[object]} is an object file`;
+}
+
+/** The lines of `hunk same`: for each of the sums whether both have the same.
+ * @param {Examined[]} files */
+export function sameLines(files) {
+  const [a, b] = files.map(({ hunk, input, bytes, table }) => sumsOf(hunk, input, bytes, Boolean(table)));
+  return SUMS.map((name) => {
+    if (!a[name] || !b[name]) return `${name}: not compared, as ${whyNone(files)}`;
+    return `${name}: ${a[name] === b[name] ? "same" : "different"}`;
+  });
+}
+
+/** A file of two, with its name, what it is, and its bytes. */
+class Part {
+  constructor(box) {
+    this.name = box.querySelector("strong");
+    this.verdict = box.querySelector("span");
+    const [hex, item] = box.querySelectorAll("div");
+    this.view = new HexView(hex, `${box.id.slice(-1).toUpperCase()}, as hexadecimal digits`, new ItemLine(item, (it) => this.pick(it)));
+  }
+
+  show(file) {
+    this.name.textContent = file.name;
+    this.verdict.textContent = verdictText(file);
+    const length = file.fault === undefined ? file.input.length : Math.max(file.input.length, file.fault + LONG);
+    this.view.show(file.input, 0, length, sourceOfFile(file));
+  }
+
+  /** Marks where a target stands. */
+  pick(target) {
+    this.view.unpick();
+    if (target?.file) this.view.pick(target.file.from, target.file.to);
+  }
+}
+
+export class Compared {
+  constructor(section) {
+    const part = (name) => section.querySelector(`#compare-${name}`);
+    this.section = section;
+    this.parts = [new Part(part("a")), new Part(part("b"))];
+    this.same = part("same");
+    this.told = part("told");
+    this.list = part("list");
+    this.grid = new Grid(this.list, "What differs", COLUMNS);
+    this.button = part("save");
+    this.button.addEventListener("click", () => save(this.text(), "differences.txt", "text/plain"));
+    /** @type {Difference[]} */
+    this.found = [];
+  }
+
+  /** Shows two files.
+   * @param {Examined[]} files */
+  show(files) {
+    this.section.hidden = false;
+    const refused = files.findIndex((it) => it.about.refusal || !it.hasBlocks);
+    this.same.textContent = refused < 0 ? sameLines(files).join(", ") : "";
+    this.found = refused < 0 ? [...differences(files[0], files[1])] : [];
+    this.told.textContent = refused < 0 ? this.#summary() : `Nothing is compared: ${"AB"[refused]} is refused, or is more than this page lists.`;
+    for (const it of [this.list, this.button]) it.hidden = this.found.length === 0;
+    files.forEach((file, i) => this.parts[i].show(file));
+    this.grid.show({ count: this.found.length, cells: (i) => this.#cells(this.found[i]), pick: (i) => this.#pick(this.found[i]) });
+    if (this.found.length > 0) this.#pick(this.found[0]);
+  }
+
+  #summary() {
+    if (this.found.length === 0) return "Nothing differs: A and B are the same, byte for byte.";
+    return `${counted(this.found.length, "difference")}: what only one of both has stands on its side.`;
+  }
+
+  #cells({ where, what, a, b }) {
+    return [where, what, a, b];
+  }
+
+  /** @param {Difference} difference */
+  #pick({ inA, inB }) {
+    [inA, inB].forEach((target, i) => this.parts[i].pick(target));
+  }
+
+  /** What differs, in the lines of `hunk diff --items`. */
+  text() {
+    return this.found.map(({ text }) => `${text}\n`).join("");
+  }
+
+  close() {
+    this.section.hidden = true;
+  }
+}
