@@ -2,6 +2,7 @@
 
 import { HunkError } from "../../bindings/javascript/hunk.js";
 import { Contents } from "./contents.js";
+import { Defined } from "./defined.js";
 import { Front } from "./front.js";
 import { Labels } from "./labels.js";
 import { Parts } from "./parts.js";
@@ -227,6 +228,13 @@ export class Examined {
   labels() {
     this.made.labels ??= new Labels(this);
     return this.made.labels;
+  }
+
+  /** The symbols of any file by their places in its hunks. */
+  symbols() {
+    if (this.table) return this.labels();
+    this.made.symbols ??= new Defined(this);
+    return this.made.symbols;
   }
 
   /** Its warnings by their places; only a load file that is accepted has any. */

@@ -1,7 +1,8 @@
 // The rows of a list in which something is found: a text in a name, or a number.
 
 import { nameOf } from "../../bindings/javascript/hunk.js";
-import { blockName, numberOf, shown } from "./names.js";
+import { textOf } from "./copying.js";
+import { numberOf, shown } from "./names.js";
 
 /** How long rows are looked through before the page is let do something else. */
 const SLICE = 30;
@@ -18,17 +19,25 @@ function isAt(file, hunk, offset, { number }) {
   return number !== null && (number === offset || (file.table && number === (file.base + file.starts[hunk] + offset) >>> 0));
 }
 
-/** By the name of a list: whether row i is what is sought. */
+const hasText = (cell, text) => textOf(cell).toLowerCase().includes(text);
+
+/** Whether a row has what is sought in a column: a number as it is, of other texts a part. */
+function isInColumn({ cells, columns }, i, column, { text }) {
+  const cell = cells(i)[column];
+  return columns[column].isNumber ? textOf(cell).replaceAll(",", "") === text : hasText(cell, text);
+}
+
+/** By the name of a list: whether row i is what is sought, in any column. */
 const FINDS = {
   symbols(file, i, sought) {
     const { rows } = file.list("symbols");
     return isAt(file, rows.get(i, "hunk"), rows.get(i, "value"), sought) || isNamed(file, rows, i, sought);
   },
   // The names of their kinds have digits, too.
-  relocations(file, i, sought) {
+  relocations(file, i, sought, listed) {
     const { rows } = file.list("relocations");
     if (sought.number !== null) return isAt(file, rows.get(i, "hunk"), rows.get(i, "offset"), sought);
-    return blockName(rows.get(i, "kind")).toLowerCase().includes(sought.text);
+    return listed.cells(i).some((cell) => hasText(cell, sought.text));
   },
   entries(file, i, sought) {
     const { rows } = file.list("entries");
@@ -44,24 +53,29 @@ const FINDS = {
 
 /** A box above a list, which leaves the rows in which something is found. */
 export class Filter {
-  /** `show(found, isSame)` is called with the numbers of these rows, rising; with null where all are left. `isSame` says that the
-   *  same is sought again. */
-  constructor(list, file, show) {
+  /** `listed` are the rows of the list. `show(found, isSame)` is called with the numbers of those in which it is found, rising; with
+   *  null where all are left. `isSame` says that the same is sought again. */
+  constructor(list, file, listed, show) {
     this.list = list;
     this.file = file;
+    this.listed = listed;
     this.show = show;
     this.run = 0;
     this.field = document.createElement("input");
     this.field.type = "search";
-    this.field.placeholder = list === "relocations" ? "offset, as 1a4" : "name, or offset as 1a4";
+    this.field.placeholder = "name, or offset as 1a4";
     this.field.autocomplete = "off";
     this.field.setAttribute("aria-label", `Filter ${list}`);
     this.field.addEventListener("input", () => this.look(this.field.value));
+    this.column = document.createElement("select");
+    this.column.setAttribute("aria-label", "Column that is filtered");
+    this.column.append(new Option("anywhere", ""), ...listed.columns.map(({ name }, i) => new Option(`in ${name}`, String(i))));
+    this.column.addEventListener("change", () => this.look(this.field.value));
     this.told = document.createElement("span");
     this.told.setAttribute("role", "status");
     this.box = document.createElement("p");
     this.box.className = "filter";
-    this.box.append(this.field, this.told);
+    this.box.append(this.field, this.column, this.told);
   }
 
   static isFor(list) {
@@ -82,12 +96,13 @@ export class Filter {
 
   /** The rows that are sought, unless something else is sought by then. */
   async #find(sought, run) {
-    const finds = FINDS[this.list];
+    const column = this.column.value;
+    const finds = column === "" ? FINDS[this.list] : (_, i) => isInColumn(this.listed, i, Number(column), sought);
     const { length } = this.file.list(this.list).rows;
     const found = [];
     let began = performance.now();
     for (let i = 0; i < length && run === this.run; i++) {
-      if (finds(this.file, i, sought)) found.push(i);
+      if (finds(this.file, i, sought, this.listed)) found.push(i);
       if (i % STEP > 0 || performance.now() - began < SLICE) continue;
       await new Promise((done) => setTimeout(done));
       began = performance.now();

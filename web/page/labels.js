@@ -71,12 +71,27 @@ export class Labels {
     return found;
   }
 
-  /** The last label of the same hunk that is not after a byte, and how far after it that stands. */
-  before(at) {
-    const last = lastOf(this.sorted.length, (i) => this.#place(i), at);
-    const { starts } = this.file;
-    if (last < 0 || this.#place(last) < starts[lastAt(starts, at)]) return "";
+  get count() {
+    return this.sorted.length;
+  }
+
+  /** The last label of a hunk that is not after an offset of it, and how far after it that stands: {name, past}; null where there is
+   *  none, or the offset is not in the hunk. */
+  nearest(hunk, offset) {
+    const { starts, table } = this.file;
+    const at = starts[hunk] + offset;
+    const last = offset < table.rows.get(hunk, "bytes") ? lastOf(this.sorted.length, (i) => this.#place(i), at) : -1;
+    if (last < 0 || this.#place(last) < starts[hunk]) return null;
     const place = this.#place(last);
-    return this.#name(this.#first(place)) + (place === at ? "" : ` + ${hex(at - place)}`);
+    return { name: this.#name(this.#first(place)), past: at - place };
+  }
+
+  /** The same of a byte of the memory, as text. */
+  before(at) {
+    const { starts } = this.file;
+    const hunk = lastAt(starts, at);
+    const found = this.nearest(hunk, at - starts[hunk]);
+    if (!found) return "";
+    return found.name + (found.past === 0 ? "" : ` + ${hex(found.past)}`);
   }
 }

@@ -5,16 +5,20 @@ import { KINDS } from "../../bindings/javascript/kinds.js";
 import { stateOfHunk } from "./front.js";
 import * as names from "./names.js";
 import { textPlace } from "./places.js";
+import { relocationRows } from "./relocated.js";
 import { offsetText, warningTarget, warningText } from "./warned.js";
 
 /** @typedef {import("./file.js").Examined} Examined */
-/** @typedef {{ name: string, isNumber?: boolean, isRest?: boolean, least?: number }} Column */
-/** A list: `target(i)` says where a row stands, and `cells(i)` is its texts.
+/** @typedef {{ name: string, isNumber?: boolean, isRest?: boolean, least?: number, leaves?: number }} Column */
+/** A list: `target(i)` says where a row stands, `cells(i)` is its texts, and a list that is sorted has for each column the `keys` of
+ * its rows.
  * @typedef {{ columns: Column[], count: number, target: (i: number) => import("./places.js").Target,
- *   cells: (i: number) => any[] }} Listed */
+ *   cells: (i: number) => any[], keys?: ((i: number) => any)[] }} Listed */
 
 const { counted, hex, shown } = names;
 const LONG = 4;
+/** A unit and a hunk as one number that rises through a list. */
+const UNIT = 2 ** 21;
 
 const text = (name) => ({ name });
 const number = (name) => ({ name, isNumber: true });
@@ -112,24 +116,13 @@ function symbolRows(file) {
       const address = isLoad ? [hex((file.base + file.starts[row.hunk] + row.value) >>> 0)] : [];
       return [placeText(file, row), whereOf(file, row), hex(row.value), ...address, nameIn(file, row)];
     },
-  };
-}
-
-/** @type {(file: Examined) => Listed} */
-function relocationRows(file) {
-  const { rows } = file.list("relocations");
-  return {
-    columns: [text("at"), number("hunk"), text("offset"), number("target"), rest("kind")],
-    count: rows.length,
-    target(i) {
-      const row = rows.at(i);
-      return { file: inFile(file, row, LONG), memory: file.inMemory(row.hunk, row.offset, row.width) };
-    },
-    cells(i) {
-      const row = rows.at(i);
-      const target = { text: row.target, chip: names.hunkColour(row.target) };
-      return [placeText(file, row), whereOf(file, row), hex(row.offset), target, names.blockName(row.kind)];
-    },
+    keys: [
+      (i) => rows.get(i, "place"),
+      (i) => rows.get(i, "unit") * UNIT + rows.get(i, "hunk"),
+      (i) => rows.get(i, "value"),
+      ...(isLoad ? [(i) => (file.base + file.starts[rows.get(i, "hunk")] + rows.get(i, "value")) >>> 0] : []),
+      (i) => nameIn(file, rows.at(i)),
+    ],
   };
 }
 

@@ -5,6 +5,7 @@ import { Filter } from "./filter.js";
 import { Grid } from "./grid.js";
 import { LISTS } from "./listed.js";
 import { counted } from "./names.js";
+import { ordered, sortedBy } from "./ordered.js";
 
 export class Lists {
   /** `pick(target)` is called for the target of a row that is picked. */
@@ -61,6 +62,8 @@ export class Lists {
     this.tab = tab;
     this.filter = null;
     this.grid = null;
+    this.found = null;
+    this.sorted = null;
     this.panel.setAttribute("aria-labelledby", tab.id);
     const box = document.createElement("div");
     this.panel.replaceChildren(box);
@@ -73,21 +76,33 @@ export class Lists {
       box.textContent = `These are ${count.toLocaleString("en")}: more than this page lists.`;
       return;
     }
-    this.grid = new Grid(box, this.tab.textContent, rows.columns);
+    this.grid = new Grid(box, this.tab.textContent, rows.columns, rows.keys && ((column) => this.#sort(column)));
     this.#fill(null, false);
     this.columns.style.setProperty("--wanted", `${this.grid.wanted}px`);
     if (!Filter.isFor(list.id)) return;
-    this.filter = new Filter(list.id, this.file, (found, isSame) => this.#fill(found, isSame));
+    this.filter = new Filter(list.id, this.file, rows, (found, isSame) => this.#fill(found, isSame));
     this.panel.prepend(this.filter.box);
   }
 
-  /** Shows the rows of the open list that were found, or all of them; at the same place where they are the same. */
+  /** Shows the rows of the open list that were found, or all of them, in their order; at the same place where they are the same. */
   #fill(found, isSamePlace) {
+    this.found = found;
     const rows = this.tab.list.rows(this.file);
-    const all = found ?? { length: rows.count };
-    const at = (i) => (found ? found[i] : i);
+    const numbers = this.#inOrder(found, rows);
+    const at = (i) => (numbers ? numbers[i] : i);
     const pick = (i) => this.pick(rows.target(at(i)));
-    this.grid.show({ count: all.length, cells: (i) => rows.cells(at(i)), pick }, isSamePlace);
+    this.grid.show({ count: numbers?.length ?? rows.count, cells: (i) => rows.cells(at(i)), pick }, isSamePlace);
+  }
+
+  #inOrder(found, { count, keys }) {
+    if (!this.sorted) return found;
+    return ordered(found ?? Array(count).keys(), keys[this.sorted.column], this.sorted.direction);
+  }
+
+  #sort(column) {
+    this.sorted = sortedBy(column, this.sorted);
+    this.grid.markSorted(this.sorted);
+    this.#fill(this.found, false);
   }
 
   /** Shows the open list again, as after a change of the base, at its place. */

@@ -5,6 +5,7 @@ import { CLASSES, csvOfLines, lineOf, noteSame, sortLines, unreadLine } from "./
 import { missingOf } from "./linking.js";
 import { Missing } from "./missing.js";
 import { counted } from "./names.js";
+import { sortedBy } from "./ordered.js";
 import { bytesOf, unreadText } from "./reading.js";
 import { toneOf } from "./reasons.js";
 
@@ -147,8 +148,7 @@ export class Many {
 
   /** Sorts by a column; by the same one again in the other direction. */
   sort(column) {
-    const direction = this.sorted?.column === column ? -this.sorted.direction : 1;
-    this.sorted = { column, direction };
+    this.sorted = sortedBy(column, this.sorted);
     this.grid.markSorted(this.sorted);
     this.#arrange();
   }
