@@ -76,6 +76,18 @@ export class HexView {
     this.scroller.refresh();
   }
 
+  /** Where the caret stands, what is picked, and the byte that is seen first; and back to such a place. */
+  get place() {
+    const { caret, anchor, picked, per, scroller } = this;
+    return { caret, anchor, picked, first: scroller.top * per };
+  }
+
+  set place({ caret, anchor, picked, first }) {
+    Object.assign(this, { caret, anchor, picked });
+    this.#tell(caret);
+    this.scroller.go(first / this.per);
+  }
+
   /** The line of the caret, where it is drawn. */
   get caretLine() {
     return this.scroller.layer.children[Math.floor(this.caret / this.per) - this.scroller.top];

@@ -1,5 +1,5 @@
-// The link of what is shown: #example=NAME or #hex=DIGITS, and &base=ADDRESS. A file is put into one only when that is asked for:
-// an address stays in the history of the browser.
+// The link of what is shown: #example=NAME or #hex=DIGITS, &base=ADDRESS, and &at=BYTE. A file is put into one only when that is
+// asked for: an address stays in the history of the browser. A link to a byte alone leads there in the file that is dropped next.
 
 /** The longest file that is put into a link. */
 const MOST = 4096;
@@ -8,7 +8,7 @@ const here = () => location.href.replace(/#.*/s, "");
 
 export function readLink() {
   const said = new URLSearchParams(location.hash.slice(1));
-  return { example: said.get("example"), hex: said.get("hex"), base: said.get("base") };
+  return { example: said.get("example"), hex: said.get("hex"), base: said.get("base"), at: said.get("at") };
 }
 
 /** What the address says of what is shown, with this base; nothing where it says nothing. */
@@ -19,12 +19,21 @@ export function linkAt(base) {
   return `#${said}`;
 }
 
-/** A link to an example, or with these bytes in it; null where they are too many. */
-export function linkOf({ example, bytes, base }) {
-  if (!example && bytes.length > MOST) return null;
-  const said = new URLSearchParams(example ? { example } : { hex: toHex(bytes) });
-  if (base) said.set("base", base);
-  return `${here()}#${said}`;
+/** A link to an example, or with these bytes in it, and to a byte `at` of them. Where they are too many it is of the byte alone, and
+ * null where there is none. */
+export function linkOf({ example, bytes, base, at }) {
+  const isTooLong = !example && bytes.length > MOST;
+  if (isTooLong && !at) return null;
+  const said = new URLSearchParams(isTooLong ? {} : example ? { example } : { hex: toHex(bytes) });
+  if (base && !isTooLong) said.set("base", base);
+  if (at) said.set("at", at);
+  return `${here()}#${said}`.replaceAll("%3A", ":");
+}
+
+/** What a link has of a file of one's own. */
+function heldText(link) {
+  if (link.includes("#hex=")) return "Copied. The file itself is in the link.";
+  return link.includes("#at=") ? "Copied. It leads to the byte, once the same file is dropped: too many bytes for a link." : "Copied.";
 }
 
 /** Copies a link, and says what came of it. Where the browser lets nothing be copied, a field has the link. */
@@ -36,7 +45,7 @@ export async function copyLink(link, field, told) {
   }
   try {
     await navigator.clipboard.writeText(link);
-    told.textContent = link.includes("#hex=") ? "Copied. The file itself is in the link." : "Copied.";
+    told.textContent = heldText(link);
   } catch {
     told.textContent = "This browser lets nothing be copied. The link is here:";
     field.value = link;

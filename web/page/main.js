@@ -25,6 +25,8 @@ let file = null;
 let example = null;
 let shows = 0;
 let run = 0;
+/** The byte that a link says of a file that is still to come. */
+let awaited = null;
 
 const panels = new Panels();
 const opening = new Opening(document.querySelectorAll("#examples a"), $("example"));
@@ -63,8 +65,14 @@ function showWhole(bytes, name, which) {
   showSaving(file);
   $("copied").textContent = "";
   $("link").hidden = true;
+  if (awaited) goToByte(awaited);
   $("time").textContent = `${(performance.now() - began).toFixed(0)} ms.`;
   tellShown();
+}
+
+function goToByte(said) {
+  awaited = null;
+  if (!panels.goToByte(said)) $("copied").textContent = `The link leads to a byte that is not there: ${said}.`;
 }
 
 /** Shows the memory from another address. */
@@ -209,9 +217,26 @@ function openExample(name) {
   show(bytes, name);
 }
 
+/** Goes to the byte of a link that says no file: in that of one's own which is shown, or else the next. */
+function openByte(said) {
+  if (!file || example) openExample(FIRST);
+  else goToByte(said);
+  if (example) {
+    awaited = said;
+    $("copied").textContent = `The link leads to byte ${said} of a file: drop it, and it is shown there.`;
+  }
+  tellShown();
+}
+
 function openLink() {
   const said = readLink();
   run += 1;
+  awaited = null;
+  if (said.at && !said.example && said.hex === null) {
+    openByte(said.at);
+    return;
+  }
+  awaited = said.at;
   $("many").hidden = true;
   if (said.base) base.set(said.base);
   if (said.hex !== null) {
@@ -243,7 +268,7 @@ function listen() {
     if ($("example").value) location.hash = `#${new URLSearchParams({ example: $("example").value })}`;
   });
   $("copy-link").addEventListener("click", () => {
-    copyLink(linkOf({ example, bytes: file.input, base: file.table && base.text }), $("link"), $("copied"));
+    copyLink(linkOf({ example, bytes: file.input, base: file.table && base.text, at: panels.byte }), $("link"), $("copied"));
   });
   listenToSaving(panels);
   $("compare-two").addEventListener("click", openTwo);

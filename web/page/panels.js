@@ -4,6 +4,7 @@ import { copyText } from "./copying.js";
 import { addFinding } from "./finding.js";
 import { HexView } from "./hexview.js";
 import { ItemLine } from "./itemline.js";
+import { Jumps } from "./jumps.js";
 import { Lists } from "./lists.js";
 import { HunkMap, arcsText, mapLegend, mapScene } from "./map.js";
 import { counted } from "./names.js";
@@ -12,6 +13,7 @@ import { fileLegend, fileScene, memoryScene } from "./pictures.js";
 import { filePlace, memoryPlace, memoryRange } from "./places.js";
 import { whyText } from "./reasons.js";
 import { bringIntoSight } from "./sight.js";
+import { byteText, rangeOf } from "./bytelink.js";
 import { sourceOfFile, sourceOfMemory } from "./sources.js";
 import { mapSvg } from "./svg.js";
 
@@ -42,7 +44,12 @@ export class Panels {
     this.memoryPicture = new Picture($("memory-picture"), "The memory, by hunks");
     this.filePicture = new Picture($("file-picture"), "The file, by blocks");
     this.lists = new Lists($("lists"), (target) => this.pick(target));
+    const [back, forward, told] = ["back", "forward", "told"].map((name) => $(`jump-${name}`));
+    this.jumps = new Jumps({ back, forward, told }, { here: () => this.#here(), go: (here) => this.#return(here) });
+    /** The view that was used last. */
+    this.used = this.fileView;
     for (const [id, view] of Object.entries({ memory: this.memoryView, file: this.fileView })) {
+      for (const type of ["focusin", "pointerdown"]) view.box.addEventListener(type, () => (this.used = view));
       this.#addCopying(id, view);
       addFinding($(`find-${id}`), $(`copied-${id}`), view, (range) => jump({ [id]: range }));
     }
@@ -69,6 +76,8 @@ export class Panels {
     this.#showMemory();
     this.#showMap();
     if (isListed) this.lists.show(file);
+    this.used = this.fileView;
+    this.jumps.clear();
   }
 
   close() {
@@ -148,20 +157,51 @@ export class Panels {
     if (memory) this.memoryView.show(memory, file.base, memory.length, sourceOfMemory(file, memory));
   }
 
-  /** Shows where a target stands, in both views.
+  /** Shows where a target stands, in both views, from where one comes back.
    * @param {Target} target */
-  jump({ file, memory }) {
-    if (file) this.fileView.pick(file.from, file.to);
-    if (this.memory && memory) this.memoryView.pick(memory.from, memory.to);
-    const views = [file && this.fileView, this.memory && memory && this.memoryView].filter(Boolean);
-    bringIntoSight(views.map((it) => it.caretLine).filter(Boolean));
+  jump(target) {
+    this.jumps.through(() => this.#show(target));
   }
 
   /** Shows the bytes of a row, and in a view that has none of them no others.
    * @param {Target} target */
   pick(target) {
-    this.fileView.unpick();
-    this.memoryView.unpick();
-    this.jump(target);
+    this.jumps.through(() => {
+      this.fileView.unpick();
+      this.memoryView.unpick();
+      this.#show(target);
+    });
+  }
+
+  /** @param {Target} target */
+  #show({ file, memory }) {
+    if (file) this.fileView.pick(file.from, file.to);
+    if (this.memory && memory) this.memoryView.pick(memory.from, memory.to);
+    const views = [file && this.fileView, this.memory && memory && this.memoryView].filter(Boolean);
+    if (views.length > 0) this.used = views[0];
+    bringIntoSight(views.map((it) => it.caretLine).filter(Boolean));
+  }
+
+  #here() {
+    return JSON.stringify([this.fileView, this.memoryView].map((view) => view.place));
+  }
+
+  #return(here) {
+    const views = [this.fileView, this.memoryView];
+    for (const [i, place] of JSON.parse(here).entries()) views[i].place = place;
+    const shown = views.filter((it) => it.picked && (this.memory || it === this.fileView));
+    bringIntoSight((shown.length > 0 ? shown : [this.fileView]).map((it) => it.caretLine).filter(Boolean));
+  }
+
+  /** The byte at which one is, as a link says it; nothing before the first of a file. */
+  get byte() {
+    return byteText(this.file, this.used === this.memoryView && this.memory ? { memory: this.used.caret } : { file: this.fileView.caret });
+  }
+
+  /** Goes to a byte that a link says; whether there is one. */
+  goToByte(said) {
+    const target = rangeOf(this.file, said);
+    if (target) this.jump(target);
+    return target !== null;
   }
 }

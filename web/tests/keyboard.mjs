@@ -53,7 +53,8 @@ async function way(page, key, last) {
 }
 
 const OPENING = `pick pick-folder example #example=sum #example=code-and-ext #example=offset-outside copy-link tab-hunks
-  grid of list-panel copy-list save-stripped map-picture base save-memory find-memory copy-memory memory-picture memory-hex
+  grid of list-panel copy-list save-list save-stripped save-linkable map-picture save-map base save-memory save-records save-program
+  find-memory copy-memory memory-picture memory-hex
   button of memory-item find-file copy-file file-picture file-hex`.replace(/\s+/g, " ");
 
 async function compareWay(page, hold) {
@@ -83,6 +84,8 @@ async function compareLists(page, hold) {
   hold("the list that they open", "tab-relocations", await page.in(open));
   await press(page, "Tab");
   hold("behind a tab", "input of list-panel", await focused(page));
+  await press(page, "Tab");
+  hold("behind that", "select of list-panel", await focused(page));
   await press(page, "Tab", "ArrowDown", "Enter");
   // By hand: the second relocation stands at byte 6c, and is of offset 8.
   hold("what Enter shows of the second relocation", "21008 21009 2100a 2100b,6c 6d 6e 6f", await page.in(PICKED));
@@ -143,7 +146,7 @@ async function compareLong(page, hold) {
   await page.open();
   await page.drop([["sum", SUM], ["program", PROGRAM], ...Array.from({ length: 40 }, (_, i) => [`text ${i}`, "54657874"])]);
   await page.in("document.activeElement.blur()");
-  const heads = Array(10).fill("columnheader of many-list").join(" ");
+  const heads = Array(11).fill("columnheader of many-list").join(" ");
   const classes = "button of many-classes button of many-classes button of many-classes";
   const [there] = await way(page, "Tab", "many-list");
   hold("what Tab leads to in a table", `pick pick-folder example ${classes} many-filter save-csv many-list`, there);
@@ -156,8 +159,10 @@ async function compareLong(page, hold) {
   hold("what of that has no outline, or is not seen", "", unseen);
   await press(page, "ArrowLeft");
   const [list] = await way(page, "Tab", "map-picture");
-  hold("what follows a list that scrolls", "input of list-panel grid of list-panel copy-list save-stripped map-picture", list);
-  await press(page, "Shift+Tab", "Shift+Tab", "Shift+Tab", "End", "Enter");
+  hold("what follows a list that scrolls", `input of list-panel select of list-panel grid of list-panel ${Array(5).fill("columnheader of list-panel").join(" ")} ` +
+    "copy-list save-list save-stripped save-linkable map-picture", list);
+  await reach(page, "grid of list-panel", "Shift+Tab");
+  await press(page, "End", "Enter");
   hold("the last relocation", true, (await page.in(PICKED)).split(",").every((it) => it.split(" ").length === 4));
 }
 

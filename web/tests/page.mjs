@@ -41,7 +41,7 @@ export class Page {
   }
 
   hex(digits) {
-    return this.shows(() => this.in(`location.hash = values[0]`, `#hex=${digits}&base=${BASE}&at=${++this.links}`));
+    return this.shows(() => this.in(`location.hash = values[0]`, `#hex=${digits}&base=${BASE}&link=${++this.links}`));
   }
 
   /** Drops files, [name, digits], as one that comes from the desktop would be. */

@@ -24,6 +24,7 @@ import { compareDrawn } from "./drawn.mjs";
 import { compareSight } from "./sight.mjs";
 import { compareSpoken } from "./spoken.mjs";
 import { compareTargets } from "./targets.mjs";
+import { compareRelocated } from "./relocated.mjs";
 import { compareWarned } from "./warned.mjs";
 import { compareWidths } from "./widths.mjs";
 import { takePictures } from "./photos.mjs";
@@ -271,6 +272,7 @@ const TESTS = {
   saving: (page) => compareSaving(page, hold, paths),
   spoken: (page) => compareSpoken(page, hold),
   drawn: (page) => compareDrawn(page, hold),
+  relocated: (page) => compareRelocated(page, hold),
   warned: (page) => compareWarned(page, hold),
   async large(page) {
     if (oneOf !== "1") return;
