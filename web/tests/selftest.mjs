@@ -5,28 +5,10 @@
 import { execFileSync } from "node:child_process";
 import { copyFileSync, mkdirSync, readFileSync, writeFileSync } from "node:fs";
 import { createServer } from "node:http";
-import { compareArchives } from "./archives.mjs";
-import { compareCompared } from "./compared.mjs";
-import { compareOpening } from "./opening.mjs";
-import { compareFinding } from "./finding.mjs";
 import { tryLarge } from "./large.mjs";
 import { BASE, Page } from "./page.mjs";
-import { compareFields } from "./fields.mjs";
 import { tryMany } from "./many.mjs";
-import { compareCursor } from "./cursor.mjs";
-import { compareMap, comparePictures } from "./pictures.mjs";
-import { compareRefused } from "./refused.mjs";
-import { compareSaving } from "./saving.mjs";
-import { compareKeyboard } from "./keyboard.mjs";
-import { compareStaying } from "./staying.mjs";
-import { compareCopying } from "./copying.mjs";
-import { compareDrawn } from "./drawn.mjs";
-import { compareSight } from "./sight.mjs";
-import { compareSpoken } from "./spoken.mjs";
-import { compareTargets } from "./targets.mjs";
-import { compareRelocated } from "./relocated.mjs";
-import { compareWarned } from "./warned.mjs";
-import { compareWidths } from "./widths.mjs";
+import { compareMap } from "./pictures.mjs";
 import { takePictures } from "./photos.mjs";
 
 const [browserName, pagePath, program, everyPath, oneOf, pictures, work, ...only] = process.argv.slice(2);
@@ -243,10 +225,10 @@ async function compareUse(page) {
 
 const paths = { root, work, pagePath };
 
-/** The tests of the page, in their order, by their names. */
+/** The tests of the page, in their order, by their names. What is null stands in a file of that name. */
 const TESTS = {
   // First, as Chromium keeps 50 places in the history, and of more forgets those at which nobody has pressed a key.
-  staying: (page) => compareStaying(page, hold),
+  staying: null,
   async rows(page) {
     for (const row of [...rowsOf("load"), ...rowsOf("objects")]) await compareRow(page, row);
   },
@@ -255,25 +237,26 @@ const TESTS = {
   folder: (page) => browserName === "chromium" && compareFolder(page),
   served: compareServed,
   table: (page) => tryMany(page, hold, paths),
-  archives: (page) => compareArchives(page, hold, paths),
-  compared: (page) => compareCompared(page, hold, paths),
-  fields: (page) => compareFields(page, hold),
-  opening: (page) => compareOpening(page, hold, paths),
-  refused: (page) => compareRefused(page, hold),
+  archives: null,
+  compared: null,
+  fields: null,
+  opening: null,
+  refused: null,
   use: compareUse,
-  cursor: (page) => compareCursor(page, hold),
-  pictures: (page) => comparePictures(page, hold),
-  widths: (page) => compareWidths(page, hold),
-  keyboard: (page) => compareKeyboard(page, hold),
-  targets: (page) => compareTargets(page, hold),
-  sight: (page) => compareSight(page, hold),
-  copying: (page) => compareCopying(page, hold),
-  finding: (page) => compareFinding(page, hold),
-  saving: (page) => compareSaving(page, hold, paths),
-  spoken: (page) => compareSpoken(page, hold),
-  drawn: (page) => compareDrawn(page, hold),
-  relocated: (page) => compareRelocated(page, hold),
-  warned: (page) => compareWarned(page, hold),
+  cursor: null,
+  pictures: null,
+  widths: null,
+  keyboard: null,
+  targets: null,
+  sight: null,
+  copying: null,
+  finding: null,
+  saving: null,
+  spoken: null,
+  drawn: null,
+  relocated: null,
+  jumps: null,
+  warned: null,
   async large(page) {
     if (oneOf !== "1") return;
     await tryLarge(page, hold, work);
@@ -281,6 +264,12 @@ const TESTS = {
   },
   photos: (page) => takePictures(page, root, `${pictures}/${browserName}`),
 };
+
+/** The test of a file, as compareFields of fields.mjs. */
+async function testOf(name) {
+  const { [`compare${name[0].toUpperCase()}${name.slice(1)}`]: test } = await import(`./${name}.mjs`);
+  return (page) => test(page, hold, paths);
+}
 
 const browser = await (browserName === "chromium" ? Chromium : Firefox).open(work);
 try {
@@ -291,7 +280,7 @@ try {
     what = name;
     await browser.size(1280, 900);
     await page.open();
-    await test(page);
+    await (test ?? (await testOf(name)))(page);
   }
   for (const fault of await browser.faults()) hold("an error in the page", "none", fault);
 } catch (error) {
