@@ -9,3 +9,11 @@ declare class OffscreenCanvas {
   constructor(width: number, height: number);
   getContext(kind: "2d"): CanvasRenderingContext2D;
 }
+interface FileHandle {
+  readonly kind: "file";
+  readonly name: string;
+  getFile(): Promise<File>;
+}
+interface Window {
+  showOpenFilePicker(options: { multiple: boolean }): Promise<FileHandle[]>;
+}

@@ -1,4 +1,5 @@
-// The files that are dropped, of folders all that is in them: {file, name}, or {name, error} of what the browser does not give.
+// The files that are dropped or picked, of folders all that is in them: {file, name, again}, or {name, error} of what the browser does
+// not give. `again()` gives the file as it is on disk by then, where the browser lets it be asked for.
 
 // A folder comes as an entry or as a handle. Entries have every name, and Firefox has no handles. But to a page that was opened
 // from a disk, Chromium gives entries that can't be read, and its handles leave out names that not every system takes.
@@ -8,7 +9,7 @@ const below = (folder, name) => `${folder}/${name || "\ufffd"}`;
 
 async function walkHandle(handle, name, found) {
   try {
-    if (handle.kind === "file") found.push({ file: await handle.getFile(), name });
+    if (handle.kind === "file") found.push({ file: await handle.getFile(), name, again: () => handle.getFile() });
     else for await (const it of handle.values()) await walkHandle(it, below(name, it.name), found);
   } catch (error) {
     found.push({ name, error });
@@ -29,11 +30,13 @@ function entriesOf(folder) {
   });
 }
 
+const fileOf = (entry) => new Promise((done, fail) => entry.file(done, fail));
+
 async function walkEntry(entry, name, found) {
   try {
     // An entry without a name would be its own folder again.
     if (!entry.name) found.push({ name });
-    else if (entry.isFile) found.push({ file: await new Promise((done, fail) => entry.file(done, fail)), name });
+    else if (entry.isFile) found.push({ file: await fileOf(entry), name, again: () => fileOf(entry) });
     else await walkEntries(await entriesOf(entry), name, found);
   } catch (error) {
     found.push({ name, error });
@@ -72,9 +75,28 @@ export async function droppedFiles(transfer) {
     const handle = await handles[i];
     const isFolder = entry?.isDirectory || handle?.kind === "directory";
     if (isFolder) isPartial = (await walkFolder(entry, handle, inFolders)) || isPartial;
-    else if (files[i]) found.push({ file: files[i], name: files[i].name });
+    else if (files[i]) found.push({ file: files[i], name: files[i].name, again: handle ? () => handle.getFile() : undefined });
   }
   return { files: found.concat(inFolders.sort(byName)), isPartial };
+}
+
+/** Has a field for files ask by handles, where the browser has them. `take(files)` is called for what is picked by them. */
+export function pickByHandles(field, take) {
+  let isRefused = !("showOpenFilePicker" in window);
+  field.addEventListener("click", async (event) => {
+    if (isRefused) return;
+    event.preventDefault();
+    try {
+      const handles = await window.showOpenFilePicker({ multiple: field.multiple });
+      const found = [];
+      for (const it of handles) await walkHandle(it, it.name, found);
+      take(found);
+    } catch (error) {
+      if (error.name === "AbortError") return;
+      isRefused = true;
+      field.click();
+    }
+  });
 }
 
 /** What a field for files brought, a folder by name. */

@@ -3,7 +3,7 @@
 import { Hunk } from "../../bindings/javascript/hunk.js";
 import { BaseField } from "./base.js";
 import { Compared } from "./compared.js";
-import { droppedFiles, pickedFiles } from "./dropped.js";
+import { droppedFiles, pickByHandles, pickedFiles } from "./dropped.js";
 import { Examined } from "./file.js";
 import { copyLink, fromHex, linkAt, linkOf, readLink } from "./link.js";
 import { Many } from "./many.js";
@@ -12,6 +12,7 @@ import { FIRST, Opening, entitle } from "./opening.js";
 import { unpacked } from "./packed.js";
 import { Panels } from "./panels.js";
 import { bytesOf, PARTIAL, unreadText } from "./reading.js";
+import { Reload } from "./reload.js";
 import { listenToSaving, save, showSaving } from "./saving.js";
 import { showVerdict, tellNone } from "./verdict.js";
 import { Visits } from "./visits.js";
@@ -34,6 +35,7 @@ const many = new Many($("many"), (found) => openFile(found, many.visit));
 const compared = new Compared($("compare"));
 const base = new BaseField($("base"), $("base-note"), rebase);
 const visits = new Visits(revisit);
+const reload = new Reload($("reload"), openFile);
 
 // ---- What is shown.
 
@@ -58,6 +60,7 @@ function showWhole(bytes, name, which) {
   file.base = base.address;
   document.body.classList.add("has-file");
   compared.close();
+  reload.watch(null);
   opening.mark(example);
   entitle(name);
   showVerdict(file, (other) => show(file.input, file.name, other));
@@ -96,6 +99,7 @@ function closeFile(text) {
 /** Says why no file is shown. */
 function showNone(text, title) {
   compared.close();
+  reload.watch(null);
   opening.mark(null);
   entitle(title);
   closeFile(text);
@@ -111,8 +115,10 @@ async function readFile(visit) {
   if (ownRun !== run) return false;
   example = null;
   visit.bytes = bytes;
-  if (bytes) show(bytes, name);
-  else {
+  if (bytes) {
+    show(bytes, name);
+    reload.watch(visit);
+  } else {
     showNone(unreadText([{ name, why }]), name);
     tellShown();
   }
@@ -271,6 +277,7 @@ function listen() {
     copyLink(linkOf({ example, bytes: file.input, base: file.table && base.text, at: panels.byte }), $("link"), $("copied"));
   });
   listenToSaving(panels);
+  pickByHandles($("pick"), (files) => openAll({ files, isPartial: false }));
   $("compare-two").addEventListener("click", openTwo);
   $("pick-other").addEventListener("change", () => {
     const [other] = pickedFiles($("pick-other"));

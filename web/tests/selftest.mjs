@@ -239,6 +239,7 @@ const TESTS = {
   table: (page) => tryMany(page, hold, paths),
   archives: null,
   compared: null,
+  reloading: null,
   fields: null,
   opening: null,
   refused: null,
