@@ -62,7 +62,7 @@ export const inOrder = (one, other) => COLLATOR.compare(one, other);
 const byName = (one, other) => inOrder(one.name, other.name);
 
 /** What a drop brought, folders by name, and whether the browser may have left names out. */
-export async function droppedFiles(transfer) {
+async function droppedFiles(transfer) {
   // All of it is there only until the event is over, so it is taken before the first wait.
   const items = [...transfer.items].filter((item) => item.kind === "file");
   const entries = items.map((item) => item.webkitGetAsEntry?.() ?? null);
@@ -78,6 +78,20 @@ export async function droppedFiles(transfer) {
     else if (files[i]) found.push({ file: files[i], name: files[i].name, again: handle ? () => handle.getFile() : undefined });
   }
   return { files: found.concat(inFolders.sort(byName)), isPartial };
+}
+
+/** Has the page take what is dropped on it, whatever is below the pointer; the box shows that. `take(files)` is called for that. */
+export function listenToDrops(box, take) {
+  addEventListener("dragover", (event) => {
+    event.preventDefault();
+    box.classList.add("over");
+  });
+  addEventListener("dragleave", () => box.classList.remove("over"));
+  addEventListener("drop", async (event) => {
+    event.preventDefault();
+    box.classList.remove("over");
+    await take(await droppedFiles(event.dataTransfer));
+  });
 }
 
 /** Has a field for files ask by handles, where the browser has them. `take(files)` is called for what is picked by them. */

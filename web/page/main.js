@@ -1,22 +1,20 @@
 // The page: what is dropped, picked or linked is shown.
 
-import { Hunk } from "../../bindings/javascript/hunk.js";
 import { BaseField } from "./base.js";
 import { Compared } from "./compared.js";
-import { droppedFiles, pickByHandles, pickedFiles } from "./dropped.js";
+import { listenToDrops, pickByHandles, pickedFiles } from "./dropped.js";
 import { Examined } from "./file.js";
 import { copyLink, fromHex, linkAt, linkOf, readLink } from "./link.js";
 import { Many } from "./many.js";
+import { openModule } from "./module.js";
 import { counted, whenSchemeChanges } from "./names.js";
 import { FIRST, Opening, entitle } from "./opening.js";
-import { unpacked } from "./packed.js";
 import { Panels } from "./panels.js";
 import { bytesOf, PARTIAL, unreadText } from "./reading.js";
 import { Reload } from "./reload.js";
 import { listenToSaving, save, showSaving } from "./saving.js";
 import { showVerdict, tellNone } from "./verdict.js";
 import { Visits } from "./visits.js";
-import { MODULES } from "./data.js";
 
 /** @type {(id: string) => any} */
 const $ = (id) => document.getElementById(id);
@@ -251,18 +249,6 @@ function openLink() {
   } else openExample(said.example || FIRST);
 }
 
-// ---- The module: that of the kit, where the browser takes 64-bit memories, else the one that binaryen made of it.
-
-async function openModule() {
-  for (const [name, text] of MODULES) {
-    const bytes = await unpacked(text);
-    if (!WebAssembly.validate(bytes)) continue;
-    $("module").textContent = `${name}, ${bytes.length.toLocaleString("en")} bytes.`;
-    return Hunk.open(bytes);
-  }
-  throw new Error("this browser runs none of the modules in this page");
-}
-
 function recolour() {
   panels.recolour();
   tellShown();
@@ -286,21 +272,12 @@ function listen() {
   });
   $("save-csv").addEventListener("click", () => save(many.csv(), "hunks.csv", "text/csv"));
   whenSchemeChanges(recolour);
-  addEventListener("dragover", (event) => {
-    event.preventDefault();
-    $("drop").classList.add("over");
-  });
-  addEventListener("dragleave", () => $("drop").classList.remove("over"));
-  addEventListener("drop", async (event) => {
-    event.preventDefault();
-    $("drop").classList.remove("over");
-    await openAll(await droppedFiles(event.dataTransfer));
-  });
+  listenToDrops($("drop"), openAll);
 }
 
 async function start() {
   try {
-    hunk = await openModule();
+    hunk = await openModule($("module"));
     await opening.fill();
   } catch (error) {
     tellNone(`The library can't be run here: ${error.message}.`);
