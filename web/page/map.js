@@ -1,19 +1,18 @@
-// The map of hunks: a bar for each, and an arc from each hunk to those whose base is added in it.
+// The map of hunks: a bar for each, with its content and memory, and above it what arcs.js draws.
 
+import { GAP, arcsBetween, drawWays, middle } from "./arcs.js";
 import { rowsOfHunk } from "./contents.js";
 import { KINDS, MEMORIES } from "../../bindings/javascript/kinds.js";
 import { blockColour, blockName, counted, hunkColour, lastOf, memoryColour, memoryName, whereText } from "./names.js";
 import { prepared } from "./pictures.js";
+import { Ways } from "./ways.js";
 
 /** The most bars of a map: of more hunks some stand in one bar. */
 const MOST_BARS = 64;
-/** The most arcs that are drawn of all hunks, those of most relocations, and of the one under the pointer. */
-const MOST_ARCS = 40;
-const MOST_OF_ONE = 250;
+/** The most hunks of which the label of each says where its relocations lead. */
+const MOST_TOLD = 4096;
 const BAR = 24;
 const BAND = 6;
-const GAP = 2;
-const TIP = 4;
 /** The edge of a bar in which there are warnings. */
 const WARNED = 5;
 
@@ -25,7 +24,8 @@ export class HunkMap {
     this.hunks = this.contents.count;
     this.count = Math.min(this.hunks, MOST_BARS);
     this.bars = Array.from({ length: this.count }, (_, i) => this.#bar(this.#first(i), this.#first(i + 1)));
-    this.arcs = this.#findArcs();
+    this.arcs = arcsBetween(file, this.count, (hunk) => this.barOf(hunk));
+    this.ways = new Ways(file);
   }
 
   #first(bar) {
@@ -52,42 +52,6 @@ export class HunkMap {
     return bar;
   }
 
-  /** Calls for each relocated longword of a load file, as they rise, with the numbers of its hunk and of its target. */
-  #eachLong(call) {
-    const { starts } = this.file;
-    const { places, targets } = this.file.relocated();
-    let hunk = 0;
-    for (let i = 0; i < places.length; i++) {
-      while (starts[hunk + 1] <= places[i]) hunk += 1;
-      call(hunk, targets[i]);
-    }
-  }
-
-  /** The same for the relocations of an object file whose target is a hunk of their unit. */
-  #eachRelocation(call) {
-    const { contents } = this;
-    const { rows } = this.file.list("relocations");
-    for (let i = 0; i < rows.length; i++) {
-      const unit = rows.get(i, "unit");
-      const target = contents.number(unit, rows.get(i, "target"));
-      if (target !== undefined) call(contents.number(unit, rows.get(i, "hunk")), target);
-    }
-  }
-
-  /** How many relocations each pair of bars has, most first. */
-  #findArcs() {
-    const { count } = this;
-    const pairs = new Float64Array(count * count);
-    const add = (hunk, target) => {
-      pairs[this.barOf(hunk) * count + this.barOf(target)] += 1;
-    };
-    if (this.file.table) this.#eachLong(add);
-    else this.#eachRelocation(add);
-    const arcs = [];
-    pairs.forEach((many, i) => many > 0 && arcs.push({ from: Math.floor(i / count), to: i % count, many }));
-    return arcs.sort((one, other) => other.many - one.many);
-  }
-
   /** A hunk's number: in an object file with its unit. */
   numberText(number) {
     const { contents, file } = this;
@@ -107,10 +71,10 @@ export class HunkMap {
   }
 
   #targetsText(number) {
-    if (this.count < this.hunks) return "";
-    const arcs = this.arcs.filter((arc) => arc.from === number);
-    const told = arcs.slice(0, 3).map(({ to, many }) => `${many.toLocaleString("en")} to hunk ${this.contents.get(to, "hunk")}`);
-    return `: ${told.join(", ")}${arcs.length > 3 ? ", …" : ""}`;
+    if (this.hunks > MOST_TOLD) return "";
+    const ways = this.ways.of(number);
+    const told = ways.slice(0, 3).map(([to, many]) => `${many.toLocaleString("en")} to hunk ${this.contents.get(to, "hunk")}`);
+    return `: ${told.join(", ")}${ways.length > 3 ? ", …" : ""}`;
   }
 }
 
@@ -126,25 +90,6 @@ function lay(map, width) {
     bar.width = least + (free * bar.bytes) / total;
     x += bar.width;
   }
-}
-
-const middle = (bar, share) => bar.x + (bar.width - GAP) * share;
-
-function drawArc(drawing, map, { from, to, many }, base) {
-  const [a, b] = [middle(map.bars[from], 0.35), middle(map.bars[to], 0.65)];
-  const high = from === to ? 18 : 16 + Math.min(1, Math.abs(a - b) / 500) * (base - 22);
-  drawing.strokeStyle = hunkColour(to, 45);
-  drawing.lineWidth = 0.8 + Math.min(3.2, map.width / 250) * Math.sqrt(many / map.arcs[0].many);
-  drawing.beginPath();
-  drawing.moveTo(a, base);
-  drawing.bezierCurveTo(a, base - high * 1.33, b, base - high * 1.33, b, base);
-  drawing.stroke();
-  drawing.fillStyle = drawing.strokeStyle;
-  drawing.beginPath();
-  drawing.moveTo(b, base);
-  drawing.lineTo(b - TIP, base - 1.6 * TIP);
-  drawing.lineTo(b + TIP, base - 1.6 * TIP);
-  drawing.fill();
 }
 
 const kindColour = (kind) => blockColour(KINDS.CODE + kind, 60);
@@ -188,23 +133,6 @@ export function heightOf(map) {
   return arcs + BAR + 2 * (BAND + GAP);
 }
 
-const isOf = ({ from, to }, bar) => from === bar || to === bar;
-
-/** The arcs that are drawn, those of fewest relocations first. */
-function arcsOf(map, bar) {
-  const some = map.arcs.slice(0, MOST_ARCS);
-  const own = map.arcs.slice(MOST_ARCS).filter((it) => isOf(it, bar));
-  return [...some, ...own.slice(0, MOST_OF_ONE)].reverse();
-}
-
-/** What the arcs mean, and how many of them are drawn. */
-export function arcsText({ arcs }) {
-  if (arcs.length === 0) return "";
-  const what = "an arc leads to the hunk whose base is added, in its colour; it is thicker where that is more often";
-  const left = `; of ${arcs.length.toLocaleString("en")} the ${MOST_ARCS} of most relocations are drawn, and all of the hunk under the pointer`;
-  return what + (arcs.length > MOST_ARCS ? left : "");
-}
-
 /** Draws a map by the calls of a canvas, in these colours and this width: the height of it comes of that. */
 export function paintMap(drawing, map, { ink, warn, font, width }, chosen = null) {
   drawing.font = font;
@@ -212,12 +140,7 @@ export function paintMap(drawing, map, { ink, warn, font, width }, chosen = null
   drawing.textBaseline = "middle";
   lay(map, width);
   const base = heightOf(map) - BAR - 2 * (BAND + GAP);
-  const bar = chosen === null ? -1 : map.barOf(chosen);
-  for (const arc of arcsOf(map, bar)) {
-    drawing.globalAlpha = bar < 0 ? 0.75 : isOf(arc, bar) ? 1 : 0.1;
-    drawArc(drawing, map, arc, base);
-  }
-  drawing.globalAlpha = 1;
+  drawWays(drawing, map, base, chosen);
   for (const it of map.bars) drawBar(drawing, map, it, base, { ink, warn });
 }
 

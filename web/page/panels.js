@@ -1,12 +1,13 @@
 // A file that is shown: its pictures, its views of bytes, and its lists, which lead to each other.
 
+import { arcsText } from "./arcs.js";
 import { copyText } from "./copying.js";
 import { addFinding } from "./finding.js";
 import { HexView } from "./hexview.js";
 import { ItemLine } from "./itemline.js";
 import { Jumps } from "./jumps.js";
 import { Lists } from "./lists.js";
-import { HunkMap, arcsText, mapLegend, mapScene } from "./map.js";
+import { HunkMap, mapLegend, mapScene } from "./map.js";
 import { counted } from "./names.js";
 import { Picture } from "./picture.js";
 import { fileLegend, fileScene, memoryScene } from "./pictures.js";

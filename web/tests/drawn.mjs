@@ -14,12 +14,51 @@ function manyTargets(count, targets) {
   return [0x3f3, 0, count, 0, count - 1, ...all.map(() => targets), ...all.flatMap(hunk)].map(long).join("");
 }
 
-/** The share of the room above the bars that is drawn on. */
-const DRAWN = `
+/** How high each of so many columns across the map is drawn on, of a hundred: from below, while nothing or a hunk is chosen. */
+const HEIGHTS = `
   const canvas = document.getElementById("map-picture");
   await new Promise((done) => requestAnimationFrame(() => requestAnimationFrame(done)));
-  const { data } = canvas.getContext("2d").getImageData(0, 0, canvas.width, canvas.height - 45);
-  return data.filter((it, i) => i % 4 === 3 && it > 60).length / (data.length / 4)`;
+  const height = canvas.height - 45;
+  const { data } = canvas.getContext("2d").getImageData(0, 0, canvas.width, height);
+  const isDrawn = (x, y) => data[4 * (y * canvas.width + x) + 3] > values[0];
+  const columns = [...Array(canvas.width).keys()].map((x) => [...Array(height).keys()].filter((y) => isDrawn(x, y)).length / height);`;
+
+const POINT = `
+  const picture = document.getElementById("map-picture");
+  const { left, top, width } = picture.getBoundingClientRect();
+  picture.dispatchEvent(new PointerEvent("pointermove", { bubbles: true, clientX: left + values[1] * width, clientY: top + 110 }));`;
+
+const SHARE = `return columns.reduce((sum, it) => sum + it, 0) / columns.length`;
+
+/** 300 hunks: of each one relocation leads to the next, and all lead to hunk 7. */
+function toSeven() {
+  const all = [...Array(300).keys()];
+  const hunk = (i) => [0x3e9, 2, 0, 0, 0x3ec, 1, (i + 1) % 300, 0, 1, 7, 4, 0, 0x3f2];
+  return [0x3f3, 0, 300, 0, 299, ...all.map(() => 2), ...all.flatMap(hunk)].map(long).join("");
+}
+
+async function tryCrowded(page, hold) {
+  await page.drop([["targets", manyTargets(269, 12)]]);
+  const legend = await page.in(`return document.getElementById("map-arcs").textContent`);
+  hold("what the columns of 269 hunks mean", true, /^a column above a bar says how many .*arcs are drawn for the hunk under the pointer/.test(legend));
+  await page.drop([["seven", toSeven()]]);
+  const highest = `${HEIGHTS} const most = Math.max(...columns); return columns.indexOf(most) / columns.length`;
+  // Hunk 7 is in the second of 64 bars.
+  const at = await page.in(highest, 150);
+  hold("the highest column is that of the hunk to which all lead", true, at >= 1 / 64 - 0.01 && at < 2 / 64);
+  const low = `${HEIGHTS} return columns.slice(columns.length / 4).every((it) => it < 0.3)`;
+  hold("the others are low", true, await page.in(low, 150));
+  const none = await page.in(`${HEIGHTS} ${SHARE}`, 200);
+  await page.in(POINT, 0, 0.9);
+  const one = await page.in(`${HEIGHTS} ${SHARE}`, 200);
+  hold("the arcs of one hunk under the pointer", true, one > 0.005 && one < 0.1 && one !== none);
+  // From hunk 270 to 7 and 271, which are in one arc to the left, and in a short one.
+  const wide = `${HEIGHTS} return columns.filter((it) => it > 0).length / columns.length`;
+  hold("they reach over the map", true, (await page.in(wide, 200)) > 0.8);
+  await page.in(POINT, 0, 0.99);
+  const tip = `return document.querySelector("#hunks .picture-tip").textContent`;
+  hold("where one of many leads to", "hunk 297, CODE, 8 bytes, any memory, 2 relocations: 1 to hunk 7, 1 to hunk 298", await page.in(tip));
+}
 
 /** How far the row that is marked is from the paper, and whether it has an edge. */
 const MARKED = `
@@ -52,17 +91,12 @@ const PRINTED = `
 
 export async function compareDrawn(page, hold) {
   await page.open();
-  await page.drop([["targets", manyTargets(269, 12)]]);
-  const share = await page.in(DRAWN);
-  hold("arcs of 269 hunks, on less than half of the room", true, share > 0.02 && share < 0.5);
-  const legend = await page.in(`return document.getElementById("map-arcs").textContent`);
-  hold("how many of them are drawn", true, /of [\d,]+ the 40 of most relocations are drawn/.test(legend));
+  await tryCrowded(page, hold);
   await page.drop([["program", PROGRAM]]);
-  for (const is of [false, true]) {
-    await page.shows(() => page.browser.dark(is)).catch(() => {});
+  for (const is of [true, false]) {
+    await page.shows(() => page.browser.dark(is));
     hold(`the row that is marked, ${is ? "dark" : "light"}`, "true,true", await page.in(MARKED));
   }
-  await page.shows(() => page.browser.dark(false));
   const bytes = PROGRAM.length / 2;
   // 62 relocations, by the program's table of targets.
   hold("what is printed", `${Math.ceil(bytes / 16)},${RELOCATIONS},true`, await page.in(PRINTED));

@@ -58,6 +58,9 @@ async function tryMoved(page, hold) {
   hold("Backspace in a field", "21000,1c,56", await run(page, `keyed("find-file", "Backspace"); return place()`));
   const anew = `back().click(); row("blocks", 2); const one = forward().disabled; row("blocks", 2); back().click(); return [one, place()].join()`;
   hold("a jump leaves what was forward, and the same one again adds nothing", "true,21000,56,0", await run(page, anew));
+  const left = `keyed("file-hex", "ArrowRight"); back().click(); forward().click(); return place()`;
+  await run(page, `row("blocks", 0); row("blocks", 1)`);
+  hold("a caret that was moved before Back", "21000,55,0", await run(page, left));
   await page.drop([["program", PROGRAM]]);
   hold("the places of another file", true, await run(page, `return back().disabled && forward().disabled`));
 }

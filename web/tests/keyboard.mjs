@@ -52,7 +52,7 @@ async function way(page, key, last) {
   return [found.join(" "), unseen.join(" ")];
 }
 
-const OPENING = `pick pick-folder example #example=sum #example=code-and-ext #example=offset-outside copy-link tab-hunks
+const OPENING = `pick pick-folder example #example=sum #example=code-and-ext #example=offset-outside pick-other copy-link tab-hunks
   grid of list-panel copy-list save-list save-stripped save-linkable map-picture save-map base save-memory save-records save-program
   find-memory copy-memory memory-picture memory-hex
   button of memory-item find-file copy-file file-picture file-hex`.replace(/\s+/g, " ");
@@ -149,13 +149,13 @@ async function compareLong(page, hold) {
   const heads = Array(11).fill("columnheader of many-list").join(" ");
   const classes = "button of many-classes button of many-classes button of many-classes";
   const [there] = await way(page, "Tab", "many-list");
-  hold("what Tab leads to in a table", `pick pick-folder example ${classes} many-filter save-csv many-list`, there);
+  hold("what Tab leads to in a table", `pick pick-folder example ${classes} many-filter save-csv compare-two many-list`, there);
   await press(page, "ArrowDown");
   await page.shows(() => press(page, "Enter"));
   hold("the file that Enter opens", "program - hunk files", await page.in("return document.title"));
   hold("the focus behind it", "many-list", await focused(page));
   const [on, unseen] = await way(page, "Tab", "tab-hunks");
-  hold("what follows the table", `${heads} copy-link tab-hunks`, on);
+  hold("what follows the table", `${heads} pick-other copy-link tab-hunks`, on);
   hold("what of that has no outline, or is not seen", "", unseen);
   await press(page, "ArrowLeft");
   const [list] = await way(page, "Tab", "map-picture");
