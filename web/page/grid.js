@@ -5,6 +5,7 @@ import { copiesFrom, textOf, textOfRows } from "./copying.js";
 import { csvOf } from "./csv.js";
 import { Scroller, escaped, rowOfKey } from "./scroller.js";
 import { Widths } from "./widths.js";
+import { meaningOf } from "./words.js";
 
 /** A finger takes more room than a pointer. */
 const HEIGHT = matchMedia("(pointer: coarse)").matches ? 36 : 22;
@@ -13,7 +14,7 @@ const GAP = 10;
 const AROUND = 36;
 let grids = 0;
 
-/** @typedef {{ text: any, chip?: string, tone?: string } | string | number} Cell */
+/** @typedef {{ text: any, chip?: string, tone?: string, title?: string } | string | number} Cell */
 /** @typedef {{ count: number, cells: (i: number) => Cell[], pick: (i: number) => void }} GridRows */
 
 export class Grid {
@@ -35,7 +36,7 @@ export class Grid {
     box.tabIndex = 0;
     box.style.setProperty("--row", `${HEIGHT}px`);
     this.box = box;
-    this.widths = new Widths(box, columns, Boolean(onSort));
+    this.widths = new Widths(box, columns);
     this.#addHeads(onSort);
     this.body = document.createElement("div");
     this.body.className = "body";
@@ -70,6 +71,7 @@ export class Grid {
       const cell = document.createElement(onSort ? "button" : "span");
       cell.setAttribute("role", "columnheader");
       cell.textContent = name;
+      cell.title = meaningOf(name);
       if (isNumber) cell.className = "number";
       if (onSort) cell.addEventListener("click", () => onSort(i));
       this.head.append(cell);
@@ -142,10 +144,11 @@ export class Grid {
 
   #row(i, cells) {
     const drawn = cells.map((cell, column) => {
-      const { text, chip, tone } = typeof cell === "object" ? cell : { text: cell, chip: "", tone: "" };
+      const { text, chip = "", tone = "", title = "" } = typeof cell === "object" ? cell : { text: cell };
       const kind = [this.columns[column].isNumber && "number", tone].filter(Boolean).join(" ");
       const mark = chip ? `<i style="background:${chip}"></i>` : "";
-      return `<span role="gridcell" class="${kind}">${mark}${escaped(text)}</span>`;
+      const told = title && ` title="${escaped(title)}"`;
+      return `<span role="gridcell" class="${kind}"${told}>${mark}${escaped(text)}</span>`;
     });
     const states = `aria-rowindex="${i + 2}" aria-selected="${this.#isChosen(i)}"`;
     return `<div role="row" id="${this.id}-${i}" ${states} data-row="${i}">${drawn.join("")}</div>`;

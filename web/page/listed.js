@@ -7,6 +7,7 @@ import * as names from "./names.js";
 import { textPlace } from "./places.js";
 import { relocationRows } from "./relocated.js";
 import { offsetText, warningTarget, warningText } from "./warned.js";
+import { meaningOf } from "./words.js";
 
 /** @typedef {import("./file.js").Examined} Examined */
 /** @typedef {{ name: string, isNumber?: boolean, isRest?: boolean, least?: number, leaves?: number }} Column */
@@ -79,7 +80,8 @@ function blockRows(file) {
       const row = rows.at(i);
       const { from, to } = inFile(file, row, row.bytes);
       const type = file.typeOf(row);
-      const kind = { text: names.blockName(type ?? row.kind), chip: names.blockColour(row.kind) };
+      const name = names.blockName(type ?? row.kind);
+      const kind = { text: name, chip: names.blockColour(row.kind), title: meaningOf(name) };
       const said = type === undefined ? "left out in the file" : blockText(file, row);
       return [hex(from), whereOf(file, row), kind, (to - from).toLocaleString("en"), said];
     },

@@ -6,6 +6,7 @@ import { Grid } from "./grid.js";
 import { LISTS } from "./listed.js";
 import { counted } from "./names.js";
 import { ordered, sortedBy } from "./ordered.js";
+import { meaningOf } from "./words.js";
 
 export class Lists {
   /** `pick(target)` is called for the target of a row that is picked. */
@@ -42,6 +43,7 @@ export class Lists {
     tab.id = `tab-${list.id}`;
     tab.setAttribute("aria-controls", this.panel.id);
     tab.textContent = `${list.label} ${count.toLocaleString("en")}`;
+    tab.title = meaningOf(list.label);
     tab.addEventListener("click", () => this.open(tab));
     tab.list = list;
     tab.count = count;

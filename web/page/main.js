@@ -15,6 +15,7 @@ import { Reload } from "./reload.js";
 import { listenToSaving, save, showSaving } from "./saving.js";
 import { showVerdict, tellNone } from "./verdict.js";
 import { Visits } from "./visits.js";
+import { tellWords } from "./words.js";
 
 /** @type {(id: string) => any} */
 const $ = (id) => document.getElementById(id);
@@ -285,6 +286,7 @@ async function start() {
     return;
   }
   listen();
+  tellWords(document.querySelector("#words dl"));
   openLink();
   document.body.dataset.ready = "";
 }

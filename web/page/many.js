@@ -8,6 +8,7 @@ import { counted } from "./names.js";
 import { sortedBy } from "./ordered.js";
 import { bytesOf, unreadText } from "./reading.js";
 import { toneOf } from "./reasons.js";
+import { meaningOfClass } from "./words.js";
 
 const COLUMNS = [
   { field: "file", name: "file", isRest: true, least: 10 },
@@ -70,6 +71,7 @@ export class Many {
   #choice(name) {
     const button = document.createElement("button");
     button.name = name;
+    button.title = meaningOfClass(name);
     button.innerHTML = (name ? `<i class="${toneOf(name)}"></i>` : "") + `<span>${name || "all"}</span>`;
     button.addEventListener("click", () => {
       this.wanted = name;

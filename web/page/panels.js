@@ -17,13 +17,15 @@ import { bringIntoSight } from "./sight.js";
 import { byteText, rangeOf } from "./bytelink.js";
 import { sourceOfFile, sourceOfMemory } from "./sources.js";
 import { mapSvg } from "./svg.js";
+import { meaningOf } from "./words.js";
 
 /** @typedef {import("./places.js").Target} Target */
 
 const LONG = 4;
 const $ = (id) => document.getElementById(id);
 
-const chip = ([colour, text]) => `<span><i style="background:${colour}"></i>${text}</span>`;
+const titleOf = (text) => text.split(", ").map(meaningOf).filter(Boolean).join(" ");
+const chip = ([colour, text]) => `<span title="${titleOf(text)}"><i style="background:${colour}"></i>${text}</span>`;
 const legendOf = (colours) => colours.map(chip).join("");
 
 /** Why there is no memory to be shown. */

@@ -5,6 +5,7 @@ import { counted, hex } from "./names.js";
 import { classOf, toneOf, whyOf } from "./reasons.js";
 import { showReadings } from "./spellings.js";
 import { warningsText } from "./warned.js";
+import { explained } from "./words.js";
 
 const $ = (id) => document.getElementById(id);
 
@@ -58,7 +59,7 @@ export function tellVerdict(texts, tone) {
   const [first, ...others] = texts;
   const small = others.map((text) => Object.assign(document.createElement("small"), { textContent: text }));
   $("verdict").className = tone;
-  $("verdict").replaceChildren(first, ...small.flatMap((it) => [" ", it]));
+  $("verdict").replaceChildren(explained(first), ...small.flatMap((it) => [" ", it]));
 }
 
 /** Tells what a file is; `choose(i)` is called for another of its readings.

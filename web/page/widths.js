@@ -4,9 +4,8 @@
 const SAMPLED = 200;
 /** A coloured mark before a text, with its gap. */
 const CHIP = 15;
-/** What a rounded width may lack, and the mark of a column that is sorted. */
+/** What a rounded width may lack. */
 const SLACK = 2;
-const SORTED = " ▲";
 
 const drawing = new OffscreenCanvas(1, 1).getContext("2d");
 
@@ -24,12 +23,12 @@ export class Widths {
   /** `columns`: {name, isNumber, isRest, least, isOptional, leaves}, of which those with `isRest` have the rest of the room. Texts are
    *  whole, or where a column says so have that many ems at least. One that is optional leaves while nothing is in it; others leave
    *  a table that is too narrow for all, those of the lowest `leaves` first. */
-  constructor(box, columns, isSorted) {
+  constructor(box, columns) {
     const { fontFamily } = getComputedStyle(box);
     drawing.font = `600 12px ${fontFamily}`;
     this.box = box;
     this.columns = columns;
-    this.heads = columns.map(({ name }) => measured(name + (isSorted ? SORTED : "")));
+    this.heads = columns.map(({ name }) => measured(name));
     this.widths = [];
   }
 

@@ -43,7 +43,38 @@ async function trySpeech(page, hold) {
   hold("a byte that keys lead to is spoken", true, await page.in(keyed));
 }
 
-const WORDS = ["hunk", "unit", "longword", "block", "relocation", "finding", "warning", "wide, another spelling", "stripped"];
+const WORDS = [
+  "hunk", "load file", "object file", "unit", "longword", "block", "base", "offset", "relocation", "symbol", "external name",
+  "reference", "finding", "warning", "another spelling", "plain spelling", "stripped", "chip memory", "HEADER", "CODE", "RELOC32SHORT",
+];
+
+/** Heads that are plain English. */
+const PLAIN = ["bytes", "name", "files that need it", "the first", "what differs", "in A", "in B", "what is wrong", "what is suspicious"];
+
+/** Heads, tabs, parts of legends, kinds of blocks and classes that no title explains, with each list open. */
+const UNEXPLAINED = `
+  const found = [...document.querySelectorAll("[role=tab], .legend span:has(> i), #many-classes button")];
+  for (const tab of document.querySelectorAll("[role=tab]")) {
+    tab.click();
+    const kinds = tab.id === "tab-blocks" ? [...document.querySelectorAll("#list-panel [data-row] > :nth-child(3)")] : [];
+    found.push(...document.querySelectorAll("[role=columnheader]"), ...kinds);
+  }
+  return [...new Set(found.filter((it) => !it.title).map((it) => it.textContent))].filter((it) => !values[0].includes(it)).join()`;
+
+async function tryWords(page, hold) {
+  const said = await page.in(`return [...document.querySelectorAll("#words dt")].map((it) => it.textContent)`);
+  hold("words that are not explained", "", WORDS.filter((it) => !said.includes(it)).join());
+  for (const example of ["sum", "code-and-ext", "two-findings", "short-even"]) {
+    await page.open(`#example=${example}`);
+    hold(`what is not explained where it stands, of ${example}`, "", await page.in(UNEXPLAINED, PLAIN));
+  }
+  await page.drop([["program", PROGRAM], ["sum", SUM], ["text", "54657874"]]);
+  hold("what is not explained of a table", "", await page.in(UNEXPLAINED, PLAIN));
+  await page.drop([["program", PROGRAM]]);
+  hold("what is not explained of a program", "", await page.in(UNEXPLAINED, PLAIN));
+  const verdict = `return [...document.querySelectorAll("#verdict abbr")].map((it) => it.textContent + (it.title ? "" : "?")).join()`;
+  hold("the words of a verdict", "load file,hunks", await page.in(verdict));
+}
 
 export async function compareSpoken(page, hold) {
   await page.open();
@@ -51,6 +82,5 @@ export async function compareSpoken(page, hold) {
   await page.drop([["program", PROGRAM]]);
   hold("the active row of a list", "a row,no row,a row", await page.in(ACTIVE));
   await trySpeech(page, hold);
-  const said = await page.in(`return [...document.querySelectorAll("#words dt")].map((it) => it.textContent)`);
-  hold("words that are not explained", "", WORDS.filter((it) => !said.includes(it)).join());
+  await tryWords(page, hold);
 }
