@@ -23,6 +23,8 @@ export class Grid {
   constructor(box, label, columns, onSort = null) {
     this.id = `grid${grids++}`;
     this.columns = columns;
+    /** The column by which screen readers name a row. */
+    this.named = Math.max(0, columns.findIndex(({ isName }) => isName));
     /** @type {GridRows} */
     this.rows = { count: 0, cells: () => [], pick: () => {} };
     this.active = 0;
@@ -70,6 +72,7 @@ export class Grid {
     this.columns.forEach(({ name, isNumber }, i) => {
       const cell = document.createElement(onSort ? "button" : "span");
       cell.setAttribute("role", "columnheader");
+      cell.setAttribute("aria-colindex", String(i + 1));
       cell.textContent = name;
       cell.title = meaningOf(name);
       if (isNumber) cell.className = "number";
@@ -148,7 +151,8 @@ export class Grid {
       const kind = [this.columns[column].isNumber && "number", tone].filter(Boolean).join(" ");
       const mark = chip ? `<i style="background:${chip}"></i>` : "";
       const told = title && ` title="${escaped(title)}"`;
-      return `<span role="gridcell" class="${kind}"${told}>${mark}${escaped(text)}</span>`;
+      const role = column === this.named ? "rowheader" : "gridcell";
+      return `<span role="${role}" aria-colindex="${column + 1}" class="${kind}"${told}>${mark}${escaped(text)}</span>`;
     });
     const states = `aria-rowindex="${i + 2}" aria-selected="${this.#isChosen(i)}"`;
     return `<div role="row" id="${this.id}-${i}" ${states} data-row="${i}">${drawn.join("")}</div>`;
@@ -232,6 +236,6 @@ export class Grid {
 
   /** A text that is cut is told whole under the pointer. */
   #tellCut(cell) {
-    if (cell.scrollWidth > cell.clientWidth && cell.matches("[role=gridcell]")) cell.title = cell.textContent;
+    if (cell.scrollWidth > cell.clientWidth && cell.matches("[data-row] > span")) cell.title = cell.textContent;
   }
 }

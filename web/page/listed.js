@@ -10,7 +10,8 @@ import { offsetText, warningTarget, warningText } from "./warned.js";
 import { meaningOf } from "./words.js";
 
 /** @typedef {import("./file.js").Examined} Examined */
-/** @typedef {{ name: string, isNumber?: boolean, isRest?: boolean, least?: number, leaves?: number }} Column */
+/** @typedef {{ name: string, isNumber?: boolean, isRest?: boolean, isName?: boolean, least?: number,
+ *   leaves?: number }} Column */
 /** A list: `target(i)` says where a row stands, `cells(i)` is its texts, and a list that is sorted has for each column the `keys` of
  * its rows.
  * @typedef {{ columns: Column[], count: number, target: (i: number) => import("./places.js").Target,
@@ -24,7 +25,7 @@ const UNIT = 2 ** 21;
 const text = (name) => ({ name });
 const number = (name) => ({ name, isNumber: true });
 /** The column that has the rest of the room: names, which are shown whole, or with `least` what may be cut to so many ems. */
-const rest = (name, least = undefined) => ({ name, isRest: true, least });
+const rest = (name, least = undefined) => ({ name, isRest: true, least, isName: name === "name" });
 
 /** Where an item stands: in an object file with its unit. */
 const whereOf = (file, row) => (file.about.hunks > 0 ? row.hunk : `${row.unit}.${row.hunk}`);
@@ -68,7 +69,7 @@ function blockText(file, row) {
 function blockRows(file) {
   const { rows } = file.list("blocks");
   return {
-    columns: [text("at"), number("hunk"), text("block"), number("bytes"), rest("of it", 4)],
+    columns: [text("at"), number("hunk"), { name: "block", isName: true }, number("bytes"), rest("of it", 4)],
     count: rows.length,
     // A block with content has the memory of its hunk; what others say of one is in no memory.
     target(i) {

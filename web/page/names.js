@@ -2,6 +2,7 @@
 
 import { nameOf } from "../../bindings/javascript/hunk.js";
 import { ENTRY_KINDS, entryKindName, flagNames, kindName, KINDS, MEMORIES } from "../../bindings/javascript/kinds.js";
+import { paper } from "./paper.js";
 
 const FAULTS = {
   1: "BadTarget: no hunk of its unit",
@@ -52,11 +53,16 @@ const scheme = matchMedia("(prefers-color-scheme: dark)");
 /** Calls for a change between light and dark, after which all that has colours is to be drawn again. */
 export const whenSchemeChanges = (call) => scheme.addEventListener("change", call);
 
+/** Calls before it is printed, and after that: both change the colours where these are dark. */
+export function whenPrinted(call) {
+  for (const name of ["beforeprint", "afterprint"]) addEventListener(name, () => scheme.matches && call());
+}
+
 /** A colour of the page, of this hue. The paper has `light` 100, and less is further away from it: darker on white paper, and
  * lighter on dark paper. Text in the colour of ink can be read on 65 and more. */
 function tint(hue, light, colourful = 1) {
   const lightness = 0.3 + 0.007 * light;
-  const shown = scheme.matches ? 1.25 - lightness : lightness;
+  const shown = scheme.matches && !paper.isPrinted ? 1.25 - lightness : lightness;
   const chroma = colourful * Math.min(0.13, 0.02 + 0.55 * (1 - lightness));
   return `oklch(${shown.toFixed(3)} ${chroma.toFixed(3)} ${hue.toFixed(1)})`;
 }

@@ -8,7 +8,7 @@ import { ItemLine } from "./itemline.js";
 import { Jumps } from "./jumps.js";
 import { Lists } from "./lists.js";
 import { HunkMap, mapLegend, mapScene } from "./map.js";
-import { counted } from "./names.js";
+import { counted, whenPrinted } from "./names.js";
 import { Picture } from "./picture.js";
 import { fileLegend, fileScene, memoryScene } from "./pictures.js";
 import { filePlace, memoryPlace, memoryRange } from "./places.js";
@@ -47,6 +47,7 @@ export class Panels {
     this.memoryPicture = new Picture($("memory-picture"), "The memory, by hunks");
     this.filePicture = new Picture($("file-picture"), "The file, by blocks");
     this.lists = new Lists($("lists"), (target) => this.pick(target));
+    whenPrinted(() => this.recolour());
     const [back, forward, told] = ["back", "forward", "told"].map((name) => $(`jump-${name}`));
     this.jumps = new Jumps({ back, forward, told }, { here: () => this.#here(), go: (here) => this.#return(here) });
     /** The view that was used last. */

@@ -56,12 +56,12 @@ const CELLS = {
 
 /** The columns of a file without symbols, and of one with: there numbers leave where they have no room. */
 const NUMBERED = [
-  { name: "at" }, { name: "hunk", isNumber: true }, { name: "offset" }, { name: "target", isNumber: true },
+  { name: "at" }, { name: "hunk", isNumber: true }, { name: "offset", isName: true }, { name: "target", isNumber: true },
   { name: "of it", isOptional: true, leaves: 1 }, { name: "kind", isRest: true },
 ];
 const NAMED = [
   { name: "at", leaves: 3 }, { name: "hunk", isNumber: true, leaves: 4 }, { name: "offset", leaves: 5 },
-  { name: "source", isRest: true }, { name: "target", isNumber: true, leaves: 6 }, { name: "of it", isOptional: true, leaves: 2 },
+  { name: "source", isRest: true, isName: true }, { name: "target", isNumber: true, leaves: 6 }, { name: "of it", isOptional: true, leaves: 2 },
   { name: "leads to", isRest: true }, { name: "kind", leaves: 1 },
 ];
 

@@ -1,5 +1,7 @@
 // A long list of which only the rows are made that are seen.
 
+import "./paper.js";
+
 // Browsers lay out no element that is taller than some 17 million pixels. A list that would be is scrolled by its share.
 const TALLEST = 8000000;
 

@@ -95,6 +95,7 @@ export class Widths {
     this.columns.forEach((_, i) => box.classList.toggle(`left-${i}`, !there.includes(i)));
     const one = (i) => (this.columns[i].isRest ? `minmax(${this.widths[i]}px, 1fr)` : `${this.widths[i]}px`);
     box.style.setProperty("--columns", there.map(one).join(" "));
+    box.style.setProperty("--shares", there.map((i) => `minmax(0, ${this.widths[i]}fr)`).join(" "));
     box.style.setProperty("--least", `${there.reduce((sum, i) => sum + this.widths[i], 0)}px`);
     box.style.setProperty("--gaps", String(there.length - 1));
     const gone = this.columns.filter((column, i) => this.widths[i] > 0 && !there.includes(i));

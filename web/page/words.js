@@ -101,7 +101,7 @@ const IN_TEXTS = new RegExp(`\\b(${Object.keys(WORDS).join("|")})(s?)\\b`, "gi")
 
 /** A text in which the title of each word that is told above says what it means. */
 export function explained(text) {
-  const made = document.createElement("span");
+  const made = document.createDocumentFragment();
   let behind = 0;
   for (const found of text.matchAll(IN_TEXTS)) {
     const word = Object.assign(document.createElement("abbr"), { textContent: found[0], title: meaningOf(found[0]) });

@@ -71,9 +71,26 @@ export class Chromium {
     await this.size(this.sized.width, this.sized.height);
   }
 
-  async dark(is) {
-    const features = [{ name: "prefers-color-scheme", value: is ? "dark" : "light" }];
-    await this.send("Emulation.setEmulatedMedia", { features });
+  /** What a page takes the screen for. */
+  media = { media: "", "prefers-color-scheme": "light", "forced-colors": "none" };
+
+  async emulate(change) {
+    Object.assign(this.media, change);
+    const { media, ...features } = this.media;
+    await this.send("Emulation.setEmulatedMedia", { media, features: Object.entries(features).map(([name, value]) => ({ name, value })) });
+  }
+
+  dark(is) {
+    return this.emulate({ "prefers-color-scheme": is ? "dark" : "light" });
+  }
+
+  /** Whether the page is laid out as on paper, and whether the system has all colours. */
+  paper(is) {
+    return this.emulate({ media: is ? "print" : "" });
+  }
+
+  forced(is) {
+    return this.emulate({ "forced-colors": is ? "active" : "none" });
   }
 
   async go(url) {

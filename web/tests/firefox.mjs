@@ -100,6 +100,16 @@ export class Firefox {
     await this.inBrowser(`Services.prefs.setIntPref("layout.css.prefers-color-scheme.content-override", arguments[0])`, is ? 0 : 1);
   }
 
+  /** Whether the page is laid out as on paper, and whether the system has all colours. */
+  async paper(is) {
+    await this.inBrowser(`gBrowser.selectedBrowser.browsingContext.mediumOverride = arguments[0]`, is ? "print" : "");
+  }
+
+  async forced(is) {
+    const script = is ? `setIntPref("browser.display.document_color_use", 2)` : `clearUserPref("browser.display.document_color_use")`;
+    await this.inBrowser(`Services.prefs.${script}`);
+  }
+
   /** Whether it has a screen that is touched, as a phone; pages that are opened then see it. */
   async touch(is) {
     const script = is ? `setIntPref("ui.primaryPointerCapabilities", 1)` : `clearUserPref("ui.primaryPointerCapabilities")`;

@@ -216,7 +216,7 @@ const LOW = `
 
 /** The title of a cell that the pointer has come to, as it is and when it is cut. */
 const CUT = `
-  const cell = [...document.querySelectorAll("[role=gridcell]")].find((it) => it.textContent === "a name");
+  const cell = [...document.querySelectorAll("[role=rowheader], [role=gridcell]")].find((it) => it.textContent === "a name");
   const told = (width) => {
     cell.style.width = width;
     cell.dispatchEvent(new PointerEvent("pointerover", { bubbles: true }));

@@ -257,6 +257,7 @@ const TESTS = {
   drawn: null,
   relocated: null,
   jumps: null,
+  paper: null,
   warned: null,
   async large(page) {
     if (oneOf !== "1") return;

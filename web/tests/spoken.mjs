@@ -61,6 +61,25 @@ const UNEXPLAINED = `
   }
   return [...new Set(found.filter((it) => !it.title).map((it) => it.textContent))].filter((it) => !values[0].includes(it)).join()`;
 
+/** By each list: the head of the column that names a row, where each row has one name. */
+const NAMED = `
+  return [...document.querySelectorAll("[role=tab]")].map((tab) => {
+    tab.click();
+    const heads = [...document.querySelectorAll("#list-panel [role=columnheader]")];
+    const rows = [...document.querySelectorAll("#list-panel [data-row]")];
+    const names = rows.map((row) => row.querySelectorAll("[role=rowheader]"));
+    if (!names.every((it) => it.length === 1 && it[0].textContent)) return "none";
+    const indexes = new Set(names.map((it) => it[0].getAttribute("aria-colindex")));
+    return tab.id.slice(4) + ": " + [...indexes].map((it) => heads[it - 1].textContent).join();
+  }).join("; ")`;
+
+async function tryNamed(page, hold) {
+  await page.drop([["program", PROGRAM]]);
+  hold("the names of rows", "hunks: hunk; blocks: block; symbols: name; relocations: source", await page.in(NAMED));
+  await page.open("#example=code-and-ext");
+  hold("the names of rows of an object file", true, /entries: name; references: name$/.test(await page.in(NAMED)));
+}
+
 async function tryWords(page, hold) {
   const said = await page.in(`return [...document.querySelectorAll("#words dt")].map((it) => it.textContent)`);
   hold("words that are not explained", "", WORDS.filter((it) => !said.includes(it)).join());
@@ -82,5 +101,6 @@ export async function compareSpoken(page, hold) {
   await page.drop([["program", PROGRAM]]);
   hold("the active row of a list", "a row,no row,a row", await page.in(ACTIVE));
   await trySpeech(page, hold);
+  await tryNamed(page, hold);
   await tryWords(page, hold);
 }

@@ -10,7 +10,7 @@ const LISTS = ["hunks", "blocks", "symbols", "relocations"];
 const OPEN = `
   document.getElementById("tab-" + values[0]).click();
   const grid = document.querySelector("#list-panel .grid");
-  const cells = [...grid.querySelectorAll("[role=columnheader], [role=gridcell]")];
+  const cells = [...grid.querySelectorAll("[role=columnheader], [role=rowheader], [role=gridcell]")];
   const isRest = (cell) => [...cell.parentNode.children].indexOf(cell) === values[1];
   const cut = cells.filter((it) => it.scrollWidth > it.clientWidth && !isRest(it));
   return [grid.scrollWidth - grid.clientWidth, ...cut.map((it) => it.textContent)].join()`;
