@@ -7,6 +7,8 @@ import { blockName, entryName, hex, isCommon, isDefinition, isKnown, lastOf, sho
 
 const offset = (number) => `0x${hex(number)}`;
 const nameIn = (file, row) => nameOf(file.bytes, row);
+/** A name may be empty, or end with spaces. */
+const joined = (...parts) => parts.join(" ").trim();
 
 /** Whether a block has what is in no other list. */
 const isOwn = (kind) => kind === KINDS.NAME || kind === KINDS.DEBUG || !isKnown(kind);
@@ -23,7 +25,7 @@ function blockText(file, i) {
   const parts = [blockName(kind), ...names];
   if (kind === KINDS.NAME) parts.push(shown(nameIn(file, { name: content, nameBytes: contentBytes }).split("\0")[0]));
   if (kind === KINDS.DEBUG) parts.push(`${contentBytes} bytes`);
-  return parts.join(" ");
+  return joined(...parts);
 }
 
 /** The offsets at which an entry is referred to. */
@@ -42,9 +44,10 @@ function entryKey(file, i) {
 function entryText(file, i) {
   const row = file.list("entries").rows.at(i);
   const [kind, name] = [entryName(row.kind), shown(nameIn(file, row))];
-  if (isDefinition(row.kind)) return `${kind} ${offset(row.value)} ${name}`;
+  if (isDefinition(row.kind)) return joined(kind, offset(row.value), name);
   const offsets = offsetsOf(file, i);
-  return [kind, ...(isCommon(row.kind) ? [row.value] : []), offsets.length, name, ...offsets.map(offset)].join(" ");
+  const head = joined(kind, ...(isCommon(row.kind) ? [row.value] : []), offsets.length, name);
+  return [head, ...offsets.map(offset)].join(" ");
 }
 
 const symbolAt = (file, i) => file.list("symbols").rows.at(i);
@@ -58,7 +61,7 @@ export const ITEMS = {
   blocks: { key: blockKey, text: blockText, target: targetIn("blocks") },
   symbols: {
     key: (file, i) => `${symbolAt(file, i).value} ${nameIn(file, symbolAt(file, i))}`,
-    text: (file, i) => `${offset(symbolAt(file, i).value)} ${shown(nameIn(file, symbolAt(file, i)))}`,
+    text: (file, i) => joined(offset(symbolAt(file, i).value), shown(nameIn(file, symbolAt(file, i)))),
     target: targetIn("symbols"),
   },
   relocations: {

@@ -5,6 +5,7 @@
 import { execFileSync } from "node:child_process";
 import { copyFileSync, mkdirSync, readFileSync, writeFileSync } from "node:fs";
 import { createServer } from "node:http";
+import { Chromium, Firefox } from "./browser.mjs";
 import { tryLarge } from "./large.mjs";
 import { BASE, Page } from "./page.mjs";
 import { tryMany } from "./many.mjs";
@@ -12,7 +13,6 @@ import { compareMap } from "./pictures.mjs";
 import { takePictures } from "./photos.mjs";
 
 const [browserName, pagePath, program, everyPath, oneOf, pictures, work, ...only] = process.argv.slice(2);
-const { Chromium, Firefox } = { ...(await import("./chromium.mjs")), ...(await import("./firefox.mjs")) };
 const root = new URL("../../", import.meta.url).pathname;
 
 let compared = 0;
@@ -229,6 +229,7 @@ const paths = { root, work, pagePath };
 const TESTS = {
   // First, as Chromium keeps 50 places in the history, and of more forgets those at which nobody has pressed a key.
   staying: null,
+  faults: null,
   async rows(page) {
     for (const row of [...rowsOf("load"), ...rowsOf("objects")]) await compareRow(page, row);
   },
@@ -283,8 +284,8 @@ try {
     await browser.size(1280, 900);
     await page.open();
     await (test ?? (await testOf(name)))(page);
+    for (const fault of await browser.faults()) hold(`an error in the page, at ${name}`, "none", fault);
   }
-  for (const fault of await browser.faults()) hold("an error in the page", "none", fault);
 } catch (error) {
   hold(`the test, at ${what}`, "no error", `${error.message} (${(await browser.faults()).join("; ")})`);
 } finally {
