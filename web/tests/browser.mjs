@@ -46,8 +46,10 @@ class Browser {
     return this;
   }
 
+  /** Firefox also tells what the policy of a page stops, as the icon of a server that the browser itself asks for. */
   #heard({ type, level, text }) {
-    if (level === "error" && (type === "javascript" || type === "console")) this.#faults.push(text);
+    const isOfScript = (type === "javascript" && !text.startsWith("Content-Security-Policy")) || type === "console";
+    if (level === "error" && isOfScript) this.#faults.push(text);
   }
 
   /** The errors that no script of a page has caught, and those that one has told the console, since the last call. */
