@@ -15,9 +15,9 @@ import { verdictText } from "./verdict.js";
 
 const COLUMNS = [
   { name: "hunk", isNumber: true },
-  { name: "what differs", least: 24 },
-  { name: "in A", least: 12 },
-  { name: "in B", isRest: true, least: 12 },
+  { name: "what differs", isRest: true, least: 8 },
+  { name: "in A", isRest: true, least: 6 },
+  { name: "in B", isRest: true, least: 6 },
 ];
 const LONG = 4;
 
@@ -50,7 +50,13 @@ class Part {
     this.name.textContent = file.name;
     this.verdict.textContent = verdictText(file);
     const length = file.fault === undefined ? file.input.length : Math.max(file.input.length, file.fault + LONG);
-    this.view.show(file.input, 0, length, sourceOfFile(file));
+    const source = sourceOfFile(file);
+    // No memory is shown.
+    const item = (at) => {
+      const found = source.item(at);
+      return { ...found, targets: found.targets?.filter((it) => it?.file) };
+    };
+    this.view.show(file.input, 0, length, { ...source, item });
   }
 
   /** Marks where a target stands. */
@@ -78,7 +84,7 @@ export class Compared {
   /** Shows two files.
    * @param {Examined[]} files */
   show(files) {
-    this.section.hidden = false;
+    this.#place(true);
     const refused = files.findIndex((it) => it.about.refusal || !it.hasBlocks);
     this.same.textContent = refused < 0 ? sameLines(files).join(", ") : "";
     this.found = refused < 0 ? [...differences(files[0], files[1])] : [];
@@ -91,7 +97,7 @@ export class Compared {
 
   #summary() {
     if (this.found.length === 0) return "Nothing differs: A and B are the same, byte for byte.";
-    return `${counted(this.found.length, "difference")}: what only one of both has stands on its side.`;
+    return `What differs, in ${counted(this.found.length, "row")}; what only one of both has stands on its side.`;
   }
 
   #cells({ where, what, a, b }) {
@@ -109,6 +115,12 @@ export class Compared {
   }
 
   close() {
-    this.section.hidden = true;
+    this.#place(false);
+  }
+
+  /** The table of many files leaves room for what stands below it. */
+  #place(is) {
+    this.section.hidden = !is;
+    document.body.classList.toggle("compares", is);
   }
 }

@@ -71,6 +71,7 @@ export class SvgDrawing {
   }
 
   fillRect(x, y, width, height) {
+    if (width <= 0) return;
     const box = `x="${rounded(x)}" y="${rounded(y)}" width="${rounded(width)}" height="${rounded(height)}"`;
     this.#put("rect", `${box} fill="${this.#colour(this.fillStyle)}"`);
   }
@@ -89,7 +90,8 @@ export class SvgDrawing {
   /** The whole picture, on paper of this colour, with what it is. */
   text(width, height, paper, title) {
     const [, size, family] = /^(\d+)px (.*)$/.exec(this.font);
-    const box = `viewBox="${values(-MARGIN, -MARGIN, width + 2 * MARGIN, height + 2 * MARGIN)}"`;
+    const [wide, high] = [width + 2 * MARGIN, height + 2 * MARGIN];
+    const box = `width="${rounded(wide)}" height="${rounded(high)}" viewBox="${values(-MARGIN, -MARGIN, wide, high)}"`;
     const head = `<svg xmlns="http://www.w3.org/2000/svg" ${box} font-size="${size}" font-family="${escaped(family)}">\n`;
     const sheet = `<rect x="${-MARGIN}" y="${-MARGIN}" width="100%" height="100%" fill="${this.#colour(paper)}"/>\n`;
     return `${head}<title>${escaped(title)}</title>\n${sheet}${this.#parts.join("")}</svg>\n`;

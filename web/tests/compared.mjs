@@ -62,6 +62,20 @@ async function compareOthers(page, hold) {
   hold("and back", "two,three", await page.in(names));
 }
 
+/** Nothing lies over something else, and nothing is wider than the window. */
+async function compareLayout(page, hold) {
+  const tops = `const [table, compared] = ["many", "compare"].map((id) => document.getElementById(id).getBoundingClientRect());
+    const last = document.getElementById("compare-b").getBoundingClientRect();
+    const words = document.getElementById("words").getBoundingClientRect();
+    return [compared.top >= table.bottom, words.top >= last.bottom, document.documentElement.scrollWidth <= innerWidth].join()`;
+  for (const width of [1280, 390]) {
+    await page.browser.size(width, 900);
+    await compare(page, [["one", LOAD], ["other", OTHER]]);
+    hold(`the parts below each other, at ${width}`, "true,true,true", await page.in(tops));
+  }
+  await page.browser.size(1280, 900);
+}
+
 async function comparePicked(page, hold, work) {
   writeFileSync(`${work}/other`, Buffer.from(OTHER, "hex"));
   await page.hex(LOAD);
@@ -89,6 +103,7 @@ async function compareCommand(page, hold, work) {
 
 export async function compareCompared(page, hold, { work }) {
   await compareByHand(page, hold);
+  await compareLayout(page, hold);
   await compareOthers(page, hold);
   await comparePicked(page, hold, work);
   if (hasCommand) await compareCommand(page, hold, work);
