@@ -1,5 +1,4 @@
 use Rattle.std.proofs.Common.{◌≡◌, false, rules, true}
-use Rattle.hunk_run.specs.Stores.{bytes_of_input}
 use Rattle.hunk_run.proofs.Accepted.{answers_first, says_first}
 use Rattle.hunk_run.proofs.listing.list_input.Goals as goal
 
@@ -7,10 +6,8 @@ pub returns-in-Some-clause-answers : goal.returns-in-Some-clause-answers
 returns-in-Some-clause-answers g c =
     let plain : c.args.form.hex ≡ false = search rules in
     let flag : c.args.form.wide ≡ true = search rules in
-    answers_first g.W.Sink.outlet c.args.listing
-    (bytes_of_input (g.S.Store.holdings c.args.store.now) (g.S.Store.opened c.args.store.now) (g.S.Store.made c.args.store.now) c.args.file.now) 67108864 c.args.out.now c.list_first.new.out c.args.form.hex c.args.form.wide c.in-Some.answer c.in-Some.cause plain flag c.in-Some.ensures.lists
+    answers_first g.W.Sink.outlet c.args.listing _ 67108864 c.args.out.now c.list_first.new.out c.args.form.hex c.args.form.wide c.in-Some.answer c.in-Some.cause plain flag c.in-Some.ensures.lists
 
 pub returns-in-Some-clause-spelled : goal.returns-in-Some-clause-spelled
 returns-in-Some-clause-spelled g c =
-    says_first g.W.Sink.outlet c.args.listing
-    (bytes_of_input (g.S.Store.holdings c.args.store.now) (g.S.Store.opened c.args.store.now) (g.S.Store.made c.args.store.now) c.args.file.now) 67108864 c.args.out.now c.list_first.new.out c.args.form.hex c.args.form.wide c.in-Some.answer c.in-Some.cause c.in-Some.ensures.lists
+    says_first g.W.Sink.outlet c.args.listing _ 67108864 c.args.out.now c.list_first.new.out c.args.form.hex c.args.form.wide c.in-Some.answer c.in-Some.cause c.in-Some.ensures.lists

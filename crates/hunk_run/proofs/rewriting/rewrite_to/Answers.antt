@@ -1,8 +1,6 @@
-use Rattle.std.proofs.Common.{rules, ◌≡◌, ◌∙◌, ℕ, List, Result, Ok, ap, refl, subst}
+use Rattle.std.proofs.Common.{rules, ◌≡◌, ◌∙◌, ℕ, Result, Ok, ap, refl, subst}
 use Rattle.std.specs.Prelude.{IfOk, OnOk}
-use Rattle.hunk_words.specs.Carriers.{saturated}
-use Rattle.hunk_commands.specs.Engine.{IsTextOfSome, PutsAll}
-use Rattle.hunk_commands.specs.Inputs.{ReadsInput}
+use Rattle.hunk_commands.specs.Engine.{IsTextOfSome}
 use Rattle.hunk_commands.specs.Rewritten.{IsRewritten}
 use Rattle.hunk_commands.specs.declared.fault.RunFault.{RunFault}
 use Rattle.hunk_commands.specs.declared.rewriting.Rewritten.{Rewritten}
@@ -18,10 +16,8 @@ of_ok {T} {E} result value Holds is holds = subst (λ (r : Result T E). IfOk r H
 
 pub returns-in-Ok-kept-clause-rewrites : goal.returns-in-Ok-kept-clause-rewrites
 returns-in-Ok-kept-clause-rewrites g c =
-    let all = of_ok c.rewrite_asked-answer.result.0 c.in-Ok.done
-    (λ (done : Rewritten). ReadsInput (λ (input : List ℕ). PutsAll file_outlet (IsRewritten c.args.way.strip done (meant c.args.way.wide input)) c.new-writer.result c.rewrite_asked-answer.new.writer)
-    (g.R.Source.supply c.args.source.now) (g.R.Source.supply c.rewrite_asked-answer.new.source) 67108864) c.in-Ok.is c.rewrite_asked-answer.ensures.done in
-    let counted = of_ok c.rewrite_asked-answer.result.0 c.in-Ok.done (λ (done : Rewritten). done.written ≡ saturated c.rewrite_asked-answer.new.writer.written) c.in-Ok.is c.rewrite_asked-answer.ensures.counted in
+    let all = of_ok c.rewrite_asked-answer.result.0 c.in-Ok.done _ c.in-Ok.is c.rewrite_asked-answer.ensures.done in
+    let counted = of_ok c.rewrite_asked-answer.result.0 c.in-Ok.done _ c.in-Ok.is c.rewrite_asked-answer.ensures.counted in
     record {
       input = all.input;
       read = all.read;
@@ -34,10 +30,8 @@ returns-in-Ok-kept-clause-rewrites g c =
 
 pub returns-in-Err-kept-clause-write : goal.returns-in-Err-kept-clause-write
 returns-in-Err-kept-clause-write g c = λ written is.
-    let all = of_ok c.rewrite_asked-answer.result.0 c.in-Ok.done
-    (λ (done : Rewritten). ReadsInput (λ (input : List ℕ). PutsAll file_outlet (IsRewritten c.args.way.strip done (meant c.args.way.wide input)) c.new-writer.result c.rewrite_asked-answer.new.writer)
-    (g.R.Source.supply c.args.source.now) (g.R.Source.supply c.rewrite_asked-answer.new.source) 67108864) c.in-Ok.is c.rewrite_asked-answer.ensures.done in
-    let counted = of_ok c.rewrite_asked-answer.result.0 c.in-Ok.done (λ (done : Rewritten). done.written ≡ saturated c.rewrite_asked-answer.new.writer.written) c.in-Ok.is c.rewrite_asked-answer.ensures.counted in
+    let all = of_ok c.rewrite_asked-answer.result.0 c.in-Ok.done _ c.in-Ok.is c.rewrite_asked-answer.ensures.done in
+    let counted = of_ok c.rewrite_asked-answer.result.0 c.in-Ok.done _ c.in-Ok.is c.rewrite_asked-answer.ensures.counted in
     let (puts, whole) = all.holds in
     let same : c.in-Ok.done.written ≡ written = cc in
     record {
