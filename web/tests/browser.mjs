@@ -124,7 +124,10 @@ export class Firefox extends Browser {
     const run = spawn("firefox-esr", words, { stdio: ["ignore", "ignore", "pipe"], env: { ...process.env, HOME: folder } });
     const bidi = await Bidi.open(`${await said(run.stderr, /WebDriver BiDi listening on (ws:\S+)/)}/session`);
     await bidi.send("session.new", { capabilities: {} });
-    return new Firefox(run, bidi).begin();
+    const browser = await new Firefox(run, bidi).begin();
+    // The field for addresses has the focus at first, and then a page draws none.
+    await browser.#inBrowser("gBrowser.selectedBrowser.focus()");
+    return browser;
   }
 
   /** Runs a script in the window of the browser itself. */
