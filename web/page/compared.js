@@ -43,7 +43,8 @@ class Part {
     this.name = box.querySelector("strong");
     this.verdict = box.querySelector("span");
     const [hex, item] = box.querySelectorAll("div");
-    this.view = new HexView(hex, `${box.id.slice(-1).toUpperCase()}, as hexadecimal digits`, new ItemLine(item, (it) => this.pick(it)));
+    const line = new ItemLine(item, (it) => this.pick(it));
+    this.view = new HexView(hex, `${box.id.slice(-1).toUpperCase()}, as hexadecimal digits`, line);
   }
 
   show(file) {
@@ -88,7 +89,8 @@ export class Compared {
     const refused = files.findIndex((it) => it.about.refusal || !it.hasBlocks);
     this.same.textContent = refused < 0 ? sameLines(files).join(", ") : "";
     this.found = refused < 0 ? [...differences(files[0], files[1])] : [];
-    this.told.textContent = refused < 0 ? this.#summary() : `Nothing is compared: ${"AB"[refused]} is refused, or is more than this page lists.`;
+    const why = `Nothing is compared: ${"AB"[refused]} is refused, or is more than this page lists.`;
+    this.told.textContent = refused < 0 ? this.#summary() : why;
     for (const it of [this.list, this.button]) it.hidden = this.found.length === 0;
     files.forEach((file, i) => this.parts[i].show(file));
     this.grid.show({ count: this.found.length, cells: (i) => this.#cells(this.found[i]), pick: (i) => this.#pick(this.found[i]) });

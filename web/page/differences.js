@@ -110,7 +110,8 @@ function* itemsOf(list, a, b) {
   const onlyA = onlyIn(rows, keyOf, others, otherKeyOf);
   const onlyB = onlyIn(others, otherKeyOf, rows, keyOf);
   const { where } = a;
-  const head = `${list}${onlyA.length + onlyB.length === 0 ? " in another order" : `: ${onlyA.length} only in A, ${onlyB.length} only in B`}`;
+  const isOrder = onlyA.length + onlyB.length === 0;
+  const head = isOrder ? `${list} in another order` : `${list}: ${onlyA.length} only in A, ${onlyB.length} only in B`;
   yield { text: `hunk ${where}: ${head}`, where, what: head, a: "", b: "", inA: a.target, inB: b.target };
   for (const i of onlyA) {
     const said = text(a.file, i);
@@ -135,7 +136,8 @@ function* inHunk(a, b) {
     const { first } = differing(a.data, b.data);
     const at = first < 0 ? Math.min(a.data.length, b.data.length) : first;
     const [its, others] = [bytesAt(a.data, at), bytesAt(b.data, at)];
-    yield { text: `hunk ${where}: content: ${told}`, where, what: `content: ${told}`, a: its, b: others, inA: a.from(at), inB: b.from(at) };
+    const what = `content: ${told}`;
+    yield { text: `hunk ${where}: ${what}`, where, what, a: its, b: others, inA: a.from(at), inB: b.from(at) };
   }
   for (const list of Object.keys(ITEMS)) yield* itemsOf(list, a, b);
 }

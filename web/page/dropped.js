@@ -1,5 +1,5 @@
-// The files that are dropped or picked, of folders all that is in them: {file, name, again}, or {name, error} of what the browser does
-// not give. `again()` gives the file as it is on disk by then, where the browser lets it be asked for.
+// The files that are dropped or picked, of folders all that is in them: {file, name, again}, or {name, error} of what the browser
+// does not give. `again()` gives the file as it is on disk by then, where the browser lets it be asked for.
 
 // A folder comes as an entry or as a handle. Entries have every name, and Firefox has no handles. But to a page that was opened
 // from a disk, Chromium gives entries that can't be read, and its handles leave out names that not every system takes.
