@@ -91,6 +91,7 @@ export function arcsText(map) {
   if (map.arcs.length === 0) return "";
   const arc = "an arc leads to the hunk whose base is added, in its colour; it is thicker where that is more often";
   if (!isCrowded(map)) return arc;
-  const others = `${map.arcs.length.toLocaleString("en")} pairs of bars`;
-  return `a column above a bar says how many relocations of others lead there. Of ${others} arcs are drawn for the hunk under the pointer: ${arc}`;
+  const columns = "a column above a bar says how many relocations of others lead there";
+  const pairs = `${map.arcs.length.toLocaleString("en")} pairs of bars`;
+  return `${columns}. Of ${pairs} arcs are drawn for the hunk under the pointer: ${arc}`;
 }

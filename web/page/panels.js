@@ -199,7 +199,8 @@ export class Panels {
 
   /** The byte at which one is, as a link says it; nothing before the first of a file. */
   get byte() {
-    return byteText(this.file, this.used === this.memoryView && this.memory ? { memory: this.used.caret } : { file: this.fileView.caret });
+    const isInMemory = this.memory && this.used === this.memoryView;
+    return byteText(this.file, isInMemory ? { memory: this.memoryView.caret } : { file: this.fileView.caret });
   }
 
   /** Goes to a byte that a link says; whether there is one. */

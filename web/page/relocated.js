@@ -61,8 +61,8 @@ const NUMBERED = [
 ];
 const NAMED = [
   { name: "at", leaves: 3 }, { name: "hunk", isNumber: true, leaves: 4 }, { name: "offset", leaves: 5 },
-  { name: "source", isRest: true, isName: true }, { name: "target", isNumber: true, leaves: 6 }, { name: "of it", isOptional: true, leaves: 2 },
-  { name: "leads to", isRest: true }, { name: "kind", leaves: 1 },
+  { name: "source", isRest: true, isName: true }, { name: "target", isNumber: true, leaves: 6 },
+  { name: "of it", isOptional: true, leaves: 2 }, { name: "leads to", isRest: true }, { name: "kind", leaves: 1 },
 ];
 
 /** @type {(file: Examined) => import("./listed.js").Listed} */

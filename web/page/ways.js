@@ -48,7 +48,8 @@ export class Ways {
     if (!this.out) this.#pairs();
     const list = back ? this.back : this.out;
     const found = new Map();
-    for (let i = lastOf(list.length, (at) => list[at], hunk * HUNKS - 1) + 1; i < list.length && list[i] < (hunk + 1) * HUNKS; i++) {
+    const first = lastOf(list.length, (at) => list[at], hunk * HUNKS - 1) + 1;
+    for (let i = first; i < list.length && list[i] < (hunk + 1) * HUNKS; i++) {
       const other = list[i] % HUNKS;
       found.set(other, (found.get(other) ?? 0) + 1);
     }

@@ -78,7 +78,8 @@ export class Widths {
   /** The numbers of the columns for which there is room. */
   #fitting() {
     const found = this.columns.map((_, i) => i).filter((i) => this.widths[i] > 0);
-    const going = found.filter((i) => this.columns[i].leaves).sort((one, other) => this.columns[other].leaves - this.columns[one].leaves);
+    const leaves = (i) => this.columns[i].leaves;
+    const going = found.filter(leaves).sort((one, other) => leaves(other) - leaves(one));
     const { clientWidth } = this.box;
     while (clientWidth > 0 && going.length > 0 && this.#wide(found) > clientWidth) found.splice(found.indexOf(going.pop()), 1);
     return found;
@@ -99,6 +100,7 @@ export class Widths {
     box.style.setProperty("--least", `${there.reduce((sum, i) => sum + this.widths[i], 0)}px`);
     box.style.setProperty("--gaps", String(there.length - 1));
     const gone = this.columns.filter((column, i) => this.widths[i] > 0 && !there.includes(i));
-    this.leftText = gone.length > 0 ? `No room for ${gone.map(({ name }) => name).join(", ")}: copied and saved with the rest` : "";
+    const names = gone.map(({ name }) => name).join(", ");
+    this.leftText = names && `No room for ${names}: copied and saved with the rest`;
   }
 }

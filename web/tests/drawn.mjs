@@ -40,7 +40,8 @@ function toSeven() {
 async function tryCrowded(page, hold) {
   await page.drop([["targets", manyTargets(269, 12)]]);
   const legend = await page.in(`return document.getElementById("map-arcs").textContent`);
-  hold("what the columns of 269 hunks mean", true, /^a column above a bar says how many .*arcs are drawn for the hunk under the pointer/.test(legend));
+  const said = /^a column above a bar says how many .*arcs are drawn for the hunk under the pointer/;
+  hold("what the columns of 269 hunks mean", true, said.test(legend));
   await page.drop([["seven", toSeven()]]);
   const highest = `${HEIGHTS} const most = Math.max(...columns); return columns.indexOf(most) / columns.length`;
   // Hunk 7 is in the second of 64 bars.
@@ -57,7 +58,8 @@ async function tryCrowded(page, hold) {
   hold("they reach over the map", true, (await page.in(wide, 200)) > 0.8);
   await page.in(POINT, 0, 0.99);
   const tip = `return document.querySelector("#hunks .picture-tip").textContent`;
-  hold("where one of many leads to", "hunk 297, CODE, 8 bytes, any memory, 2 relocations: 1 to hunk 7, 1 to hunk 298", await page.in(tip));
+  const told = "hunk 297, CODE, 8 bytes, any memory, 2 relocations: 1 to hunk 7, 1 to hunk 298";
+  hold("where one of many leads to", told, await page.in(tip));
 }
 
 /** How far the row that is marked is from the paper, and whether it has an edge. */

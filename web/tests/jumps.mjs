@@ -56,7 +56,8 @@ async function tryMoved(page, hold) {
   hold("forward by keys", "21000,1c,56", await run(page, `document.body.dispatchEvent(new KeyboardEvent("keydown",
     { key: "Backspace", shiftKey: true, bubbles: true })); return place()`));
   hold("Backspace in a field", "21000,1c,56", await run(page, `keyed("find-file", "Backspace"); return place()`));
-  const anew = `back().click(); row("blocks", 2); const one = forward().disabled; row("blocks", 2); back().click(); return [one, place()].join()`;
+  const anew = `back().click(); row("blocks", 2); const one = forward().disabled;
+    row("blocks", 2); back().click(); return [one, place()].join()`;
   hold("a jump leaves what was forward, and the same one again adds nothing", "true,21000,56,0", await run(page, anew));
   const left = `keyed("file-hex", "ArrowRight"); back().click(); forward().click(); return place()`;
   await run(page, `row("blocks", 0); row("blocks", 1)`);
@@ -96,7 +97,8 @@ async function tryLinks(page, hold) {
   const [short, told] = await run(page, COPY);
   hold("the link of a large file", true, /^at=[0-9a-f]+$/.test(short) && told.startsWith("Copied. It leads to the byte"));
   await page.shows(() => page.in(`location.hash = "#at=30"`));
-  hold("an address to a byte of the file that is shown", "30,large", await run(page, `return at("file", "caret")[0] + "," + document.title.split(" ")[0]`));
+  const shown = `return at("file", "caret")[0] + "," + document.title.split(" ")[0]`;
+  hold("an address to a byte of the file that is shown", "30,large", await run(page, shown));
 }
 
 export async function compareJumps(page, hold) {

@@ -159,8 +159,9 @@ async function compareLong(page, hold) {
   hold("what of that has no outline, or is not seen", "", unseen);
   await press(page, "ArrowLeft");
   const [list] = await way(page, "Tab", "map-picture");
-  hold("what follows a list that scrolls", `input of list-panel select of list-panel grid of list-panel ${Array(5).fill("columnheader of list-panel").join(" ")} ` +
-    "copy-list save-list save-stripped save-linkable map-picture", list);
+  const five = Array(5).fill("columnheader of list-panel").join(" ");
+  const behind = `input of list-panel select of list-panel grid of list-panel ${five} copy-list save-list save-stripped save-linkable map-picture`;
+  hold("what follows a list that scrolls", behind, list);
   await reach(page, "grid of list-panel", "Shift+Tab");
   await press(page, "End", "Enter");
   hold("the last relocation", true, (await page.in(PICKED)).split(",").every((it) => it.split(" ").length === 4));

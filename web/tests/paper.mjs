@@ -9,8 +9,8 @@ const ON_PAPER = `
   const cells = seen("#list-panel [data-row] > *");
   const { right } = document.getElementById("lists").getBoundingClientRect();
   const cut = cells.filter((it) => it.scrollWidth > it.clientWidth + 1 || it.getBoundingClientRect().right > right + 1);
-  const lefts = (line) => [...line.children].filter((it) => it.checkVisibility()).map((it) => Math.round(it.getBoundingClientRect().left)).join();
-  const isOver = lefts(document.querySelector("#list-panel .head")) === lefts(document.querySelector("#list-panel [data-row]"));
+  const lefts = (line) => seen("#list-panel " + line).map((it) => Math.round(it.getBoundingClientRect().left)).join();
+  const isOver = lefts(".head > *") === lefts("[data-row='0'] > *");
   return [seen("[role=tab]").length, isOver, seen("#list-panel [role=columnheader]").length > 3,
     seen("[type=search], .button, button:not([role])").map((it) => it.id).join("+"),
     cells.length > 0, cut.length, document.documentElement.scrollWidth > innerWidth].join()`;
@@ -55,7 +55,8 @@ const FORCED = `
   probe.remove();
   const style = (selector) => getComputedStyle(document.querySelector(selector));
   return [
-    style("#memory-hex .picked").backgroundColor === highlight, style("#list-panel [aria-selected=true]").backgroundColor === highlight,
+    style("#memory-hex .picked").backgroundColor === highlight,
+    style("#list-panel [aria-selected=true]").backgroundColor === highlight,
     style("#memory-hex .relocated").borderBottomStyle, style("#memory-hex .symbol").borderLeftStyle,
     style("#list-panel i").forcedColorAdjust, style("[role=tab][aria-selected=true]").outlineStyle,
   ].join()`;

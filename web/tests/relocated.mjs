@@ -16,13 +16,15 @@ const OBJECT = digits(`
 const COLUMN = `
   const heads = [...document.querySelectorAll("#list-panel [role=columnheader]")];
   const column = (name) => heads.findIndex((it) => it.textContent === name);
-  const texts = (name) => [...document.querySelectorAll("#list-panel [data-row]")].map((row) => row.children[column(name)]?.textContent);
+  const rows = () => [...document.querySelectorAll("#list-panel [data-row]")];
+  const texts = (name) => rows().map((row) => row.children[column(name)]?.textContent);
   const press = (name) => heads[column(name)].click();`;
 
 const open = (list) => `document.getElementById("tab-${list}").click();`;
 
 async function tryNames(page, hold) {
-  const ways = `${open("relocations")} ${COLUMN} return texts("source").map((it, i) => it + " > " + texts("leads to")[i]).slice(0, 3).join()`;
+  const ways = `${open("relocations")} ${COLUMN}
+    return texts("source").map((it, i) => it + " > " + texts("leads to")[i]).slice(0, 3).join()`;
   await page.drop([["program", PROGRAM]]);
   // By hand: the nine addresses of hunk 1 in hunk 0 stand at 4, 24, 44 and so on to 164, and have 0, 4, 8 and so on to 20, and again;
   // a group begins with its last. _main is at 72.
@@ -30,7 +32,8 @@ async function tryNames(page, hold) {
   await page.drop([["object", OBJECT]]);
   hold("relocations of an object file", "_second + 4 > _data + 2", await page.in(ways));
   await page.hex(SUM);
-  const columns = `${open("relocations")} ${COLUMN} return heads.filter((it) => it.checkVisibility()).map((it) => it.textContent).join()`;
+  const columns = `${open("relocations")} ${COLUMN}
+    return heads.filter((it) => it.checkVisibility()).map((it) => it.textContent).join()`;
   hold("the columns of a file without symbols", "at,hunk,offset,target,of it,kind", await page.in(columns));
   const values = `${open("relocations")} ${COLUMN} return texts("of it").join()`;
   // By hand: 20 stands at offset 2 of hunk 0, and 4 at offset 8.
@@ -55,7 +58,8 @@ async function trySorted(page, hold) {
       const padded = ["hunk", "target"].includes(name) ? sorted : sorted.replace(`.map((it) => it.padStart(4, "0"))`, "");
       hold(`${list} by ${name}`, true, isRising(await page.in(padded, name)));
       hold(`${list} by ${name}, falling`, true, isRising((await page.in(padded, name)).reverse()));
-      const marked = `${COLUMN} return heads.map((it) => it.getAttribute("aria-sort")).filter(Boolean).join() + heads[column(values[0])].ariaSort`;
+      const marked = `${COLUMN}
+        return heads.map((it) => it.getAttribute("aria-sort")).filter(Boolean).join() + heads[column(values[0])].ariaSort`;
       hold(`what ${list} are sorted by`, "descendingdescending", await page.in(marked, name));
     }
   }
@@ -87,7 +91,8 @@ async function tryFiltered(page, hold) {
       select.value = values[0] && [...select.options].find((it) => it.text === "in " + values[0]).value;
       select.dispatchEvent(new Event("change"))`, column);
     await type(page, "#list-panel input", said);
-    hold(`${list} with ${said} in ${column || "any column"}`, wanted, await page.in(`${COLUMN} return texts(values[0]).join()`, other));
+    const left = await page.in(`${COLUMN} return texts(values[0]).join()`, other);
+    hold(`${list} with ${said} in ${column || "any column"}`, wanted, left);
   }
 }
 

@@ -50,7 +50,8 @@ const MANY = `
   const heads = [...grid.querySelectorAll("[role=columnheader]")];
   const seen = heads.filter((it) => it.checkVisibility());
   const isTold = seen.length === heads.length || /^No room for .*sum/.test(grid.querySelector(".head").title);
-  return [grid.scrollWidth - grid.clientWidth, ["file", "bytes", "class"].every((it) => seen.some((head) => head.textContent === it)), isTold].join()`;
+  const areThere = ["file", "bytes", "class"].every((it) => seen.some((head) => head.textContent === it));
+  return [grid.scrollWidth - grid.clientWidth, areThere, isTold].join()`;
 
 async function compareMany(page, hold) {
   for (const width of WINDOWS) {
