@@ -130,11 +130,14 @@ def address_of(memory: Union[bytearray, memoryview]) -> Optional[int]:
     return ctypes.addressof(c_uint8.from_buffer(memory)) if memory else None
 
 
-def rows_of(call: Call, size: int, data: bytes, *words: Any, expected: int = 0) -> bytearray:
-    """The rows of so many bytes that the call writes, with room for as many as are expected. Where they are more, it says how
-    many, and is called again."""
-    rows = room(size * expected)
-    answer = call(data, len(data), *words, address_of(rows), expected)
+# There is room for so many rows before it is known how many a file has: most have fewer of a kind.
+FEW = 64
+
+
+def rows_of(call: Call, size: int, data: bytes, *words: Any) -> bytearray:
+    """The rows of so many bytes that the call writes. Where they are more than a few, it says how many, and is called again."""
+    rows = room(size * FEW)
+    answer = call(data, len(data), *words, address_of(rows), FEW)
     if answer.number == NO_ROOM:
         rows = room(size * answer.count)
         answer = call(data, len(data), *words, address_of(rows), answer.count)

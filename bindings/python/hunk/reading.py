@@ -6,7 +6,7 @@ import bisect
 from functools import cached_property
 from typing import Any, Optional, Type, TypeVar
 
-from hunk.library import BYTES, NO_ROOM, OK, ROOM, HunkError, accepted, address_of, bytes_of, call, room, rows_of
+from hunk.library import BYTES, NO_ROOM, ROOM, HunkError, accepted, address_of, bytes_of, call, room, rows_of
 from hunk.lists import KINDS, Blocks, Entries, Findings, References, Relocations, Rows, Symbols, Units, Warnings
 from hunk.loading import table
 from hunk.rows import (
@@ -37,13 +37,7 @@ _units, _blocks, _symbols, _relocations, _entries, _references = (
     call(f"hunk_{it}", *BYTES, *ROOM) for it in ("units", "blocks", "symbols", "relocations", "entries", "references")
 )
 
-# There is room for so many rows before it is known how many a file has.
-FEW = 64
-# Of a file of more bytes it is quicker to ask its blocks how many items they have, where these are few, than to ask for that.
-LARGE = 1 << 16
 CONTENTS = (Kind.CODE, Kind.DATA, Kind.BSS)
-# Those of blocks of relocations.
-OFFSETS = {it for it in Kind if "REL" in it.name}
 
 
 def check(data: Data) -> Rows[Finding]:
@@ -79,22 +73,8 @@ class File:
         """The data of a block, or its name with padding, as it stands in the file."""
         return self.data[block.content : block.content + block.content_bytes]
 
-    def _rows(self, kind: Type[_List], call: Any, *given: Any, expected: int = FEW) -> _List:
-        return kind(rows_of(call, kind.LAYOUT.size, self._listed, expected=expected), *given)
-
-    @cached_property
-    def _few(self) -> tuple[Optional[bytearray], int]:
-        """The library's rows of the blocks where these are few, and how many they are."""
-        rows = room(FEW * Blocks.LAYOUT.size)
-        answer = _blocks(self._listed, len(self._listed), address_of(rows), FEW)
-        return rows[: answer.count * Blocks.LAYOUT.size] if answer.number == OK else None, answer.count
-
-    def _items(self, *kinds: Kind) -> int:
-        """How many items the blocks of these kinds have; of a small file, or one with many blocks, what is expected."""
-        if len(self._listed) <= LARGE or self._few[0] is None:
-            return FEW
-        blocks = self._listed_blocks
-        return sum(items for kind, items in zip(blocks.column("kind"), blocks.column("items")) if kind in kinds)
+    def _rows(self, kind: Type[_List], call: Any, *given: Any) -> _List:
+        return kind(rows_of(call, kind.LAYOUT.size, self._listed), *given)
 
     @cached_property
     def hunks(self) -> list[Hunk]:
@@ -113,8 +93,7 @@ class File:
     @cached_property
     def _listed_blocks(self) -> Blocks:
         """The blocks, with those that close what stands before a fault: BSS and END."""
-        rows, count = self._few
-        return self._rows(Blocks, _blocks, expected=count) if rows is None else Blocks(rows)
+        return self._rows(Blocks, _blocks)
 
     @cached_property
     def blocks(self) -> Rows[Block]:
@@ -123,16 +102,16 @@ class File:
 
     @cached_property
     def symbols(self) -> Rows[Symbol]:
-        return self._rows(Symbols, _symbols, self.data, expected=self._items(Kind.SYMBOL))
+        return self._rows(Symbols, _symbols, self.data)
 
     @cached_property
     def relocations(self) -> Rows[Relocation]:
-        return self._rows(Relocations, _relocations, expected=self._items(*OFFSETS))
+        return self._rows(Relocations, _relocations)
 
     @cached_property
     def entries(self) -> Rows[Entry]:
         """The entries of EXT blocks, each with its references."""
-        return self._rows(Entries, _entries, self.data, self.references, expected=self._items(Kind.EXT))
+        return self._rows(Entries, _entries, self.data, self.references)
 
     @cached_property
     def references(self) -> Rows[Reference]:
