@@ -17,6 +17,7 @@ pub mod ObjectTails
 pub mod PartKinds
 pub mod PartTests
 pub mod Passing
+pub mod RoomForBuilt
 pub mod RowsSpell
 pub mod SeenLongs
 pub mod SpelledFiles

@@ -1,6 +1,8 @@
 //! Laws over the definitions alone: each function does nothing, and its contract is the law.
-ghost use Rattle.std.specs.Prelude.{◌≡◌, ◌≤◌, ◌<◌, ◌↔◌, ◌++◌, ◌*◌, ◌^◌, ℕ, List, None, Ok, Result, Some};
+ghost use Rattle.std.specs.Prelude.{◌≡◌, ◌≢◌, ◌≤◌, ◌<◌, ◌↔◌, ◌++◌, ◌+◌, ◌*◌, ◌^◌, ℕ, List, Result};
+ghost use Rattle.std.specs.Prelude.{Err, None, Ok, Some};
 ghost use Rattle.std.specs.Prelude.{drop, length, map, take};
+ghost use Rattle.std.specs.List.{sum_by};
 ghost use Rattle.hunk_files.specs.HunkFile.{IsFileOf, file_bytes};
 ghost use Rattle.hunk_files.specs.declared.hunk_file.HunkFile.{HunkFile};
 ghost use Rattle.hunk_parts.specs.Builds.{Builds, size_of};
@@ -8,9 +10,11 @@ ghost use Rattle.hunk_parts.specs.PartFaults.{row_fault};
 ghost use Rattle.hunk_parts.specs.PartRows.{part_rows};
 ghost use Rattle.hunk_parts.specs.Parts.{AreParts, parts_of, seen};
 ghost use Rattle.hunk_parts.specs.ReadBack.{HasRows};
+ghost use Rattle.hunk_parts.specs.RowFields.{pointed_bytes};
 ghost use Rattle.hunk_parts.specs.declared.part_row.PartRow.{PartRow};
 ghost use Rattle.hunk_parts.specs.declared.row_fault.BuiltSize.{BuiltSize};
 ghost use Rattle.hunk_parts.specs.declared.row_fault.NotBuilt.{NotBuilt};
+ghost use Rattle.hunk_parts.specs.declared.row_fault.NotBuilt.TheVariants.{NoRoom};
 
 use crate::part_row::PartRow;
 use crate::row_fields::are_rows;
@@ -62,4 +66,12 @@ pub fn read_back()
     ensures { (bytes : List ℕ) (rows : List PartRow) (old new : List ℕ) (size : BuiltSize)
         → length old < 2 ^ 64 → Builds bytes rows old new (Ok size)
         → (file : HunkFile) × HasRows bytes rows (take size.bytes new) file }
+{}
+
+/// 20 bytes, 16 for each row, and as many as the rows point at, are room for what they spell.
+pub fn room_for_built()
+    ensures { (bytes : List ℕ) (rows : List PartRow) (old new : List ℕ)
+        (built : Result BuiltSize NotBuilt) → Builds bytes rows old new built
+        → 20 + 16 * length rows + sum_by pointed_bytes rows ≤ length old
+        → (size : BuiltSize) → built ≢ Err (NoRoom size) }
 {}

@@ -1,11 +1,11 @@
 //! The parts of a hunk file in a flat list of rows, and the file that such rows spell.
 #![tactic(auto)]
 
+mod faults;
+mod fields;
 pub mod laws;
 mod listing;
 mod longs;
-mod faults;
-mod fields;
 mod part_row;
 mod part_size;
 mod place;
