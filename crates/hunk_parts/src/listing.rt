@@ -31,7 +31,7 @@ fn list_load<T: Takes<PartRow>>(taker: &mut T, file: &LoadView<'_>)
     let mut table = file.table();
     'listing: for item in file.items() {
         match item {
-            // It has none.
+            // A load file has no unit.
             Item::Unit { view, .. } => taker.take(unit_row(&view)),
             Item::Hunk { .. } => {
                 if let Some(size) = table.next() {
