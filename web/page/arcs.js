@@ -1,5 +1,5 @@
-// The arcs above the bars of a map: from each hunk to those whose base is added in it. Where these are too many to be told apart, a
-// column above each bar says how many lead to it, and the arcs are drawn of one hunk alone.
+// The arcs above the bars of a map: from each hunk to those whose base is added in it. Where these are too many to be
+// told apart, a column above each bar says how many lead to it, and the arcs are drawn of one hunk alone.
 
 import { hunkColour } from "./names.js";
 import { eachWay } from "./ways.js";

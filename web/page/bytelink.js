@@ -1,5 +1,5 @@
-// A byte as a link says it, whichever file it is of: at=24 is that of the file, and at=1:8 the one at offset 8 of hunk 1 in memory,
-// both in hexadecimal, but for the number of the hunk.
+// A byte as a link says it, whichever file it is of: at=24 is that of the file, and at=1:8 the one at offset 8 of hunk
+// 1 in memory, both in hexadecimal, but for the number of the hunk.
 
 import { hex, lastAt, numberOf } from "./names.js";
 import { filePlace } from "./places.js";
@@ -23,7 +23,9 @@ export function rangeOf(examined, said) {
   const [, number, offset] = /^(\d{1,5}):(.+)$/.exec(said) ?? [];
   const at = numberOf(offset ?? said);
   if (at === null) return null;
-  if (number === undefined) return at < examined.input.length ? { file: { from: filePlace(at), to: filePlace(at + LONG) } } : null;
+  if (number === undefined) {
+    return at < examined.input.length ? { file: { from: filePlace(at), to: filePlace(at + LONG) } } : null;
+  }
   const hunk = Number(number);
   const memory = hunk < (examined.table?.rows.length ?? 0) ? examined.inMemory(hunk, at, LONG) : undefined;
   if (!memory) return null;

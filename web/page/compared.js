@@ -93,7 +93,8 @@ export class Compared {
     this.told.textContent = refused < 0 ? this.#summary() : why;
     for (const it of [this.list, this.button]) it.hidden = this.found.length === 0;
     files.forEach((file, i) => this.parts[i].show(file));
-    this.grid.show({ count: this.found.length, cells: (i) => this.#cells(this.found[i]), pick: (i) => this.#pick(this.found[i]) });
+    const { found } = this;
+    this.grid.show({ count: found.length, cells: (i) => this.#cells(found[i]), pick: (i) => this.#pick(found[i]) });
     if (this.found.length > 0) this.#pick(this.found[0]);
   }
 

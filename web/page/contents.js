@@ -10,7 +10,8 @@ function firstHunks(units) {
   return firsts;
 }
 
-/** A unit and a hunk as one number that rises through a list: where the blocks are listed, no unit has as many hunks. */
+/** A unit and a hunk as one number that rises through a list: where the blocks are listed, no unit has as many
+ * hunks. */
 const orderOf = (unit, hunk) => unit * 2 ** 21 + hunk;
 
 export class Contents {
@@ -45,7 +46,8 @@ export class Contents {
     return number < this.count ? this.get(number, "memory") : 0;
   }
 
-  /** The number of its kind of memory. In an object file the block's word names it: its flags are an advisory bit, and these. */
+  /** The number of its kind of memory. In an object file the block's word names it: its flags are an advisory bit, and
+   * these. */
   memory(number) {
     const { table } = this.file;
     return table ? table.rows.get(number, "memory") : this.get(number, "flags") >> 1;

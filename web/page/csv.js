@@ -3,4 +3,5 @@
 const quoted = (cell) => (/[",\r\n]/.test(cell) ? `"${cell.replaceAll('"', '""')}"` : cell);
 
 /** Rows of cells as text, a line for each. */
-export const csvOf = (rows) => rows.map((cells) => `${cells.map((cell) => quoted(String(cell))).join(",")}\r\n`).join("");
+const lineOf = (cells) => `${cells.map((cell) => quoted(String(cell))).join(",")}\r\n`;
+export const csvOf = (rows) => rows.map(lineOf).join("");

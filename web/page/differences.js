@@ -32,9 +32,11 @@ function differing(a, b) {
 function bytesText(a, b) {
   const { count, first } = differing(a, b);
   const at = `0x${hex(first)}`;
-  const parts = count > 0 ? [count === 1 ? `1 byte differs, at ${at}` : `${count} bytes differ, the first at ${at}`] : [];
+  const some = count === 1 ? `1 byte differs, at ${at}` : `${count} bytes differ, the first at ${at}`;
+  const parts = count > 0 ? [some] : [];
   const more = a.length - b.length;
-  if (more !== 0) parts.push(`${Math.abs(more)} byte${Math.abs(more) === 1 ? "" : "s"} more in ${more > 0 ? "A" : "B"}`);
+  const many = Math.abs(more);
+  if (many > 0) parts.push(`${many} byte${many === 1 ? "" : "s"} more in ${more > 0 ? "A" : "B"}`);
   return parts.join(", ");
 }
 
@@ -171,7 +173,8 @@ function* inHunks(a, b) {
     else {
       const { where, kind, target } = one ?? two;
       const its = one ? { a: kind, b: "", inA: target } : { a: "", b: kind, inB: target };
-      yield { text: `hunk ${where}: only in ${one ? "A" : "B"}: ${kind}`, where, what: `only in ${one ? "A" : "B"}`, ...its };
+      const what = `only in ${one ? "A" : "B"}`;
+      yield { text: `hunk ${where}: ${what}: ${kind}`, where, what, ...its };
     }
   }
 }
@@ -198,7 +201,9 @@ export function* differences(a, b) {
       yield it;
     }
   }
-  const rest = bytesText(restOf(a), restOf(b));
-  if (rest) yield { text: `rest: ${rest}`, where: "", what: `rest: ${rest}`, a: bytesAt(restOf(a), 0), b: bytesAt(restOf(b), 0) };
-  else if (count === 0) yield { text: `in the file: ${told}`, where: "", what: `in the file: ${told}`, a: "", b: "" };
+  const [ours, theirs] = [restOf(a), restOf(b)];
+  const rest = bytesText(ours, theirs);
+  const text = rest ? `rest: ${rest}` : `in the file: ${told}`;
+  if (rest) yield { text, where: "", what: text, a: bytesAt(ours, 0), b: bytesAt(theirs, 0) };
+  else if (count === 0) yield { text, where: "", what: text, a: "", b: "" };
 }

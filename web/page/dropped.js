@@ -1,8 +1,9 @@
-// The files that are dropped or picked, of folders all that is in them: {file, name, again}, or {name, error} of what the browser
-// does not give. `again()` gives the file as it is on disk by then, where the browser lets it be asked for.
+// The files that are dropped or picked, of folders all that is in them: {file, name, again}, or {name, error} of what
+// the browser does not give. `again()` gives the file as it is on disk by then, where the browser lets it be asked for.
 
-// A folder comes as an entry or as a handle. Entries have every name, and Firefox has no handles. But to a page that was opened
-// from a disk, Chromium gives entries that can't be read, and its handles leave out names that not every system takes.
+// A folder comes as an entry or as a handle. Entries have every name, and Firefox has no handles. But to a page that
+// was opened from a disk, Chromium gives entries that can't be read, and its handles leave out names that not every
+// system takes.
 
 /** Chromium gives no name to what has one that is no UTF-8 text. */
 const below = (folder, name) => `${folder}/${name || "\ufffd"}`;
@@ -75,12 +76,16 @@ async function droppedFiles(transfer) {
     const handle = await handles[i];
     const isFolder = entry?.isDirectory || handle?.kind === "directory";
     if (isFolder) isPartial = (await walkFolder(entry, handle, inFolders)) || isPartial;
-    else if (files[i]) found.push({ file: files[i], name: files[i].name, again: handle ? () => handle.getFile() : undefined });
+    else if (files[i]) {
+      const again = handle ? () => handle.getFile() : undefined;
+      found.push({ file: files[i], name: files[i].name, again });
+    }
   }
   return { files: found.concat(inFolders.sort(byName)), isPartial };
 }
 
-/** Has the page take what is dropped on it, whatever is below the pointer; the box shows that. `take(files)` is called for that. */
+/** Has the page take what is dropped on it, whatever is below the pointer; the box shows that. `take(files)` is called
+ * for that. */
 export function listenToDrops(box, take) {
   addEventListener("dragover", (event) => {
     event.preventDefault();
@@ -94,7 +99,8 @@ export function listenToDrops(box, take) {
   });
 }
 
-/** Has a field for files ask by handles, where the browser has them. `take(files)` is called for what is picked by them. */
+/** Has a field for files ask by handles, where the browser has them. `take(files)` is called for what is picked by
+ * them. */
 export function pickByHandles(field, take) {
   let isRefused = !("showOpenFilePicker" in window);
   field.addEventListener("click", async (event) => {

@@ -25,7 +25,8 @@ function longAtOffset(file, hunk, offset) {
   return { offset: end - LONG, width: LONG, target, isOffset: true, says: `the base of hunk ${target} is added` };
 }
 
-/** The row of a list that has an offset, of those from `first` to before `end`: its number; `around` is told of the others. */
+/** The row of a list that has an offset, of those from `first` to before `end`: its number; `around` is told of the
+ * others. */
 function rowAt(rows, first, end, offset, around) {
   for (let i = first; i < end; i++) {
     const from = rows.get(i, "offset");
@@ -56,8 +57,8 @@ function referenceAt(file, { unit, hunk }, offset, around) {
   return { ...rows.at(found), says: `${names.entryName(entry.kind)} ${names.nameText(file.bytes, entry)}` };
 }
 
-/** What stands at an offset of a hunk, of which `row` is any row: what is relocated there, {offset, width, target, isOffset,
- *  says}, or the bytes {offset, width} of a longword that are not. */
+/** What stands at an offset of a hunk, of which `row` is any row: what is relocated there, {offset, width, target,
+ * isOffset, says}, or the bytes {offset, width} of a longword that are not. */
 export function fieldAt(file, row, offset) {
   if (file.table) return longAtOffset(file, row.hunk, offset);
   const around = { end: 0, next: Infinity };

@@ -42,8 +42,8 @@ function firstLong(bytes) {
 }
 
 /** What is known of a file.
- * @typedef {{ kind: string, refusal?: any, strict?: any, spelling?: any, length?: number, hunks?: number, declared?: number,
- *   warnings?: number, units?: number, findings?: number }} About */
+ * @typedef {{ kind: string, refusal?: any, strict?: any, spelling?: any, length?: number, hunks?: number,
+ *   declared?: number, warnings?: number, units?: number, findings?: number }} About */
 
 /** What a file is, in a few numbers: its kind, and the two of the conformance suite, or its refusal.
  * @returns {About} */
@@ -53,7 +53,9 @@ export function summary(hunk, bytes) {
   const [checked, error] = tried(() => hunk.check(bytes, 0));
   if (error) return { kind, refusal: refusalOf(error, bytes) };
   const { hunks, bytes: length } = checked;
-  if (hunks > 0) return { kind, hunks, length, declared: declared(hunk, bytes), warnings: hunk.warnings(bytes, 0).count };
+  if (hunks > 0) {
+    return { kind, hunks, length, declared: declared(hunk, bytes), warnings: hunk.warnings(bytes, 0).count };
+  }
   return { kind, hunks, length, units: hunk.units(bytes, 0).count, findings: checked.count };
 }
 
@@ -80,8 +82,8 @@ function declared(hunk, bytes) {
   return hunk.table(bytes, Number.MAX_SAFE_INTEGER).size;
 }
 
-/** A file that is looked at. Its lists are read when they are first asked for. Where it is refused they have what stands before
- * the fault, if that is anything: its `front`. */
+/** A file that is looked at. Its lists are read when they are first asked for. Where it is refused they have what
+ * stands before the fault, if that is anything: its `front`. */
 export class Examined {
   /** Which of its readings is shown: 0 is the input as it is, 1 its plain spelling, as where only that is accepted. */
   constructor(hunk, input, name, which) {

@@ -9,14 +9,16 @@ const SLICE = 30;
 /** How many rows are looked at before the clock is. */
 const STEP = 1024;
 
-const nameAt = (file, rows, i) => shown(nameOf(file.bytes, { name: rows.get(i, "name"), nameBytes: rows.get(i, "nameBytes") }));
+const nameAt = (file, rows, i) =>
+  shown(nameOf(file.bytes, { name: rows.get(i, "name"), nameBytes: rows.get(i, "nameBytes") }));
 
 /** Whether a name has the text that is sought, in capitals or not. */
 const isNamed = (file, rows, i, { text }) => nameAt(file, rows, i).toLowerCase().includes(text);
 
 /** Whether an offset in a hunk is the number that is sought, or its address in memory is. */
 function isAt(file, hunk, offset, { number }) {
-  return number !== null && (number === offset || (file.table && number === (file.base + file.starts[hunk] + offset) >>> 0));
+  const isAddress = () => file.table && number === (file.base + file.starts[hunk] + offset) >>> 0;
+  return number !== null && (number === offset || isAddress());
 }
 
 const hasText = (cell, text) => textOf(cell).toLowerCase().includes(text);
@@ -53,8 +55,8 @@ const FINDS = {
 
 /** A box above a list, which leaves the rows in which something is found. */
 export class Filter {
-  /** `listed` are the rows of the list. `show(found, isSame)` is called with the numbers of those in which it is found, rising; with
-   *  null where all are left. `isSame` says that the same is sought again. */
+  /** `listed` are the rows of the list. `show(found, isSame)` is called with the numbers of those in which it is found,
+   * rising; with null where all are left. `isSame` says that the same is sought again. */
   constructor(list, file, listed, show) {
     this.list = list;
     this.file = file;
@@ -69,7 +71,8 @@ export class Filter {
     this.field.addEventListener("input", () => this.look(this.field.value));
     this.column = document.createElement("select");
     this.column.setAttribute("aria-label", "Column that is filtered");
-    this.column.append(new Option("anywhere", ""), ...listed.columns.map(({ name }, i) => new Option(`in ${name}`, String(i))));
+    const choices = listed.columns.map(({ name }, i) => new Option(`in ${name}`, String(i)));
+    this.column.append(new Option("anywhere", ""), ...choices);
     this.column.addEventListener("change", () => this.look(this.field.value));
     this.told = document.createElement("span");
     this.told.setAttribute("role", "status");

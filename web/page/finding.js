@@ -1,6 +1,7 @@
 // Going to an address, and finding bytes or a text, in a view of bytes.
 
-/** What is said: an address as 21004, 0x21004 or $21004; bytes as `4e 75`; a text as `"dos.library"`, or one that is neither. */
+/** What is said: an address as 21004, 0x21004 or $21004; bytes as `4e 75`; a text as `"dos.library"`, or one that is
+ * neither. */
 function meantBy(said) {
   const quoted = /^"(.*?)"?$/s.exec(said);
   if (quoted) return { text: quoted[1] };

@@ -5,15 +5,17 @@ const FIRST = 1088;
 
 /** Tab, line ends, form feed and escape, and what is printed of ASCII and ISO 8859-1. */
 const isOfText = (byte) =>
-  byte === 9 || byte === 10 || byte === 12 || byte === 13 || byte === 27 || (byte >= 0x20 && byte < 0x7f) || byte >= 0xa0;
+  [9, 10, 12, 13, 27].includes(byte) || (byte >= 0x20 && byte < 0x7f) || byte >= 0xa0;
 
 /** Whether the bytes have those of a row at its place: hexadecimal digits, with ?? for any byte. */
 function fits(bytes, [place, digits]) {
   const wanted = digits.match(/../g);
-  return bytes.length >= place + wanted.length && wanted.every((it, i) => it === "??" || parseInt(it, 16) === bytes[place + i]);
+  const isAt = (it, i) => it === "??" || parseInt(it, 16) === bytes[place + i];
+  return bytes.length >= place + wanted.length && wanted.every(isAt);
 }
 
-/** What the bytes begin as, by the first row that fits: [place, digits, what]; null where that is not known, or there are none. */
+/** What the bytes begin as, by the first row that fits: [place, digits, what]; null where that is not known, or there
+ * are none. */
 export function whatIs(bytes, rows) {
   const first = bytes.subarray(0, FIRST);
   const row = rows.find((it) => fits(first, it));

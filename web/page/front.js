@@ -1,10 +1,12 @@
-// What stands before the fault of a file that is refused: the front that the library finds, and how the page tells of it.
+// What stands before the fault of a file that is refused: the front that the library finds, and how the page tells of
+// it.
 
 import { KINDS } from "../../bindings/javascript/kinds.js";
 import { blockName, counted, hex, longAt } from "./names.js";
 
 const LONG = 4;
-/** The bytes of a hunk that closes a front: BSS, its size, and END. Where the open hunk has its content, END alone closes it. */
+/** The bytes of a hunk that closes a front: BSS, its size, and END. Where the open hunk has its content, END alone
+ * closes it. */
 const EMPTY_HUNK = 12;
 /** The fewest pixels that show the fault in the strip of the file. */
 const NARROWEST = 3;

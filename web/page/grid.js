@@ -1,5 +1,5 @@
-// A table of any length, by Scroller: its rows are picked by a click, or by the arrow keys and Enter, and copied with tabs between
-// their cells.
+// A table of any length, by Scroller: its rows are picked by a click, or by the arrow keys and Enter, and copied with
+// tabs between their cells.
 
 import { copiesFrom, textOf, textOfRows } from "./copying.js";
 import { csvOf } from "./csv.js";
@@ -18,8 +18,8 @@ let grids = 0;
 /** @typedef {{ count: number, cells: (i: number) => Cell[], pick: (i: number) => void }} GridRows */
 
 export class Grid {
-  /** `columns`, as Widths takes them. `rows.cells(i)` gives the texts of a row; `rows.pick(i)` is called for it. `onSort(column)` is
-   *  called for a head that is pressed, where it is given. */
+  /** `columns`, as Widths takes them. `rows.cells(i)` gives the texts of a row; `rows.pick(i)` is called for it.
+   * `onSort(column)` is called for a head that is pressed, where it is given. */
   constructor(box, label, columns, onSort = null) {
     this.id = `grid${grids++}`;
     this.columns = columns;
@@ -43,10 +43,12 @@ export class Grid {
     this.body = document.createElement("div");
     this.body.className = "body";
     this.body.setAttribute("role", "rowgroup");
-    // Browsers would stop at what is scrolled, too. A press of a mouse leaves the focus there, so that text can be selected.
+    // Browsers would stop at what is scrolled, too. A press of a mouse leaves the focus there, so that text can be
+    // selected.
     this.body.tabIndex = -1;
     box.append(this.body);
-    this.scroller = new Scroller(this.body, HEIGHT, (first, count) => this.#draw(first, count), () => this.#nameActive());
+    const draw = (first, count) => this.#draw(first, count);
+    this.scroller = new Scroller(this.body, HEIGHT, draw, () => this.#nameActive());
     this.#listen();
     for (const it of [box, this.body]) copiesFrom(it, () => this.text(...this.chosen));
     // A scrollbar of the body comes and goes; the head has the width of the rows.
@@ -166,7 +168,9 @@ export class Grid {
   /** Marks the rows that are chosen, in the elements that are there: what is selected in them stays so. */
   #mark() {
     const first = this.scroller.top;
-    [...this.scroller.layer.children].forEach((row, i) => row.setAttribute("aria-selected", String(this.#isChosen(first + i))));
+    for (const [i, row] of [...this.scroller.layer.children].entries()) {
+      row.setAttribute("aria-selected", String(this.#isChosen(first + i)));
+    }
     this.#nameActive();
   }
 

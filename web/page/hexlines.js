@@ -13,7 +13,9 @@ function byteHtml(view, i) {
   const mark = i < view.length ? view.source.mark(i) : null;
   if (!isThere && !mark) return "<span>  </span>";
   const text = isThere ? hex(view.bytes[i], 2) : "··";
-  const states = [mark?.tone, isIn(i, view.item) && "item", isIn(i, view.picked) && "picked", i === view.caret && "caret"];
+  const states = [
+    mark?.tone, isIn(i, view.item) && "item", isIn(i, view.picked) && "picked", i === view.caret && "caret",
+  ];
   const tone = states.filter(Boolean).join(" ");
   if (!mark) return `<span class="${tone}">${text}</span>`;
   const colour = mark.colour ? ` style="background:${mark.colour}"` : "";

@@ -1,5 +1,5 @@
-// Bytes as hexadecimal digits, of any number. A caret stands at one of them, and the item is told to which it belongs. Bytes that
-// are picked are marked, and can be copied.
+// Bytes as hexadecimal digits, of any number. A caret stands at one of them, and the item is told to which it belongs.
+// Bytes that are picked are marked, and can be copied.
 
 import { copiesFrom, textOfBytes } from "./copying.js";
 import { isIn, lineHtml } from "./hexlines.js";
@@ -36,9 +36,9 @@ export class HexView {
     new ResizeObserver(() => this.#fit()).observe(box);
   }
 
-  /** Shows bytes, the first at the address `start`. `source.mark(i)` says how byte i is drawn: {colour, tone, title}, or nothing;
-   *  `source.item(i)` to which item it belongs, and `source.names(from, to)` what begins in these bytes. Bytes up to `length`
-   *  that are not there are drawn where they are marked. */
+  /** Shows bytes, the first at the address `start`. `source.mark(i)` says how byte i is drawn: {colour, tone, title},
+   * or nothing; `source.item(i)` to which item it belongs, and `source.names(from, to)` what begins in these bytes.
+   * Bytes up to `length` that are not there are drawn where they are marked. */
   show(bytes, start, length, source) {
     Object.assign(this, { bytes, start, length, source, picked: null, caret: 0, anchor: 0 });
     this.#tell(0);
@@ -103,7 +103,8 @@ export class HexView {
     this.#tell(this.caret);
   }
 
-  /** Moves the caret, and scrolls as little as needed. Bytes are picked from where it stood, or from where they are already. */
+  /** Moves the caret, and scrolls as little as needed. Bytes are picked from where it stood, or from where they are
+   * already. */
   #move(at, isPicking) {
     this.caret = Math.min(Math.max(0, at), Math.max(0, this.length - 1));
     this.#pickTo(isPicking);
@@ -162,7 +163,9 @@ export class HexView {
     if (!part) return undefined;
     const row = this.scroller.top + [...part.parentNode.parentNode.children].indexOf(part.parentNode);
     const cell = [...part.parentNode.children].indexOf(part) - 1;
-    if (part.className === "text") return row * this.per + Math.floor((event.offsetX * this.per) / Math.max(1, part.offsetWidth));
+    if (part.className === "text") {
+      return row * this.per + Math.floor((event.offsetX * this.per) / Math.max(1, part.offsetWidth));
+    }
     return cell >= 0 && cell < this.per ? row * this.per + cell : undefined;
   }
 
@@ -170,7 +173,8 @@ export class HexView {
   #pressed(event) {
     const at = this.#byteAt(event);
     this.drawn = false;
-    this.pressed = event.button === 0 && event.pointerType === "mouse" && !event.shiftKey && at < this.length ? at : undefined;
+    const isPress = event.button === 0 && event.pointerType === "mouse" && !event.shiftKey;
+    this.pressed = isPress && at < this.length ? at : undefined;
   }
 
   #pointed(event) {

@@ -1,9 +1,11 @@
-// The line beside a view of bytes that says what stands under the pointer or the caret, and leads to where its value points.
+// The line beside a view of bytes that says what stands under the pointer or the caret, and leads to where its value
+// points.
 
 import { hex } from "./names.js";
 
 const LONG = 4;
-const part = (tag, text, name = "") => Object.assign(document.createElement(tag), { textContent: text, className: name });
+const part = (tag, text, name = "") =>
+  Object.assign(document.createElement(tag), { textContent: text, className: name });
 
 function textsOf({ from, to, where, name, says }, { bytes, start }) {
   const value = to - from <= LONG ? Array.from(bytes.subarray(from, to), (it) => hex(it, 2)).join("") : "";
@@ -57,7 +59,8 @@ export class ItemLine {
     return button;
   }
 
-  /** Goes to a target. Where the line is another one then, the focus is left to the view, and not lost with the button. */
+  /** Goes to a target. Where the line is another one then, the focus is left to the view, and not lost with the
+   * button. */
   #lead(button, target) {
     this.jump(target);
     if (!button.isConnected) this.view.box.focus({ preventScroll: true });

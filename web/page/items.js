@@ -1,8 +1,8 @@
 // What a byte of a file belongs to: an item of its header, of a unit, or of a block, with what it says.
 //
-// An item is {from, to, where, name, says, targets}: its bytes, the texts of it, and what it leads to. A target is {text, place,
-// memory}: a byte of the file, and one of the memory. All this is of files that are accepted, or of what stands before the fault
-// of others, so each block is whole.
+// An item is {from, to, where, name, says, targets}: its bytes, the texts of it, and what it leads to. A target is
+// {text, place, memory}: a byte of the file, and one of the memory. All this is of files that are accepted, or of what
+// stands before the fault of others, so each block is whole.
 
 import { KINDS } from "../../bindings/javascript/kinds.js";
 import { fieldAt, leadsTo } from "./fields.js";
@@ -44,8 +44,11 @@ function headerItem(file, from) {
 
 /** A count of longwords and a name of so many, as UNIT and NAME have behind their word. */
 function nameItem(file, where, from, name, nameBytes) {
-  if (from < name) return { from, to: from + 4, where, name: "length of the name", says: counted(nameBytes / 4, "longword") };
-  return { from: name, to: name + nameBytes, where, name: "name", says: names.nameText(file.bytes, { name, nameBytes }) };
+  if (from < name) {
+    return { from, to: from + 4, where, name: "length of the name", says: counted(nameBytes / 4, "longword") };
+  }
+  const says = names.nameText(file.bytes, { name, nameBytes });
+  return { from: name, to: name + nameBytes, where, name: "name", says };
 }
 
 function unitItem(file, from) {
@@ -79,7 +82,9 @@ function memoryTarget(file, hunk, { offset, width }) {
 /** The size of a block and what it is of: a longword, or the content from `row.content` on. */
 function sizedItem(file, row, where, at) {
   const from = at - (at % 4);
-  if (from === row.place + 4) return { from, to: from + 4, where, name: "size", says: longs(sizeOf(longAt(file.bytes, from))) };
+  if (from === row.place + 4) {
+    return { from, to: from + 4, where, name: "size", says: longs(sizeOf(longAt(file.bytes, from))) };
+  }
   return contentItem(file, row, where, at);
 }
 
@@ -102,7 +107,9 @@ function blockWord(file, row, where) {
 function partItem(file, row, where, at, itemOf) {
   const from = at - (at % 4);
   const start = file.partsOf(row).at(from);
-  if (longAt(file.bytes, start) === 0) return { from, to: from + 4, where, name: "end", says: "no more follow in this block" };
+  if (longAt(file.bytes, start) === 0) {
+    return { from, to: from + 4, where, name: "end", says: "no more follow in this block" };
+  }
   return { where, ...itemOf(file, row, start, from) };
 }
 

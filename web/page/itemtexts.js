@@ -1,4 +1,5 @@
-// The items of a hunk as `hunk diff` knows them: what makes two the same, the words of `hunkinfo show`, and where each stands.
+// The items of a hunk as `hunk diff` knows them: what makes two the same, the words of `hunkinfo show`, and where each
+// stands.
 
 import { nameOf } from "../../bindings/javascript/hunk.js";
 import { flagNames, KINDS } from "../../bindings/javascript/kinds.js";
@@ -55,8 +56,8 @@ const relocationAt = (file, i) => file.list("relocations").rows.at(i);
 const relocationText = ({ kind, target, offset: at }) => `${blockName(kind)} ${target} ${offset(at)}`;
 const targetIn = (list) => (file, i) => LISTS.find(({ id }) => id === list).rows(file).target(i);
 
-/** By the list, in the order in which they are compared: what makes two items the same wherever they stand, their words, and where
- * an item stands. */
+/** By the list, in the order in which they are compared: what makes two items the same wherever they stand, their
+ * words, and where an item stands. */
 export const ITEMS = {
   blocks: { key: blockKey, text: blockText, target: targetIn("blocks") },
   symbols: {

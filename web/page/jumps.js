@@ -1,5 +1,5 @@
-// Back and forward through jumps: where one was before a row, a picture, a lead or a search led elsewhere. These places are of the
-// file that is shown. The history of the browser has files, and is left as it is.
+// Back and forward through jumps: where one was before a row, a picture, a lead or a search led elsewhere. These places
+// are of the file that is shown. The history of the browser has files, and is left as it is.
 
 /** The most places that are kept. */
 const MOST = 1000;
@@ -7,8 +7,8 @@ const MOST = 1000;
 const isTyped = (target) => target instanceof Element && target.closest("input, select, textarea") !== null;
 
 export class Jumps {
-  /** `places.here()` is where one is, as a text that tells places apart; `places.go(here)` goes there. The buttons are `back` and
-   *  `forward`, and `told` says which place it is. */
+  /** `places.here()` is where one is, as a text that tells places apart; `places.go(here)` goes there. The buttons are
+   * `back` and `forward`, and `told` says which place it is. */
   constructor({ back, forward, told }, places) {
     this.back = back;
     this.forward = forward;

@@ -75,8 +75,8 @@ export class Labels {
     return this.sorted.length;
   }
 
-  /** The last label of a hunk that is not after an offset of it, and how far after it that stands: {name, past}; null where there is
-   *  none, or the offset is not in the hunk. */
+  /** The last label of a hunk that is not after an offset of it, and how far after it that stands: {name, past}; null
+   * where there is none, or the offset is not in the hunk. */
   nearest(hunk, offset) {
     const { starts, table } = this.file;
     const at = starts[hunk] + offset;

@@ -10,11 +10,11 @@ import { SUMS, sumsOf } from "./sums.js";
 /** In the words and the order of `hunk survey`. */
 export const CLASSES = ["load", "object", "findings", "wide", "no hunk file", "not supported", "damaged", "not judged"];
 
-/** As they are saved. `memory` is what a load file declares; behind it are what the file is, its sums, the first of these that an
- * earlier file has, and that file, and how many names are needed that no file of the table defines. */
+/** As they are saved. `memory` is what a load file declares; behind it are what the file is, its sums, the first of
+ * these that an earlier file has, and that file, and how many names are needed that no file of the table defines. */
 const FIELDS = [
-  "file", "bytes", "class", "answer", "kind", "hunks", "memory", "units", "findings", "warnings", "place", "reason", "number",
-  "what", "file sum", "program sum", "memory sum", "same", "first", "undefined",
+  "file", "bytes", "class", "answer", "kind", "hunks", "memory", "units", "findings", "warnings", "place", "reason",
+  "number", "what", "file sum", "program sum", "memory sum", "same", "first", "undefined",
 ];
 
 /** The digits of a sum that the table shows: that of the program, where a file has one. */
@@ -50,7 +50,9 @@ function moreOf(hunk, input, { bytes = null, about }) {
 export function noteSame(line, firsts) {
   for (const name of SUMS.filter((it) => line.sums?.[it])) {
     const first = firsts.get(`${name} ${line.sums[name]}`);
-    if (first !== undefined && line.same === undefined) Object.assign(line, { same: name, first, copy: `${first} (${name})` });
+    if (first !== undefined && line.same === undefined) {
+      Object.assign(line, { same: name, first, copy: `${first} (${name})` });
+    }
     if (first === undefined) firsts.set(`${name} ${line.sums[name]}`, line.file);
   }
 }
@@ -72,5 +74,6 @@ export function sortLines(lines, field, direction) {
 /** Lines as they are saved. */
 export function csvOfLines(lines) {
   const sumsIn = ({ sums = {} }) => Object.fromEntries(SUMS.map((name) => [`${name} sum`, sums[name]]));
-  return csvOf([FIELDS, ...lines.map((line) => ({ ...line, ...sumsIn(line) })).map((line) => FIELDS.map((it) => line[it] ?? ""))]);
+  const whole = lines.map((line) => ({ ...line, ...sumsIn(line) }));
+  return csvOf([FIELDS, ...whole.map((line) => FIELDS.map((it) => line[it] ?? ""))]);
 }

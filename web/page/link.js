@@ -1,5 +1,6 @@
-// The link of what is shown: #example=NAME or #hex=DIGITS, &base=ADDRESS, and &at=BYTE. A file is put into one only when that is
-// asked for: an address stays in the history of the browser. A link to a byte alone leads there in the file that is dropped next.
+// The link of what is shown: #example=NAME or #hex=DIGITS, &base=ADDRESS, and &at=BYTE. A file is put into one only
+// when that is asked for: an address stays in the history of the browser. A link to a byte alone leads there in the
+// file that is dropped next.
 
 /** The longest file that is put into a link. */
 const MOST = 4096;
@@ -19,8 +20,8 @@ export function linkAt(base) {
   return `#${said}`;
 }
 
-/** A link to an example, or with these bytes in it, and to a byte `at` of them. Where they are too many it is of the byte alone, and
- * null where there is none. */
+/** A link to an example, or with these bytes in it, and to a byte `at` of them. Where they are too many it is of the
+ * byte alone, and null where there is none. */
 export function linkOf({ example, bytes, base, at }) {
   const isTooLong = !example && bytes.length > MOST;
   if (isTooLong && !at) return null;
@@ -33,7 +34,8 @@ export function linkOf({ example, bytes, base, at }) {
 /** What a link has of a file of one's own. */
 function heldText(link) {
   if (link.includes("#hex=")) return "Copied. The file itself is in the link.";
-  return link.includes("#at=") ? "Copied. It leads to the byte, once the same file is dropped: too many bytes for a link." : "Copied.";
+  const isByte = link.includes("#at=");
+  return `Copied.${isByte ? " It leads to the byte, once the same file is dropped: too many bytes for a link." : ""}`;
 }
 
 /** Copies a link, and says what came of it. Where the browser lets nothing be copied, a field has the link. */

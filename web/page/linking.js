@@ -4,8 +4,8 @@ import { nameOf } from "../../bindings/javascript/hunk.js";
 import { ENTRY_KINDS } from "../../bindings/javascript/kinds.js";
 import { isCommon, isDefinition, shown } from "./names.js";
 
-/** The names that an object file needs, and those that it offers to others. A common block is offered, as a linker makes one where
- * nothing else has its name. */
+/** The names that an object file needs, and those that it offers to others. A common block is offered, as a linker
+ * makes one where nothing else has its name. */
 export function namesOf(hunk, bytes) {
   const needed = new Set();
   const defined = new Set();
@@ -18,7 +18,8 @@ export function namesOf(hunk, bytes) {
   return { needed, defined };
 }
 
-/** What lines of files have as `names`: for each name that none of them defines, the lines that need it, sorted by name. */
+/** What lines of files have as `names`: for each name that none of them defines, the lines that need it, sorted by
+ * name. */
 export function missingOf(lines) {
   const defined = new Set(lines.flatMap(({ names }) => (names ? [...names.defined] : [])));
   const missing = new Map();

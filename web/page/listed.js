@@ -12,8 +12,8 @@ import { meaningOf } from "./words.js";
 /** @typedef {import("./file.js").Examined} Examined */
 /** @typedef {{ name: string, isNumber?: boolean, isRest?: boolean, isName?: boolean, least?: number,
  *   leaves?: number }} Column */
-/** A list: `target(i)` says where a row stands, `cells(i)` is its texts, and a list that is sorted has for each column the `keys` of
- * its rows.
+/** A list: `target(i)` says where a row stands, `cells(i)` is its texts, and a list that is sorted has for each column
+ * the `keys` of its rows.
  * @typedef {{ columns: Column[], count: number, target: (i: number) => import("./places.js").Target,
  *   cells: (i: number) => any[], keys?: ((i: number) => any)[] }} Listed */
 
@@ -24,7 +24,8 @@ const UNIT = 2 ** 21;
 
 const text = (name) => ({ name });
 const number = (name) => ({ name, isNumber: true });
-/** The column that has the rest of the room: names, which are shown whole, or with `least` what may be cut to so many ems. */
+/** The column that has the rest of the room: names, which are shown whole, or with `least` what may be cut to so many
+ * ems. */
 const rest = (name, least = undefined) => ({ name, isRest: true, least, isName: name === "name" });
 
 /** Where an item stands: in an object file with its unit. */

@@ -17,7 +17,9 @@ export class Lists {
     this.tabs.addEventListener("keydown", (event) => this.#key(event));
     const told = box.querySelector("#copied-list");
     box.querySelector("#copy-list").addEventListener("click", () => {
-      if (this.grid) copyText(this.grid.text(0, this.grid.rows.count, true), `${counted(this.grid.rows.count, "row")} copied.`, told);
+      if (!this.grid) return;
+      const { count } = this.grid.rows;
+      copyText(this.grid.text(0, count, true), `${counted(count, "row")} copied.`, told);
     });
     this.columns = box.parentElement;
   }
@@ -86,7 +88,8 @@ export class Lists {
     this.panel.prepend(this.filter.box);
   }
 
-  /** Shows the rows of the open list that were found, or all of them, in their order; at the same place where they are the same. */
+  /** Shows the rows of the open list that were found, or all of them, in their order; at the same place where they are
+   * the same. */
   #fill(found, isSamePlace) {
     this.found = found;
     const rows = this.tab.list.rows(this.file);

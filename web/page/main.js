@@ -34,7 +34,7 @@ const many = new Many($("many"), (found) => openFile(found, many.visit));
 const compared = new Compared($("compare"));
 const base = new BaseField($("base"), $("base-note"), rebase);
 const visits = new Visits(revisit);
-const reload = new Reload($("reload"), openFile);
+const reload = new Reload($("reload"), (found, table) => openFile(found, table, panels.byte));
 
 // ---- What is shown.
 
@@ -104,7 +104,8 @@ function showNone(text, title) {
   closeFile(text);
 }
 
-// ---- Files of one's own. Reading takes time, so each counts as a run: what another has overtaken is not shown any more.
+// ---- Files of one's own. Reading takes time, so each counts as a run: what another has overtaken is not shown any
+// more.
 
 /** Reads a file that was found, unless it was read before, and shows it. `visit` counts where it is shown. */
 async function readFile(visit) {
@@ -124,10 +125,13 @@ async function readFile(visit) {
   return true;
 }
 
-/** Shows a file that was found: alone, or below the table of those that were found with it. */
-async function openFile(found, table = null) {
+/** Shows a file that was found: alone, or below the table of those that were found with it; at a byte that a link would
+ * say, where that is there. */
+async function openFile(found, table = null, at = "") {
   const visit = { table, found };
-  if (await readFile(visit)) visits.add(visit);
+  if (!(await readFile(visit))) return;
+  visits.add(visit);
+  if (file && at) panels.goToByte(at);
 }
 
 /** Shows a table: what is in it is looked at anew, unless it is the last that was shown. */
@@ -135,7 +139,8 @@ async function openTable(table) {
   example = null;
   run += 1;
   const { files, isPartial } = table;
-  showNone(files.length > 0 ? "" : `There is no file in it. ${isPartial ? PARTIAL : ""}`, counted(files.length, "file"));
+  const none = `There is no file in it. ${isPartial ? PARTIAL : ""}`;
+  showNone(files.length > 0 ? "" : none, counted(files.length, "file"));
   await showMany(table);
   tellShown();
 }
@@ -250,18 +255,14 @@ function openLink() {
   } else openExample(said.example || FIRST);
 }
 
-function recolour() {
-  panels.recolour();
-  tellShown();
-}
-
 function listen() {
   for (const id of ["pick", "pick-folder"]) $(id).addEventListener("change", () => openPicked($(id)));
   $("example").addEventListener("change", () => {
     if ($("example").value) location.hash = `#${new URLSearchParams({ example: $("example").value })}`;
   });
   $("copy-link").addEventListener("click", () => {
-    copyLink(linkOf({ example, bytes: file.input, base: file.table && base.text, at: panels.byte }), $("link"), $("copied"));
+    const shown = { example, bytes: file.input, base: file.table && base.text, at: panels.byte };
+    copyLink(linkOf(shown), $("link"), $("copied"));
   });
   listenToSaving(panels);
   pickByHandles($("pick"), (files) => openAll({ files, isPartial: false }));
@@ -272,7 +273,10 @@ function listen() {
     if (other) openPair([shownFile(), other]);
   });
   $("save-csv").addEventListener("click", () => save(many.csv(), "hunks.csv", "text/csv"));
-  whenSchemeChanges(recolour);
+  whenSchemeChanges(() => {
+    panels.recolour();
+    tellShown();
+  });
   listenToDrops($("drop"), openAll);
 }
 

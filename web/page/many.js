@@ -80,7 +80,8 @@ export class Many {
     return button;
   }
 
-  /** Looks at files, {file, name}, one after the other; the page stays usable meanwhile. `partial` tells what may be missing. */
+  /** Looks at files, {file, name}, one after the other; the page stays usable meanwhile. `partial` tells what may be
+   * missing. */
   async show(hunk, files, partial) {
     const run = ++this.run;
     Object.assign(this, { lines: [], unread: [], total: files.length, wanted: "", sorted: null });
@@ -163,7 +164,8 @@ export class Many {
 
   /** Says how two are chosen. */
   tellPair() {
-    this.summary.textContent = "Choose two rows: one by a click, the next with Shift and an arrow key, or Shift and a click.";
+    this.summary.textContent =
+      "Choose two rows: one by a click, the next with Shift and an arrow key, or Shift and a click.";
   }
 
   /** What is shown, as it is saved. */

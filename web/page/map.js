@@ -61,8 +61,8 @@ export class HunkMap {
   /** What is said of a hunk. */
   text(number) {
     const row = { unit: this.contents.get(number, "unit"), hunk: this.contents.get(number, "hunk") };
-    const memory = memoryName(this.contents.memory(number));
-    const texts = [whereText(this.file, row), this.contents.name(number), counted(this.contents.bytes(number), "byte"), memory];
+    const [memory, bytes] = [memoryName(this.contents.memory(number)), counted(this.contents.bytes(number), "byte")];
+    const texts = [whereText(this.file, row), this.contents.name(number), bytes, memory];
     const [first, end] = rowsOfHunk(this.file.list("relocations").rows, row.unit, row.hunk);
     if (end > first) texts.push(counted(end - first, "relocation") + this.#targetsText(number));
     const warnings = this.#warnings(number);
@@ -73,8 +73,8 @@ export class HunkMap {
   #targetsText(number) {
     if (this.hunks > MOST_TOLD) return "";
     const ways = this.ways.of(number);
-    const told = ways.slice(0, 3).map(([to, many]) => `${many.toLocaleString("en")} to hunk ${this.contents.get(to, "hunk")}`);
-    return `: ${told.join(", ")}${ways.length > 3 ? ", …" : ""}`;
+    const wayText = ([to, many]) => `${many.toLocaleString("en")} to hunk ${this.contents.get(to, "hunk")}`;
+    return `: ${ways.slice(0, 3).map(wayText).join(", ")}${ways.length > 3 ? ", …" : ""}`;
   }
 }
 

@@ -4,7 +4,11 @@ import { Grid } from "./grid.js";
 import { counted } from "./names.js";
 import { save } from "./saving.js";
 
-const COLUMNS = [{ name: "name", isRest: true, least: 12 }, { name: "files that need it", isNumber: true }, { name: "the first", least: 16 }];
+const COLUMNS = [
+  { name: "name", isRest: true, least: 12 },
+  { name: "files that need it", isNumber: true },
+  { name: "the first", least: 16 },
+];
 
 export class Missing {
   /** `open(line)` is called for the line of a file. */
@@ -21,6 +25,7 @@ export class Missing {
     this.box.hidden = missing.length === 0;
     this.head.textContent = `${counted(missing.length, "name")} that no file here defines`;
     const cells = ({ name, needing }) => [name, needing.length.toLocaleString("en"), needing[0].file];
-    this.grid.show({ count: missing.length, cells: (i) => cells(missing[i]), pick: (i) => this.open(missing[i].needing[0]) }, true);
+    const pick = (i) => this.open(missing[i].needing[0]);
+    this.grid.show({ count: missing.length, cells: (i) => cells(missing[i]), pick }, true);
   }
 }

@@ -1,4 +1,5 @@
-// The library: by the module of the kit, where the browser takes 64-bit memories, else by the one that binaryen made of it.
+// The library: by the module of the kit, where the browser takes 64-bit memories, else by the one that binaryen made of
+// it.
 
 import { Hunk } from "../../bindings/javascript/hunk.js";
 import { MODULES } from "./data.js";

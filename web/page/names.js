@@ -58,8 +58,8 @@ export function whenPrinted(call) {
   for (const name of ["beforeprint", "afterprint"]) addEventListener(name, () => scheme.matches && call());
 }
 
-/** A colour of the page, of this hue. The paper has `light` 100, and less is further away from it: darker on white paper, and
- * lighter on dark paper. Text in the colour of ink can be read on 65 and more. */
+/** A colour of the page, of this hue. The paper has `light` 100, and less is further away from it: darker on white
+ * paper, and lighter on dark paper. Text in the colour of ink can be read on 65 and more. */
 function tint(hue, light, colourful = 1) {
   const lightness = 0.3 + 0.007 * light;
   const shown = scheme.matches && !paper.isPrinted ? 1.25 - lightness : lightness;
@@ -83,7 +83,8 @@ const MEMORY_HUES = [0, 330, 45, 275];
 /** The colour of a kind of memory, by its number in a row of the table: that of any memory is grey. */
 export const memoryColour = (memory) => tint(MEMORY_HUES[memory], memory === 0 ? 80 : 55, memory === 0 ? 0 : 1);
 
-/** The number of the last of so many that is at most this one, where `at` gives each and they rise; -1 where there is none. */
+/** The number of the last of so many that is at most this one, where `at` gives each and they rise; -1 where there is
+ * none. */
 export function lastOf(count, at, number) {
   let low = 0;
   let high = count;
@@ -99,4 +100,5 @@ export function lastOf(count, at, number) {
 export const lastAt = (list, number) => lastOf(list.length, (i) => list[i], number);
 
 /** The longword at a byte, high byte first. */
-export const longAt = (bytes, at) => ((bytes[at] << 24) | (bytes[at + 1] << 16) | (bytes[at + 2] << 8) | bytes[at + 3]) >>> 0;
+export const longAt = (bytes, at) =>
+  ((bytes[at] << 24) | (bytes[at + 1] << 16) | (bytes[at + 2] << 8) | bytes[at + 3]) >>> 0;

@@ -1,4 +1,5 @@
-// What is there before a file of one's own: a sentence, three examples that are described, and all others by their names.
+// What is there before a file of one's own: a sentence, three examples that are described, and all others by their
+// names.
 
 import { fromHex } from "./link.js";
 import { unpacked } from "./packed.js";
@@ -33,7 +34,8 @@ export class Opening {
     return this.texts.has(name) ? fromHex(this.texts.get(name)) : null;
   }
 
-  /** Marks the example that is shown. Where that is null, a file of one's own is shown, which takes the place of the opening. */
+  /** Marks the example that is shown. Where that is null, a file of one's own is shown, which takes the place of the
+   * opening. */
   mark(name) {
     document.body.classList.toggle("has-own", name === null);
     this.list.value = name ?? "";

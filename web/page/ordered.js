@@ -4,8 +4,8 @@
 const compared = (one, other) => (one < other ? -1 : one > other ? 1 : 0);
 const keyed = (value) => (typeof value === "string" ? value.toLowerCase() : value);
 
-/** The numbers of rows, rising by what `key(i)` gives of each, or falling with the direction -1. Those of one key stay in their
- * order. */
+/** The numbers of rows, rising by what `key(i)` gives of each, or falling with the direction -1. Those of one key stay
+ * in their order. */
 export function ordered(numbers, key, direction) {
   const given = Array.from(numbers);
   const keys = given.map((i) => keyed(key(i)));

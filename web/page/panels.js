@@ -41,8 +41,10 @@ export class Panels {
     /** @type {import("./file.js").Examined | null} */
     this.file = null;
     this.memory = null;
-    this.memoryView = new HexView($("memory-hex"), "Memory, as hexadecimal digits", new ItemLine($("memory-item"), jump));
-    this.fileView = new HexView($("file-hex"), "File, as hexadecimal digits", new ItemLine($("file-item"), jump));
+    const view = (id, name) =>
+      new HexView($(`${id}-hex`), `${name}, as hexadecimal digits`, new ItemLine($(`${id}-item`), jump));
+    this.memoryView = view("memory", "Memory");
+    this.fileView = view("file", "File");
     this.mapPicture = new Picture($("map-picture"), "The hunks, and which base is added in which");
     this.memoryPicture = new Picture($("memory-picture"), "The memory, by hunks");
     this.filePicture = new Picture($("file-picture"), "The file, by blocks");

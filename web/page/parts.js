@@ -51,7 +51,9 @@ export class Parts {
 export function groupItem(file, row, start, from) {
   const count = longAt(file.bytes, start);
   const hunk = longAt(file.bytes, start + 4);
-  if (from === start) return { from, to: from + 4, name: "count", says: `${counted(count, "offset")} for hunk ${hunk}` };
+  if (from === start) {
+    return { from, to: from + 4, name: "count", says: `${counted(count, "offset")} for hunk ${hunk}` };
+  }
   if (from === start + 4) {
     return { from, to: from + 4, name: "target", says: `hunk ${hunk}`, targets: [placeIn(file, row.unit, hunk, 0)] };
   }
@@ -88,7 +90,8 @@ function behindName(file, row, kind, behind, from) {
   const counts = isCommon(kind) ? behind + 4 : behind;
   if (from < counts) return { ...item, name: "size of the common block", says: counted(value, "byte") };
   if (from === counts) return { ...item, name: "count", says: counted(value, "offset") };
-  const name = `offset ${((from - counts) / 4).toLocaleString("en")} of ${longAt(file.bytes, counts).toLocaleString("en")}`;
+  const [number, count] = [(from - counts) / 4, longAt(file.bytes, counts)].map((it) => it.toLocaleString("en"));
+  const name = `offset ${number} of ${count}`;
   return { ...item, name, says: "refers to the name there", targets: [placeIn(file, row.unit, row.hunk, value)] };
 }
 

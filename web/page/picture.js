@@ -1,4 +1,5 @@
-// A picture along which the pointer or the arrow keys go, with a label that says what is there. A click or Enter shows it.
+// A picture along which the pointer or the arrow keys go, with a label that says what is there. A click or Enter shows
+// it.
 
 /** How many steps of PageDown there are from one end to the other. */
 const PAGES = 16;
@@ -31,9 +32,9 @@ export class Picture {
     new ResizeObserver(() => canvas.clientWidth !== this.drawn && this.draw()).observe(box);
   }
 
-  /** Shows a scene, or nothing. `scene.part(at)` is the part {from, to, text} to which a number below `scene.length` belongs,
-   *  `scene.go(at)` shows it elsewhere, and `scene.draw(canvas, at)` draws all, with what is at `at` chosen where the scene
-   *  `follows`. `scene.share(at)` and `scene.at(share)` say where across the picture a number stands. */
+  /** Shows a scene, or nothing. `scene.part(at)` is the part {from, to, text} to which a number below `scene.length`
+   * belongs, `scene.go(at)` shows it elsewhere, and `scene.draw(canvas, at)` draws all, with what is at `at` chosen
+   * where the scene `follows`. `scene.share(at)` and `scene.at(share)` say where across the picture a number stands. */
   show(scene) {
     this.scene = scene?.length > 0 ? scene : null;
     this.box.hidden = !this.scene;
@@ -79,7 +80,8 @@ export class Picture {
     const last = scene.length - 1;
     const page = Math.max(1, Math.ceil(scene.length / PAGES));
     const { from, to } = scene.part(at);
-    const next = { ArrowLeft: from - 1, ArrowRight: to, PageUp: at - page, PageDown: at + page, Home: 0, End: last }[event.key];
+    const near = { ArrowLeft: from - 1, ArrowRight: to, PageUp: at - page, PageDown: at + page };
+    const next = { ...near, Home: 0, End: last }[event.key];
     if (next === undefined) return;
     event.preventDefault();
     this.#point(scene.part(Math.min(Math.max(0, next), last)).from);

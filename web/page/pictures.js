@@ -27,7 +27,8 @@ function fullness(bytes, from, to) {
   return seen === 0 ? 0 : full / seen;
 }
 
-/** The memory: each hunk in its colour, darker where it is not zero, and below it the relocated longs in their target's. */
+/** The memory: each hunk in its colour, darker where it is not zero, and below it the relocated longs in their
+ * target's. */
 function drawMemory(canvas, file, memory) {
   const drawing = prepared(canvas);
   const { width, height } = canvas;

@@ -1,5 +1,6 @@
-// Places, as types of their own. A byte of the file, a byte of what is read of it, a byte of the memory and a count of bytes are all
-// numbers, and to take one for another leads to a wrong place. `tsc` holds the page to these types (web/selftest).
+// Places, as types of their own. A byte of the file, a byte of what is read of it, a byte of the memory and a count of
+// bytes are all numbers, and to take one for another leads to a wrong place. `tsc` holds the page to these types
+// (web/selftest).
 
 /** A byte of the file, as it was dropped.
  * @typedef {number & { readonly of: "the file" }} FilePlace */

@@ -35,5 +35,5 @@ export function unreadText(unread) {
 
 /** Of a folder in which a browser leaves names out. It says nowhere how many. */
 export const PARTIAL =
-  'Of a dropped folder this browser leaves out names with any of : * ? " < > | \\ and some others, and does not count them. ' +
-  "Choose the folder to have them, too.";
+  'Of a dropped folder this browser leaves out names with any of : * ? " < > | \\ and some others, ' +
+  "and does not count them. Choose the folder to have them, too.";

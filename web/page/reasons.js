@@ -8,7 +8,8 @@ import { isContent, longAt } from "./names.js";
 const KIND_BITS = 0x1fffffff;
 const NOT_LOAD_FILE = 1;
 
-/** Class, what a developer does, what an archive does; and what it means, where its block word says more than the library. */
+/** Class, what a developer does, what an archive does; and what it means, where its block word says more than the
+ * library. */
 function reasonOf({ number, place, word }) {
   const kind = (word & KIND_BITS).toString(16).toUpperCase();
   return REASONS[`${number} at word ${kind}`] ?? REASONS[`${number} at byte ${place}`] ?? REASONS[number];
@@ -19,14 +20,15 @@ export function refusalOf(error, bytes) {
   const { number, reason, place, text } = error;
   const isThere = place + 4 <= bytes.length;
   const isForeign = place === 0 && (number === NOT_LOAD_FILE || `${number} at byte 0` in REASONS);
-  return { number, reason, place, text, word: isThere ? longAt(bytes, place) : 0, what: isForeign ? whatIs(bytes, FOREIGN) : null };
+  const what = isForeign ? whatIs(bytes, FOREIGN) : null;
+  return { number, reason, place, text, word: isThere ? longAt(bytes, place) : 0, what };
 }
 
 /** A slave of WHDLoad begins with a longword of code and these letters. */
 const SLAVE = "WHDLOADS";
 
-/** What a file is, as `hunk survey --what` has it: of one that is accepted, of which these are the bytes, by its first content; else
- * by the first bytes, or by the block for which it is refused.
+/** What a file is, as `hunk survey --what` has it: of one that is accepted, of which these are the bytes, by its first
+ * content; else by the first bytes, or by the block for which it is refused.
  * @param {import("./file.js").About} about */
 export function whatOf(hunk, input, bytes, about) {
   if (about.refusal) return input.length === 0 ? "empty" : (about.refusal.what ?? reasonOf(about.refusal)[3]);
@@ -50,12 +52,13 @@ export function classOf({ refusal, strict, hunks, findings }) {
 
 /** How a class is told. What is no hunk file is as it should be, for all that is known. */
 const TONES = {
-  load: "good", object: "good", findings: "warn", wide: "warn", "not supported": "warn", damaged: "bad", "not judged": "warn",
+  load: "good", object: "good", findings: "warn", wide: "warn",
+  "not supported": "warn", damaged: "bad", "not judged": "warn",
 };
 export const toneOf = (shown) => TONES[shown] ?? "soft";
 
-/** Why a file is refused, and what to do about it. One that is shown in its other spelling is read so already, and that is not
- * advised again.
+/** Why a file is refused, and what to do about it. One that is shown in its other spelling is read so already, and that
+ * is not advised again.
  * @param {import("./file.js").About} about */
 export function whyOf({ refusal, strict }) {
   if (refusal) return whyText(refusal);

@@ -1,7 +1,8 @@
-// A file that changes on disk while it is shown, as by a build: where the browser lets the page see that, a button reads it again.
+// A file that changes on disk while it is shown, as by a build: where the browser lets the page see that, a button
+// reads it again.
 //
-// A handle gives the file as it is now, and so does an entry of a folder; Firefox reads the same file again, though its date stays.
-// Chromium reads no file that was picked by a field once that has changed: then there is no button.
+// A handle gives the file as it is now, and so does an entry of a folder; Firefox reads the same file again, though its
+// date stays. Chromium reads no file that was picked by a field once that has changed: then there is no button.
 
 /** How often the date of a file is asked for. */
 const BETWEEN = 1500;

@@ -10,7 +10,8 @@ const LONG = 4;
 /** A unit and a hunk as one number that rises through a list. */
 const UNIT = 2 ** 21;
 
-/** The offset that a relocated longword has of its target; nothing where no longword is relocated, or its bytes are not known. */
+/** The offset that a relocated longword has of its target; nothing where no longword is relocated, or its bytes are not
+ * known. */
 function valueOf(file, row) {
   if (row.kind !== KINDS.RELOC32) return undefined;
   const contents = file.contents();
@@ -56,8 +57,8 @@ const CELLS = {
 
 /** The columns of a file without symbols, and of one with: there numbers leave where they have no room. */
 const NUMBERED = [
-  { name: "at" }, { name: "hunk", isNumber: true }, { name: "offset", isName: true }, { name: "target", isNumber: true },
-  { name: "of it", isOptional: true, leaves: 1 }, { name: "kind", isRest: true },
+  { name: "at" }, { name: "hunk", isNumber: true }, { name: "offset", isName: true },
+  { name: "target", isNumber: true }, { name: "of it", isOptional: true, leaves: 1 }, { name: "kind", isRest: true },
 ];
 const NAMED = [
   { name: "at", leaves: 3 }, { name: "hunk", isNumber: true, leaves: 4 }, { name: "offset", leaves: 5 },

@@ -17,7 +17,8 @@ export function save(data, name, type = "application/octet-stream") {
   return blob.size;
 }
 
-/** By the button: where it is told what came of it, the end of the name, the type, and what makes the data, of the panels.
+/** By the button: where it is told what came of it, the end of the name, the type, and what makes the data, of the
+ * panels.
  * @type {[string, string, (panels: import("./panels.js").Panels) => string, string, (panels: any) => any][]} */
 const BUTTONS = [
   ["save-list", "copied-list", ({ lists }) => `${lists.name}.csv`, "text/csv", ({ lists }) => lists.csv()],

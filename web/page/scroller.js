@@ -2,7 +2,8 @@
 
 import "./paper.js";
 
-// Browsers lay out no element that is taller than some 17 million pixels. A list that would be is scrolled by its share.
+// Browsers lay out no element that is taller than some 17 million pixels. A list that would be is scrolled by its
+// share.
 const TALLEST = 8000000;
 
 /** The most rows that are printed of a list. */
@@ -18,7 +19,8 @@ addEventListener("beforeprint", () => print(true));
 addEventListener("afterprint", () => print(false));
 
 export class Scroller {
-  /** `draw(first, count)` gives the HTML of rows; each is `height` pixels high. `drawn()` is called once they are there. */
+  /** `draw(first, count)` gives the HTML of rows; each is `height` pixels high. `drawn()` is called once they are
+   * there. */
   constructor(box, height, draw, drawn = () => {}) {
     this.drawn = drawn;
     this.box = box;
@@ -93,7 +95,8 @@ export class Scroller {
     this.go(this.top + Math.sign(event.deltaY) * 3);
   }
 
-  /** Draws all rows that are printed, from the first that is seen where they are too many; or again those that are seen. */
+  /** Draws all rows that are printed, from the first that is seen where they are too many; or again those that are
+   * seen. */
   print(is) {
     this.isPrinted = is;
     this.refresh();
@@ -123,7 +126,8 @@ export class Scroller {
 
 /** What keys do in a list: the row to go to, or nothing. */
 export function rowOfKey(key, row, seen, count) {
-  const to = { ArrowUp: row - 1, ArrowDown: row + 1, PageUp: row - seen, PageDown: row + seen, Home: 0, End: count - 1 }[key];
+  const near = { ArrowUp: row - 1, ArrowDown: row + 1, PageUp: row - seen, PageDown: row + seen };
+  const to = { ...near, Home: 0, End: count - 1 }[key];
   return to === undefined ? undefined : Math.min(Math.max(0, to), Math.max(0, count - 1));
 }
 

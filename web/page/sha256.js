@@ -1,4 +1,5 @@
-// SHA-256, as FIPS 180-4 defines it. `crypto.subtle` has it, too, but not on a page that comes from a server by plain HTTP.
+// SHA-256, as FIPS 180-4 defines it. `crypto.subtle` has it, too, but not on a page that comes from a server by plain
+// HTTP.
 
 const BLOCK = 64;
 const ROUNDS = 64;

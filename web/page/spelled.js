@@ -1,5 +1,5 @@
-// How the bytes of a file in another spelling stand to those of its plain spelling, which is what the library reads. Short
-// relocations have half the bytes there, and an END that was left out has none.
+// How the bytes of a file in another spelling stand to those of its plain spelling, which is what the library reads.
+// Short relocations have half the bytes there, and an END that was left out has none.
 
 import { KINDS } from "../../bindings/javascript/kinds.js";
 import { filePlace, textPlace } from "./places.js";
@@ -26,7 +26,8 @@ function lastBelow(list, number) {
 }
 
 export class Spelled {
-  /** Pieces, each from a byte of the text and one of the file on: `shares` says how many bytes of the file one of the text has. */
+  /** Pieces, each from a byte of the text and one of the file on: `shares` says how many bytes of the file one of the
+   * text has. */
   texts = [0];
   files = [0];
   shares = [1];
@@ -83,7 +84,9 @@ export class Spelled {
    * @param {import("./places.js").TextPlace} place */
   typeOf(place, kind) {
     const type = typeAt(this.input, this.inFile(place));
-    if (kind === KINDS.END) return type === KINDS.END && this.shares[lastBelow(this.texts, place)] > 0 ? kind : undefined;
+    if (kind === KINDS.END) {
+      return type === KINDS.END && this.shares[lastBelow(this.texts, place)] > 0 ? kind : undefined;
+    }
     return kind === KINDS.RELOC32 && SHORT.includes(type) ? type : kind;
   }
 }

@@ -23,7 +23,8 @@ function withoutZeros(content) {
 /** A target and an offset in one number, below 2^53, so that they are sorted together. */
 const OFFSETS = 2 ** 32;
 
-/** Whether the relocated longwords at these offsets are the same or do not overlap: else it counts which comes first. */
+/** Whether the relocated longwords at these offsets are the same or do not overlap: else it counts which comes
+ * first. */
 function areApart(keys) {
   const offsets = keys.map((it) => it % OFFSETS).sort();
   return offsets.every((offset, i) => i === 0 || offset === offsets[i - 1] || offset - offsets[i - 1] >= LONG);
@@ -59,7 +60,8 @@ function relocatedOf(relocations, hunks) {
   return found.map((keys) => Float64Array.from(keys).sort());
 }
 
-/** The file that all load files with the same table and memory have in common; null where relocated longwords overlap. */
+/** The file that all load files with the same table and memory have in common; null where relocated longwords
+ * overlap. */
 export function canonical(hunk, bytes) {
   const { rows, hunks } = hunk.blocks(bytes);
   const relocated = relocatedOf(hunk.relocations(bytes).rows, hunks);
@@ -79,8 +81,8 @@ export function canonical(hunk, bytes) {
 /** The names of the sums, in the order in which one is looked for that another file has. */
 export const SUMS = ["file", "program", "memory"];
 
-/** The sums of a file: of its bytes; of its program and memory, where its text, in the plain spelling, is accepted. An object file
- * has no memory, nor has one whose relocated longwords overlap.
+/** The sums of a file: of its bytes; of its program and memory, where its text, in the plain spelling, is accepted. An
+ * object file has no memory, nor has one whose relocated longwords overlap.
  * @returns {{ file: string, program?: string, memory?: string }} */
 export function sumsOf(hunk, input, text, isLoad) {
   const file = sha256(input);

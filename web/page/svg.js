@@ -92,7 +92,8 @@ export class SvgDrawing {
     const [, size, family] = /^(\d+)px (.*)$/.exec(this.font);
     const [wide, high] = [width + 2 * MARGIN, height + 2 * MARGIN];
     const box = `width="${rounded(wide)}" height="${rounded(high)}" viewBox="${values(-MARGIN, -MARGIN, wide, high)}"`;
-    const head = `<svg xmlns="http://www.w3.org/2000/svg" ${box} font-size="${size}" font-family="${escaped(family)}">\n`;
+    const font = `font-size="${size}" font-family="${escaped(family)}"`;
+    const head = `<svg xmlns="http://www.w3.org/2000/svg" ${box} ${font}>\n`;
     const sheet = `<rect x="${-MARGIN}" y="${-MARGIN}" width="100%" height="100%" fill="${this.#colour(paper)}"/>\n`;
     return `${head}<title>${escaped(title)}</title>\n${sheet}${this.#parts.join("")}</svg>\n`;
   }

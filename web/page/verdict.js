@@ -50,7 +50,8 @@ function acceptedTexts({ about, input, end }) {
 
 /** What a file is, in a sentence.
  * @param {import("./file.js").Examined} file */
-export const verdictText = (file) => (file.about.refusal ? refusalTexts(file.about, file.fault) : acceptedTexts(file))[0];
+export const verdictText = (file) =>
+  (file.about.refusal ? refusalTexts(file.about, file.fault) : acceptedTexts(file))[0];
 
 /** Tells a first sentence in large letters, and what else there is to tell.
  * @param {string[]} texts

@@ -1,5 +1,6 @@
-// What was shown, one after the other, in the history of the browser: Back and Forward show files of one's own again, for as long
-// as the page is open. A link to an example, or with a file in it, is an address, and is kept by the browser itself.
+// What was shown, one after the other, in the history of the browser: Back and Forward show files of one's own again,
+// for as long as the page is open. A link to an example, or with a file in it, is an address, and is kept by the
+// browser itself.
 
 /** This page as it is open now: its visits are gone when it is loaded again. */
 const PAGE = `${performance.timeOrigin} ${Math.random()}`;
@@ -7,7 +8,8 @@ const PAGE = `${performance.timeOrigin} ${Math.random()}`;
 const MOST_BYTES = 2 ** 28;
 
 export class Visits {
-  /** `go(visit)` is called where the browser goes to another place: with what was shown there, or null where its address says it. */
+  /** `go(visit)` is called where the browser goes to another place: with what was shown there, or null where its
+   * address says it. */
   constructor(go) {
     this.visits = [];
     this.go = go;

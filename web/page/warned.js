@@ -1,4 +1,5 @@
-// Warnings of a load file that is accepted: what they are, by docs/warnings.tsv, and where they stand in the file and its memory.
+// Warnings of a load file that is accepted: what they are, by docs/warnings.tsv, and where they stand in the file and
+// its memory.
 
 import { MEMORIES, WARNINGS } from "../../bindings/javascript/kinds.js";
 import { counted, hex, lastAt, longAt, nameText } from "./names.js";
@@ -78,7 +79,8 @@ export class Warned {
     for (let i = 0; i < rows.length; i++) {
       const hunk = rows.get(i, "hunk");
       this.hunks[hunk] += 1;
-      if (isOfRelocation(rows.get(i, "kind"))) both[count++] = (file.starts[hunk] + rows.get(i, "offset")) * MOST_ROWS + i;
+      if (!isOfRelocation(rows.get(i, "kind"))) continue;
+      both[count++] = (file.starts[hunk] + rows.get(i, "offset")) * MOST_ROWS + i;
     }
     this.sorted = both.subarray(0, count).sort();
     this.memory = this.sorted.map((it) => Math.floor(it / MOST_ROWS));
@@ -98,7 +100,9 @@ export class Warned {
     const last = lastAt(places, at);
     if (last < 0 || at >= places[last] + LONG) return "";
     const found = new Set();
-    for (let i = last; i >= 0 && places[i] === places[last]; i--) found.add(textsOf(this.rows.get(rowOf(i), "kind"))[0]);
+    for (let i = last; i >= 0 && places[i] === places[last]; i--) {
+      found.add(textsOf(this.rows.get(rowOf(i), "kind"))[0]);
+    }
     return [...found].reverse().join(", ");
   }
 }

@@ -1,4 +1,5 @@
-// How wide the columns of a table are: each as what is in it, and some have the rest of the room. Where they have none, some leave.
+// How wide the columns of a table are: each as what is in it, and some have the rest of the room. Where they have none,
+// some leave.
 
 /** How many rows are measured before a table is shown. Those that are drawn later are measured then. */
 const SAMPLED = 200;
@@ -20,9 +21,9 @@ document.head.append(Object.assign(document.createElement("style"), {
 const measured = (text) => Math.ceil(drawing.measureText(String(text).replace(/\d/g, "0")).width) + SLACK;
 
 export class Widths {
-  /** `columns`: {name, isNumber, isRest, least, isOptional, leaves}, of which those with `isRest` have the rest of the room. Texts are
-   *  whole, or where a column says so have that many ems at least. One that is optional leaves while nothing is in it; others leave
-   *  a table that is too narrow for all, those of the lowest `leaves` first. */
+  /** `columns`: {name, isNumber, isRest, least, isOptional, leaves}, of which those with `isRest` have the rest of the
+   * room. Texts are whole, or where a column says so have that many ems at least. One that is optional leaves while
+   * nothing is in it; others leave a table that is too narrow for all, those of the lowest `leaves` first. */
   constructor(box, columns) {
     const { fontFamily } = getComputedStyle(box);
     drawing.font = `600 12px ${fontFamily}`;
@@ -81,7 +82,9 @@ export class Widths {
     const leaves = (i) => this.columns[i].leaves;
     const going = found.filter(leaves).sort((one, other) => leaves(other) - leaves(one));
     const { clientWidth } = this.box;
-    while (clientWidth > 0 && going.length > 0 && this.#wide(found) > clientWidth) found.splice(found.indexOf(going.pop()), 1);
+    while (clientWidth > 0 && going.length > 0 && this.#wide(found) > clientWidth) {
+      found.splice(found.indexOf(going.pop()), 1);
+    }
     return found;
   }
 

@@ -1,4 +1,5 @@
-// The words of the page: each is told where it stands, by the title of what has it, and all of them at the end of the page.
+// The words of the page: each is told where it stands, by the title of what has it, and all of them at the end of the
+// page.
 
 /** @type {Record<string, string>} */
 export const WORDS = {
@@ -16,13 +17,16 @@ export const WORDS = {
   reference: "An offset at which a linker fills in what a name of another file stands for.",
   finding: "An offset of an object file that leads to no hunk, or outside of one. The file is accepted.",
   warning: "Something in a load file that may make it crash, as a pointer that leads elsewhere. The file is accepted.",
-  "another spelling": "With short relocations, or with an END left out. Later versions of AmigaDOS load it, and --wide reads it.",
+  "another spelling":
+    "With short relocations, or with an END left out. Later versions of AmigaDOS load it, and --wide reads it.",
   "plain spelling": "What says the same as another spelling, with long relocations and each END.",
   stripped: "Without names, symbols and debug data. It is loaded to the same memory.",
   "any memory": "The hunk may be loaded to memory of any kind.",
   "chip memory": "The hunk is to lie where the custom chips reach it.",
   "fast memory": "The hunk is to lie where the custom chips do not slow the processor.",
   "memory by attributes": "A longword behind the size says what kind of memory the hunk is to lie in.",
+  sum: "SHA-256 of the program without names, symbols and debug data, or else of the file: its first digits.",
+  undefined: "A name that an object file asks for, and that none of the files here defines. In a table, how many.",
 };
 
 /** Of kinds of blocks, and the classes of files in the words of `hunk survey`.
@@ -81,12 +85,10 @@ const HEAD_WORDS = {
   "in memory": "The bytes of all hunks once they are loaded.",
   "refused at": "The byte at which reading ended.",
   reason: "Why it is refused, by the name that all programs here have for it.",
-  undefined: "How many names it asks for that none of these files defines.",
   file: "The name that it was found by.",
   class: "What it is, in the words of hunk survey.",
   "what it is": "By its first bytes.",
   "same as": "The first of these files with the same sum, and which sum that is.",
-  sum: "SHA-256 of the program without names, symbols and debug data, or else of the file: its first digits.",
 };
 
 /** What a text means that has a word alone, in any number; nothing of others. */

@@ -1,4 +1,5 @@
-// What an archive and a linker ask of many files: sums, which are the same, what is no hunk file, and names that none defines.
+// What an archive and a linker ask of many files: sums, which are the same, what is no hunk file, and names that none
+// defines.
 
 import { execFileSync } from "node:child_process";
 import { readFileSync, writeFileSync } from "node:fs";
@@ -62,8 +63,8 @@ async function compareKinds(page, hold) {
   hold("the sums of docs/SUMS.md", Array(3).fill(ONE_SUM).join(), [one["file sum"], one["program sum"], one["memory sum"]].join());
 }
 
-/** Object files with EXT blocks: `_main` needs `_f` and `_g`; the second defines `_f`, and needs `_main` and `_h`; `_common` is one of
- * both, and SYMB defines nothing. */
+/** Object files with EXT blocks: `_main` needs `_f` and `_g`; the second defines `_f`, and needs `_main` and `_h`;
+ * `_common` is one of both, and SYMB defines nothing. */
 const OBJECTS = [
   ["main.o", longs("3e7 0 3e9 1 4e714e71 3ef 1000002 '_mai 6e000000 0 81000001 '_f.. 1 0 81000001 '_g.. 1 0 82000002 '_com 6d6f6e00 4 0 0 3f2")],
   ["f.o", longs("3e7 0 3e9 1 4e714e71 3ef 1000001 '_f.. 0 81000002 '_mai 6e000000 1 0 81000001 '_h.. 1 0 1 '_h.. 0 0 3f2")],

@@ -45,6 +45,7 @@ export class Bidi {
   }
 
   async send(method, params = {}) {
+    if (this.#socket.readyState !== Socket.OPEN) throw new Error(`${method}: there is no connection to the browser`);
     const id = ++this.#last;
     const answer = new Promise((done) => this.#waits.set(id, done));
     this.#socket.send(JSON.stringify({ id, method, params }));

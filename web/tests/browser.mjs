@@ -1,6 +1,7 @@
-// A headless browser that shows a page. Both are driven by WebDriver BiDi: Firefox has it itself, and Chromium by its chromedriver.
-// Debian has no client of it that both know (its python3-selenium drives each by the older protocol), so bidi.mjs is one. What
-// BiDi lacks, as a dark scheme, paper, a touched screen and a drop of files, each browser has in a way of its own, at the end of this file.
+// A headless browser that shows a page. Both are driven by WebDriver BiDi: Firefox has it itself, and Chromium by its
+// chromedriver. Debian has no client of it that both know (its python3-selenium drives each by the older protocol), so
+// bidi.mjs is one. What BiDi lacks, as a dark scheme, paper, a touched screen and a drop of files, each browser has in
+// a way of its own, at the end of this file.
 
 import { spawn } from "node:child_process";
 import { mkdirSync } from "node:fs";

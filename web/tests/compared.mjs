@@ -1,4 +1,5 @@
-// Two files beside each other: what differs, and in what they are the same, held to texts by hand and to `hunk diff` and `hunk same`.
+// Two files beside each other: what differs, and in what they are the same, held to texts by hand and to `hunk diff`
+// and `hunk same`.
 
 import { readFileSync, writeFileSync } from "node:fs";
 import { called, hasCommand } from "./command.mjs";

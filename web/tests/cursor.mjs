@@ -2,7 +2,8 @@
 
 import { digits, SUM } from "./texts.mjs";
 
-/** Hunks of 8 bytes in chip memory, of 4 with attributes, of 4: "go" at 4 of hunk 0, "end" behind it, "x" at 0 of hunk 1. */
+/** Hunks of 8 bytes in chip memory, of 4 with attributes, of 4: "go" at 4 of hunk 0, "end" behind it, "x" at 0 of hunk
+ * 1. */
 const SYMBOLS = digits(`
   000003f3 00000000 00000003 00000000 00000002 40000002 c0000001 00010002 00000001
   000003e8 00000001 74000000

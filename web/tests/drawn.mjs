@@ -14,7 +14,8 @@ function manyTargets(count, targets) {
   return [0x3f3, 0, count, 0, count - 1, ...all.map(() => targets), ...all.flatMap(hunk)].map(long).join("");
 }
 
-/** How high each of so many columns across the map is drawn on, of a hundred: from below, while nothing or a hunk is chosen. */
+/** How high each of so many columns across the map is drawn on, of a hundred: from below, while nothing or a hunk is
+ * chosen. */
 const HEIGHTS = `
   const canvas = document.getElementById("map-picture");
   await new Promise((done) => requestAnimationFrame(() => requestAnimationFrame(done)));

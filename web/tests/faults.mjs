@@ -1,4 +1,5 @@
-// Errors of pages are seen in both browsers: one that nothing catches, a promise that nothing awaits, and what the console is told.
+// Errors of pages are seen in both browsers: one that nothing catches, a promise that nothing awaits, and what the
+// console is told.
 
 const WRONG = `console.error("told");
   setTimeout(() => { throw new Error("thrown"); });

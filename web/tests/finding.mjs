@@ -13,7 +13,8 @@ const FIND = `
   });
   return document.getElementById("copied-" + values[0]).textContent || found[0] + "-" + found.at(-1)`;
 
-/** In the file 4e75 stands at 40 and 4e71 at 42, and END at 74 and 80; in the memory the code begins at 21000, and in the file at 24. */
+/** In the file 4e75 stands at 40 and 4e71 at 42, and END at 74 and 80; in the memory the code begins at 21000, and in
+ * the file at 24. */
 const FINDS = {
   memory: { 21008: "21008-2100b", $21030: "21030-21033", "4e 71": "2101e-2101f", '"Nu"': "2101c-2101d", "4e75": "2101c-2101d" },
   file: { "0x1c": "1c-1f", "4e 71": "42-43", '"NuNq"': "40-43", "4e 75": "40-41", "ff ff ff": "It is not there." },

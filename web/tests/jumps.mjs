@@ -37,7 +37,8 @@ async function tryWays(page, hold) {
     found("file", "4e 75"); found_.push(place());
     document.querySelector("#file-item button").click(); found_.push(place());
     return found_`;
-  // By hand: the second relocation stands at 6c and is of offset 8; hunk 1 stands at 78; 4e75 at 40, and is loaded to 2101c.
+  // By hand: the second relocation stands at 6c and is of offset 8; hunk 1 stands at 78; 4e75 at 40, and is loaded to
+  // 2101c.
   const wanted = ["21000,0,0", "21008,6c,4", "21030,78,8", "21030,40,2", "2101c,40,2"];
   hold("a row, the map, what is found, and a lead", wanted.join(" "), (await run(page, places)).join(" "));
   const there = `const seen = []; while (!back().disabled) { back().click(); seen.push(place()); } return seen`;

@@ -12,7 +12,8 @@ export const longs = (text) =>
 const sums = (...digits) =>
   [0, 1, 2].map((i) => (digits[i] ? createHash("sha256").update(Buffer.from(digits[i], "hex")).digest("hex") : "")).join(",");
 
-/** 164 bytes: 16 of code at 21000 with two relocated longs, at 4 and c, and 8 of data; 3 symbols, the last at byte 90. */
+/** 164 bytes: 16 of code at 21000 with two relocated longs, at 4 and c, and 8 of data; 3 symbols, the last at byte
+ * 90. */
 export const LOAD = longs(
   "3f3 0 2 0 1 4 2 3e9 4 4e714e71 4 4e714e71 0 3ec 1 1 4 1 0 c 0 3f0 1 'main 0 2 'add_ 'one. 8 0 3f2 " +
     "3ea 2 1 2 3f0 1 'Tabl 4 0 3f2",

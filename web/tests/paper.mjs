@@ -2,8 +2,8 @@
 
 import { PROGRAM } from "./program.mjs";
 
-/** What of the page is on paper: tabs, whether a list has its heads, over their columns, fields and buttons, whether there are rows,
- * cells that are cut, and whether it is wider than the paper. */
+/** What of the page is on paper: tabs, whether a list has its heads, over their columns, fields and buttons, whether
+ * there are rows, cells that are cut, and whether it is wider than the paper. */
 const ON_PAPER = `
   const seen = (selector) => [...document.querySelectorAll(selector)].filter((it) => it.checkVisibility());
   const cells = seen("#list-panel [data-row] > *");

@@ -1,4 +1,5 @@
-// The map of hunks and the strips of a file and its memory: what they say to the pointer and to the keyboard, and what is drawn.
+// The map of hunks and the strips of a file and its memory: what they say to the pointer and to the keyboard, and what
+// is drawn.
 
 import { execFileSync } from "node:child_process";
 import { digits, root, SUM } from "./texts.mjs";
@@ -10,8 +11,8 @@ const MEMORIES = digits(`
   000003e9 00000000 000003f2
   000003eb 00000001 000003f2`);
 
-/** Two units of two hunks, and two of none. Hunk 0 of the first is relocated at its hunk 1 twice, and at a hunk 2; hunk 1 of the
- *  second at its hunk 0. */
+/** Two units of two hunks, and two of none. Hunk 0 of the first is relocated at its hunk 1 twice, and at a hunk 2; hunk
+ * 1 of the second at its hunk 0. */
 const OBJECT = digits(`
   000003e7 00000001 61000000
   000003e9 00000002 00000000 00000000
@@ -132,7 +133,8 @@ async function compareDrawn(page, hold) {
     const { data } = canvas.getContext("2d").getImageData(0, 0, canvas.width, canvas.height - 50);
     return data.some((it, i) => i % 4 === 3 && it > 0)`;
   hold("arcs that are drawn", true, await page.in(arcs));
-  // The arc from hunk 0 to itself is pale while the pointer is at hunk 1: fewer of all that is drawn above the bars is opaque.
+  // The arc from hunk 0 to itself is pale while the pointer is at hunk 1: fewer of all that is drawn above the bars is
+  // opaque.
   const strong = `const { data } = canvas.getContext("2d").getImageData(0, 0, canvas.width, canvas.height - 50);
     return data.filter((it, i) => i % 4 === 3 && it > 150).length`;
   const all = await page.in(`${PICTURE} ${strong}`, "map");

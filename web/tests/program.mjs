@@ -19,7 +19,8 @@ const textOf = (text) => {
 
 const TEXTS = ["usage: stars FILE\n", "can't open dos.library\n", "no memory for a screen\n", "dos.library", "graphics.library"];
 
-/** Its hunks: kind, memory, longwords, which hunks' addresses it has and how many of each, and symbols by their offsets. */
+/** Its hunks: kind, memory, longwords, which hunks' addresses it has and how many of each, and symbols by their
+ * offsets. */
 const HUNKS = [
   { kind: CODE, longs: 96, targets: { 1: 9, 2: 3, 3: 4, 5: 1 }, symbols: { _start: 0, _main: 0x48, _usage: 0x120 } },
   {

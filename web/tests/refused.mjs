@@ -1,5 +1,5 @@
-// Files that are refused: what is shown of their table and blocks before the fault, where the fault is drawn, and the reading of
-// the plain spelling beside them. What is wanted was written by hand, from the longwords of each file.
+// Files that are refused: what is shown of their table and blocks before the fault, where the fault is drawn, and the
+// reading of the plain spelling beside them. What is wanted was written by hand, from the longwords of each file.
 
 import { pointed } from "./cursor.mjs";
 
@@ -224,7 +224,8 @@ class Refused {
   }
 }
 
-/** An archive, a text, a file of nothing that is known, and one of two bytes, each with the first line of why it is refused. */
+/** An archive, a text, a file of nothing that is known, and one of two bytes, each with the first line of why it is
+ * refused. */
 const FOREIGN = [
   ["an archive", "20002d6c68352d00000000", "NotLoadFile (1)", "No hunk file: LhA archive, by its first bytes."],
   ["a text", Buffer.from("notes\n").toString("hex"), "NotLoadFile (1)", "No hunk file: text, by its first bytes."],

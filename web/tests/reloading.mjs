@@ -16,17 +16,23 @@ const offered = (page, tenths = 60) =>
      return button.checkVisibility()`,
     tenths,
   );
+/** Goes one line of bytes down in the file, and tells at which byte one is. */
+const down = `document.getElementById("file-hex").dispatchEvent(new KeyboardEvent("keydown", { key: "ArrowDown", bubbles: true }));`;
+const byte = (page) => page.in(`return document.getElementById("file-item").textContent.slice(0, 8)`);
 const start = async (page) => (await page.in(VERDICT)).slice(0, IS.length).replace(/[.;].*/, "");
 
-/** Changes a file that is shown, and has the button read it again. `isLooked` is whether the window has to get the focus. */
+/** Changes a file that is shown, and has the button read it again. `isLooked` is whether the window has to get the
+ * focus. */
 async function change(page, hold, what, path, isLooked) {
   hold(`${what}, at first`, WAS, await start(page));
   hold(`${what}, not changed`, false, await offered(page, 3));
+  await page.in(down);
   write(path, LOAD);
   if (isLooked) await page.in(focus);
   hold(`${what}, changed`, true, await offered(page));
   await page.shows(() => page.in(`document.getElementById("reload").click()`));
   hold(`${what}, read again`, IS, await start(page));
+  hold(`${what}, where it was left`, "00000010", await byte(page));
   hold(`${what}, and not offered again`, false, await offered(page, 3));
   await page.shows(() => page.in("history.back()"));
   hold(`${what}, and back`, WAS, await start(page));

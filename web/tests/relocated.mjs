@@ -4,8 +4,8 @@ import { type } from "./many.mjs";
 import { PROGRAM } from "./program.mjs";
 import { SUM, digits } from "./texts.mjs";
 
-/** A unit of two hunks: hunk 0 has _first at 0 and _second at 4, by EXT, and its longword at 8 leads to 2 of hunk 1, which has the
- *  symbol _data at 0. */
+/** A unit of two hunks: hunk 0 has _first at 0 and _second at 4, by EXT, and its longword at 8 leads to 2 of hunk 1,
+ * which has the symbol _data at 0. */
 const OBJECT = digits(`
   000003e7 00000000
   000003e9 00000003 00000000 00000000 00000002 000003ec 00000001 00000001 00000008 00000000
@@ -26,8 +26,8 @@ async function tryNames(page, hold) {
   const ways = `${open("relocations")} ${COLUMN}
     return texts("source").map((it, i) => it + " > " + texts("leads to")[i]).slice(0, 3).join()`;
   await page.drop([["program", PROGRAM]]);
-  // By hand: the nine addresses of hunk 1 in hunk 0 stand at 4, 24, 44 and so on to 164, and have 0, 4, 8 and so on to 20, and again;
-  // a group begins with its last. _main is at 72.
+  // By hand: the nine addresses of hunk 1 in hunk 0 stand at 4, 24, 44 and so on to 164, and have 0, 4, 8 and so on to
+  // 20, and again; a group begins with its last. _main is at 72.
   hold("relocations by symbols", "_main + 5c > _draw + 8,_main + 48 > _draw + 4,_main + 34 > _draw", await page.in(ways));
   await page.drop([["object", OBJECT]]);
   hold("relocations of an object file", "_second + 4 > _data + 2", await page.in(ways));

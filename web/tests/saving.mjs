@@ -1,4 +1,5 @@
-// What the page saves: lists as CSV, the map as SVG, and files in other formats, which have to be those of the command `hunk`.
+// What the page saves: lists as CSV, the map as SVG, and files in other formats, which have to be those of the command
+// `hunk`.
 
 import { readFileSync, writeFileSync } from "node:fs";
 import { called, hasCommand } from "./command.mjs";
@@ -17,7 +18,8 @@ const SYMBOLS = `at,hunk,value,address,name
 00000064,0,00000008,00021008,add_one.
 `.replaceAll("\n", "\r\n");
 
-/** Code of 4 bytes at 21000, by the rules of S-records: a count, the address, the bytes, and the complement of their sum. */
+/** Code of 4 bytes at 21000, by the rules of S-records: a count, the address, the bytes, and the complement of their
+ * sum. */
 const ONE = digits("000003f3 00000000 00000001 00000000 00000000 00000001 000003e9 00000001 4e754e71 000003f2");
 const RECORDS = "S007000048554E4BC2\nS309000210004E754E7162\nS70500021000E8\n";
 

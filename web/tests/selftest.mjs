@@ -1,11 +1,13 @@
-// Opens the page in a browser, gives it files, and holds what it shows to what the program prints:
-// node selftest.mjs BROWSER PAGE PROGRAM EVERY ONE_OF PICTURES WORK [TEST..]. EVERY is what vectors/every has printed, of which one
-// of ONE_OF inputs is dropped; pictures go into the folder PICTURES, and files into WORK. With names only these tests are run.
+// Opens the page in a browser, gives it files, and holds what it shows to what the program prints: node selftest.mjs
+// BROWSER PAGE PROGRAM EVERY ONE_OF PICTURES WORK [TEST..]. EVERY is what vectors/every has printed, of which one of
+// ONE_OF inputs is dropped; pictures go into the folder PICTURES, and files into WORK. With names only these tests are
+// run.
 
 import { execFileSync } from "node:child_process";
 import { copyFileSync, mkdirSync, readFileSync, writeFileSync } from "node:fs";
 import { createServer } from "node:http";
 import { Chromium, Firefox } from "./browser.mjs";
+import { askedWide } from "./command.mjs";
 import { tryLarge } from "./large.mjs";
 import { BASE, Page } from "./page.mjs";
 import { tryMany } from "./many.mjs";
@@ -17,12 +19,11 @@ const root = new URL("../../", import.meta.url).pathname;
 
 let compared = 0;
 let failed = 0;
-let what = "";
 function hold(which, wanted, said) {
   compared += 1;
   if (said === wanted) return;
   failed += 1;
-  if (failed <= 20) console.log(`${browserName}: ${which}: ${said}, and not ${wanted}`);
+  if (failed <= 100) console.log(`${browserName}: ${which}: ${said}, and not ${wanted}`);
 }
 
 /** What the program prints, whatever its status. */
@@ -63,13 +64,10 @@ function whyOf(answer) {
 }
 
 /** The class of what the program has accepted or refused: that of a refusal, unless --wide accepts it. */
-function classOf(digits, answer) {
-  if (answer.startsWith("accepted")) {
-    if (digits.startsWith("000003f3")) return "load";
-    return answer.endsWith(" 0") ? "object" : "findings";
-  }
-  writeFileSync(`${work}/wide`, Buffer.from(digits, "hex"));
-  return printed("validate", "--wide", `${work}/wide`).startsWith("refused") ? reasonOf(answer)[2] : "wide";
+function classOf(digits, answer, wide) {
+  if (!answer.startsWith("accepted")) return wide.get(digits).startsWith("refused") ? reasonOf(answer)[2] : "wide";
+  if (digits.startsWith("000003f3")) return "load";
+  return answer.endsWith(" 0") ? "object" : "findings";
 }
 
 const SHOWN = `
@@ -147,12 +145,14 @@ async function compareMany(page) {
   const text = Buffer.from(await page.saved("save-csv"), "hex").toString();
   const cells = text.split("\r\n").slice(1, -1).map((line) => line.split(","));
   hold("the lines of the table", rows.length, cells.length);
+  const refused = rows.filter((row) => row[4] === "refused").map((row) => row[3]);
+  const wide = askedWide(program, `${work}/wide`, [...new Set(refused)]);
   const counts = {};
   for (const [i, [, size, shown, answer, , ...rest]] of cells.entries()) {
     const [hunks, memory, units, findings, , place, , number] = rest;
     const said = answer === "accepted" ? `${size} accepted ${hunks || units} ${memory || findings}` : `${size} refused ${place} ${number}`;
     const wanted = rows[i].slice(4).join(" ");
-    const kind = classOf(rows[i][3], wanted);
+    const kind = classOf(rows[i][3], wanted, wide);
     hold(`input ${i}`, `${rows[i][3].length / 2} ${wanted}, ${kind}`, `${said}, ${shown}`);
     counts[kind] = (counts[kind] ?? 0) + 1;
   }
@@ -224,7 +224,6 @@ async function compareUse(page) {
 }
 
 const paths = { root, work, pagePath };
-
 /** The tests of the page, in their order, by their names. What is null stands in a file of that name. */
 const TESTS = {
   // First, as Chromium keeps 50 places in the history, and of more forgets those at which nobody has pressed a key.
@@ -274,20 +273,26 @@ async function testOf(name) {
   return (page) => test(page, hold, paths);
 }
 
+/** Runs a test. One that ends early is a failure of its own, and the others are run all the same. */
+async function tried(page, name, test) {
+  try {
+    await browser.size(1280, 900);
+    await page.open();
+    await (test ?? (await testOf(name)))(page);
+  } catch (error) {
+    hold(`the test ${name}`, "no error", error.message);
+  }
+  for (const fault of await browser.faults()) hold(`an error in the page, at ${name}`, "none", fault);
+}
+
 const browser = await (browserName === "chromium" ? Chromium : Firefox).open(work);
 try {
   const page = new Page(browser, pagePath);
   await page.open();
   console.log(`${browserName}: ${await page.in("return document.getElementById('module').textContent")}`);
   for (const [name, test] of Object.entries(TESTS).filter(([it]) => only.length === 0 || only.includes(it))) {
-    what = name;
-    await browser.size(1280, 900);
-    await page.open();
-    await (test ?? (await testOf(name)))(page);
-    for (const fault of await browser.faults()) hold(`an error in the page, at ${name}`, "none", fault);
+    await tried(page, name, test);
   }
-} catch (error) {
-  hold(`the test, at ${what}`, "no error", `${error.message} (${(await browser.faults()).join("; ")})`);
 } finally {
   await browser.close();
 }

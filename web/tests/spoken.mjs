@@ -1,4 +1,5 @@
-// What screen readers are told: names of parts, the active row, what is spoken and what is not. And what the words mean.
+// What screen readers are told: names of parts, the active row, what is spoken and what is not. And what the words
+// mean.
 
 import { PROGRAM } from "./program.mjs";
 import { SUM } from "./texts.mjs";
@@ -45,7 +46,8 @@ async function trySpeech(page, hold) {
 
 const WORDS = [
   "hunk", "load file", "object file", "unit", "longword", "block", "base", "offset", "relocation", "symbol", "external name",
-  "reference", "finding", "warning", "another spelling", "plain spelling", "stripped", "chip memory", "HEADER", "CODE", "RELOC32SHORT",
+  "reference", "finding", "warning", "another spelling", "plain spelling", "stripped", "chip memory", "sum", "undefined",
+  "HEADER", "CODE", "RELOC32SHORT",
 ];
 
 /** Heads that are plain English. */

@@ -1,5 +1,5 @@
-// What stays: the file that was picked last, the list, the place and the reading when colours or the base change, and files of one's
-// own in the history of the browser.
+// What stays: the file that was picked last, the list, the place and the reading when colours or the base change, and
+// files of one's own in the history of the browser.
 
 import { PROGRAM } from "./program.mjs";
 import { SUM, digits } from "./texts.mjs";
@@ -33,7 +33,8 @@ async function tryOvertaken(page, hold) {
   hold("the file that is marked, and the one that is shown", "quick, quick", said);
 }
 
-/** The open list, its first row that is seen and the one that is marked, what is picked, and how far the views are scrolled. */
+/** The open list, its first row that is seen and the one that is marked, what is picked, and how far the views are
+ * scrolled. */
 const PLACE = `
   const seen = document.querySelector("#list-panel [data-row]").dataset.row;
   const body = document.querySelector("#list-panel .body");

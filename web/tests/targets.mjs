@@ -1,4 +1,5 @@
-// Where the rows of lists lead to: to their bytes in the file and in the memory. What is wanted was read off the files by hand.
+// Where the rows of lists lead to: to their bytes in the file and in the memory. What is wanted was read off the files
+// by hand.
 
 import { PROGRAM } from "./program.mjs";
 import { SUM } from "./texts.mjs";

@@ -1,5 +1,5 @@
-// Warnings of load files, held to vectors/warnings.tsv: in the verdict, in their list, in the map, among the bytes, and in the
-// table of many files.
+// Warnings of load files, held to vectors/warnings.tsv: in the verdict, in their list, in the map, among the bytes, and
+// in the table of many files.
 
 import { readFileSync } from "node:fs";
 import { root } from "./texts.mjs";
@@ -59,7 +59,8 @@ async function compareFile(page, hold, name, digits, warnings) {
   hold(`${name}, its tone`, "warn", tone);
 }
 
-/** CODE of 8 bytes, relocated at 2 and at the odd 3, which overlap; hunk 1 is a BSS of 4, to whose byte 8 the first leads. */
+/** CODE of 8 bytes, relocated at 2 and at the odd 3, which overlap; hunk 1 is a BSS of 4, to whose byte 8 the first
+ * leads. */
 const BOTH = `000003f3 00000000 00000002 00000000 00000001 00000002 00000001 000003e9 00000002 41f90000 00084e75
   000003ec 00000001 00000001 00000002 00000001 00000000 00000003 00000000 000003f2 000003eb 00000001 000003f2`.replace(/\s/g, "");
 

@@ -33,7 +33,8 @@ const NARROW = `
     return isCut || (names?.checkVisibility() && names.getBoundingClientRect().left + 50 > room);
   }).length`;
 
-/** Files of which each column of the table of many has something: the third has a finding, and a name that none defines. */
+/** Files of which each column of the table of many has something: the third has a finding, and a name that none
+ * defines. */
 const FILES = [
   ["a program with a name of some length", PROGRAM],
   ["the same program", PROGRAM],
@@ -44,7 +45,8 @@ const FILES = [
   ["text", "54657874"],
 ];
 
-/** How much wider the table of many files is than its box, and the columns that are seen, and whether the others are told. */
+/** How much wider the table of many files is than its box, and the columns that are seen, and whether the others are
+ * told. */
 const MANY = `
   const grid = document.getElementById("many-list");
   const heads = [...grid.querySelectorAll("[role=columnheader]")];
