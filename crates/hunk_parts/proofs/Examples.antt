@@ -1,5 +1,5 @@
 -- Worked examples, computed.
-use Rattle.std.specs.Prelude.{◌≡◌, ℕ, List, [], ◌∷◌, map, Some, refl}
+use Rattle.std.specs.Prelude.{◌≡◌, ℕ, [], ◌∷◌, map, Some, refl}
 use Rattle.hunk_words.specs.Longs.{bytes_of}
 use Rattle.hunk_grammar.specs.ExtKinds.{ext_kind}
 use Rattle.hunk_blocks.specs.Values.{BlockBody, BlockValue, Code, Bss, Reloc, Ext, Symbol, End}
@@ -14,8 +14,14 @@ block word body = record { word = word; body = body }
 
 row : ℕ → ℕ → ℕ → ℕ → ℕ → ℕ → ℕ → PartRow
 row what word value content content_bytes offsets offset_count = record {
-  what = what; word = word; value = value; reserved = 0;
-  content = content; content_bytes = content_bytes; offsets = offsets; offset_count = offset_count;
+  what = what;
+  word = word;
+  value = value;
+  reserved = 0;
+  content = content;
+  content_bytes = content_bytes;
+  offsets = offsets;
+  offset_count = offset_count;
 }
 
 -- ---- A hunk of two longwords, whose memory attributes name: CODE with bits in both of its words, two groups with one target, and a

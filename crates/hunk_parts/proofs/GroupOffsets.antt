@@ -1,9 +1,9 @@
 -- The offsets of a group, one by one.
-use Rattle.std.proofs.Common.{add-one, ◌≡◌, ◌<◌, ◌+◌, ◌*◌, ◌^◌, ◌&&◌, ◌∷◌, ℕ, Bool, true, false, not, nat_lt, List, [], length, drop, get_or, arith, ap, ◌∙◌, refl, suc, Option, Some, None, cond, sym, subst, if◌then◌else◌, ◌==◌}
+use Rattle.std.proofs.Common.{add-one, ◌≡◌, ◌<◌, ◌+◌, ◌*◌, ◌^◌, ◌&&◌, ℕ, Bool, true, false, not, nat_lt, List, length, drop, get_or, ap, ◌∙◌, refl, suc, Option, None, cond, sym, subst, if◌then◌else◌, ◌==◌}
 use Rattle.std.proofs.Math.Seq.{drop-cons}
 use Rattle.std.proofs.lemmas.Bool.{false≢true, ltb-true}
 use Rattle.std.proofs.lemmas.Option.{none-some}
-use Rattle.hunk_parts.specs.PartFaults.{has_no_content, has_no_value, open_items, refuse_group, PartPlace, PartSize, Refusal, has_offsets, is_in_place, or_else, because, refuse_hunk, refuse_offsets, refuse_part, refuse_what, strange, where_true}
+use Rattle.hunk_parts.specs.PartFaults.{has_no_content, has_no_value, open_items, refuse_group, PartPlace, PartSize, Refusal, is_in_place, or_else, because, refuse_hunk, refuse_offsets, refuse_part, refuse_what, strange, where_true}
 use Rattle.hunk_parts.specs.Parts.{group_part, hunk_part}
 use Rattle.hunk_words.specs.declared.reason.Reason.TheVariants as reasons
 

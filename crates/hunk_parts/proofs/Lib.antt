@@ -1,3 +1,5 @@
+pub mod Built
+pub mod CopiedText
 mod Examples
 pub mod ExtTypes
 pub mod FewParts
@@ -5,9 +7,11 @@ pub mod GroupOffsets
 pub mod InTurn
 mod ItemsLeft
 pub mod LongBytes
+pub mod OtherParts
 pub mod Payloads
 pub mod PointedBytes
 pub mod RowSizes
+pub mod RowTexts
 pub mod SeenParts
-pub mod spelled
 mod Standing
+pub mod spelled

@@ -1,10 +1,10 @@
 -- The bytes of longwords, one after the other.
 use Rattle.std.proofs.Math.Seq.{take-append-add, take-append_seam}
 use Rattle.std.proofs.lemmas.List.{nil_from_length}
-use Rattle.std.proofs.Common.{append-nil, zero, suc, ◌≡◌, ◌≤◌, ◌<◌, ◌+◌, ◌-◌, ◌*◌, ◌/◌, ◌%◌, ◌∷◌, ◌++◌, ℕ, List, [], length, length-append, take, drop, get_or, arith, ap, ap₂, ◌∙◌, refl, sym, subst}
+use Rattle.std.proofs.Common.{append-nil, append_assoc, zero, suc, ◌≡◌, ◌+◌, ◌-◌, ◌%◌, ◌∷◌, ◌++◌, ℕ, List, [], length, length-append, take, drop, arith, ap, ◌∙◌, refl, sym, subst}
 use Rattle.std.specs.Int.{to_be_bytes, w32, w64}
 use Rattle.hunk_words.specs.Longs.{IsBytes, bytes_of, longs}
-use Rattle.hunk_words.proofs.LongLaws.{Spelled, bytes_of-append, bytes_of-nil, bytes_of-one, length-bytes_of, length-longs, spelled}
+use Rattle.hunk_words.proofs.LongLaws.{bytes_of-append, bytes_of-nil, bytes_of-one, length-bytes_of, length-longs, spelled}
 
 pub long_bytes : (n : ℕ) → to_be_bytes w32 n ≡ bytes_of (n ∷ [])
 long_bytes n = sym (bytes_of-one n)
@@ -41,6 +41,10 @@ whole xs fit four =
 
 -- ---- what takes the bytes of longwords
 
+-- some longwords were taken, and with those that are left they are all
+abbrev pub PutUpTo : {S : Type 0} → (S → List ℕ → S → Type 0) → S → S → List ℕ → List ℕ → Type 0
+PutUpTo Takes a b left all = (done : List ℕ) × (Takes a (bytes_of done) b × (done ++ left ≡ all))
+
 module _ {S : Type 0} (Takes : S → List ℕ → S → Type 0) (more : (a b c : S) (xs ys : List ℕ) → Takes a xs b → Takes b ys c → Takes a (xs ++ ys) c) where
   -- those of the one list after those of the other
   pub longs_more : (a b c : S) (xs ys : List ℕ) → Takes a (bytes_of xs) b → Takes b (bytes_of ys) c → Takes a (bytes_of (xs ++ ys)) c
@@ -49,3 +53,13 @@ module _ {S : Type 0} (Takes : S → List ℕ → S → Type 0) (more : (a b c :
   module _ (none : (a : S) → Takes a [] a) where
     pub longs_none : (a : S) (xs : List ℕ) → xs ≡ [] → Takes a (bytes_of xs) a
     longs_none a xs empty = subst (λ (zs : List ℕ). Takes a zs a) (sym (ap bytes_of empty ∙ bytes_of-nil)) (none a)
+
+    pub all_left : (a : S) (all : List ℕ) → PutUpTo Takes a a all all
+    all_left a all = ([], (longs_none a [] refl, refl))
+
+  pub put_on : (a b c : S) (here rest left all : List ℕ) → left ≡ here ++ rest → PutUpTo Takes a b left all → Takes b (bytes_of here) c → PutUpTo Takes a c rest all
+  put_on a b c here rest left all e put next =
+      (put.0 ++ here, (longs_more a b c put.0 here put.1.0 next, append_assoc put.0 here rest ∙ ap (λ (xs : List ℕ). put.0 ++ xs) (sym e) ∙ put.1.1))
+
+  pub put_all : (a b c : S) (last all : List ℕ) → PutUpTo Takes a b last all → Takes b (bytes_of last) c → Takes a (bytes_of all) c
+  put_all a b c last all put next = subst (λ (xs : List ℕ). Takes a (bytes_of xs) c) put.1.1 (longs_more a b c put.0 last put.1.0 next)

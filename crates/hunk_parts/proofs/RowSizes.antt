@@ -1,5 +1,5 @@
 -- How large the text of rows is, row by row.
-use Rattle.std.proofs.Common.{add-one, ◌≡◌, ◌<◌, ◌≤◌, ◌+◌, ◌*◌, ◌^◌, ◌&&◌, ◌||◌, ◌==◌, ◌∷◌, ◌++◌, ℕ, Bool, true, false, nat_lt, List, [], length, length-append, map, drop, get_or, take, arith, ap, ◌∙◌, ap₂, refl, suc, Option, Some, None, sym, subst, if◌then◌else◌}
+use Rattle.std.proofs.Common.{add-one, ◌≡◌, ◌<◌, ◌≤◌, ◌+◌, ◌*◌, ◌&&◌, ◌||◌, ◌==◌, ◌∷◌, ◌++◌, ℕ, Bool, true, false, nat_lt, List, [], length, length-append, map, drop, get_or, take, arith, ap, ◌∙◌, ap₂, refl, Option, Some, None, sym, if◌then◌else◌}
 use Rattle.std.specs.Prelude.{is_some}
 use Rattle.std.specs.List.{filter, flat_map}
 use Rattle.std.proofs.Math.Seq.{drop-cons}
@@ -12,7 +12,6 @@ use Rattle.hunk_files.specs.LoadText.{entry_labelled, header_labelled}
 use Rattle.hunk_words.specs.Longs.{longs}
 use Rattle.hunk_words.specs.Carriers.{saturated}
 use Rattle.hunk_words.specs.declared.block_word.Kind.{Kind}
-use Rattle.hunk_words.specs.declared.block_word.Kind.TheVariants as kinds
 use Rattle.hunk_grammar.specs.ExtKinds.{ext_shape}
 use Rattle.hunk_grammar.specs.declared.ext_shape.ExtShape.{ExtShape}
 use Rattle.hunk_grammar.specs.declared.ext_shape.ExtShape.TheVariants.{Definition, References, Common}

@@ -3,9 +3,13 @@ pub mod BlockTests
 pub mod BlocksInFront
 pub mod BlocksPass
 pub mod BuiltFiles
+pub mod Completing
 pub mod EntryWords
+pub mod FaultRows
 pub mod FileTexts
 pub mod FilesPass
+pub mod FirstRow
+pub mod FrontOfFile
 pub mod HunkTests
 pub mod ItemTests
 pub mod ItemTexts

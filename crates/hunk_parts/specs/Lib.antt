@@ -1,4 +1,6 @@
 pub mod Builds
+pub mod Copying
+pub mod FirstRow
 pub mod Listing
 pub mod PartFaults
 pub mod PartRows

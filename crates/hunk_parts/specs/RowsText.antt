@@ -1,5 +1,5 @@
 -- The longwords that parts spell.
-use Rattle.std.specs.Prelude.{ℕ, ◌+◌, ◌*◌, ◌==◌, ◌||◌, ◌&&◌, nat_lt, Bool, false, if◌then◌else◌, List, [], ◌∷◌, ◌++◌, length, map, take, drop, Option, Some, None, is_some}
+use Rattle.std.specs.Prelude.{ℕ, ◌+◌, ◌*◌, ◌==◌, ◌||◌, ◌&&◌, nat_lt, Bool, if◌then◌else◌, List, [], ◌∷◌, ◌++◌, length, map, take, drop, Option, Some, None, is_some}
 use Rattle.std.specs.List.{filter}
 use Rattle.hunk_words.specs.Bits.{kind}
 use Rattle.hunk_words.specs.Carriers.{saturated}
@@ -15,7 +15,7 @@ use Rattle.hunk_files.specs.LoadFile.{TableEntry}
 use Rattle.hunk_files.specs.LoadText.{header_labelled}
 use Rattle.hunk_files.specs.ObjectFile.{unit_header}
 use Rattle.hunk_parts.specs.Parts.{FilePart, block_part, entry_part, group_part, hunk_part, part, symbol_part, unit_part}
-use Rattle.hunk_parts.specs.PartFaults.{first_place, items_of, list_after}
+use Rattle.hunk_parts.specs.PartFaults.{first_place, is_hunk_row, items_of, list_after}
 use Rattle.hunk_parts.specs.declared.part_row.PartRow.{PartRow}
 use Rattle.hunk_parts.specs.declared.row_fault.BuiltSize.{BuiltSize}
 use Rattle.hunk_parts.specs.declared.seen_part.SeenPart.{SeenPart}
@@ -62,8 +62,11 @@ text_from list (q ∷ qs) = closing list q.what ++ part_text q ++ text_from (lis
 abbrev pub is_hunk : FilePart → Bool
 is_hunk q = q.what == hunk_part
 
+abbrev pub table_entry : ℕ → ℕ → TableEntry
+table_entry word extra = record { word = word; extra = extra }
+
 abbrev pub hunk_entry : FilePart → TableEntry
-hunk_entry q = record { word = q.word; extra = q.value }
+hunk_entry q = table_entry q.word q.value
 
 abbrev pub header_of : List FilePart → List ℕ
 header_of [] = []
@@ -83,6 +86,13 @@ abbrev pub row_part : List ℕ → PartRow → FilePart
 row_part bytes r =
     part r.what r.word r.value (longs (take r.content_bytes (drop r.content bytes) ++ 0 ∷ 0 ∷ 0 ∷ []))
     (longs (take (4 * r.offset_count) (drop r.offsets bytes)))
+
+-- what the table has for rows
+abbrev pub row_entry : PartRow → TableEntry
+row_entry r = table_entry r.word r.value
+
+abbrev pub rows_table : List PartRow → List TableEntry
+rows_table rows = map row_entry (filter is_hunk_row rows)
 
 -- what rows spell that are not refused
 abbrev pub rows_text : List ℕ → List PartRow → List ℕ

@@ -3,18 +3,22 @@ ghost use Rattle.std.specs.Prelude.{◌≡◌, ◌≢◌, ◌≤◌, ◌<◌, �
 ghost use Rattle.std.specs.Prelude.{Err, None, Ok, Some};
 ghost use Rattle.std.specs.Prelude.{drop, length, map, take};
 ghost use Rattle.std.specs.List.{sum_by};
+ghost use Rattle.hunk_words.specs.Limits.{most_hunks};
+ghost use Rattle.hunk_words.specs.Longs.{IsBytes};
 ghost use Rattle.hunk_files.specs.HunkFile.{IsFileOf, file_bytes};
 ghost use Rattle.hunk_files.specs.declared.hunk_file.HunkFile.{HunkFile};
 ghost use Rattle.hunk_parts.specs.Builds.{Builds, size_of};
-ghost use Rattle.hunk_parts.specs.PartFaults.{row_fault};
+ghost use Rattle.hunk_parts.specs.FirstRow.{BeginsSome};
+ghost use Rattle.hunk_parts.specs.PartFaults.{first_place, row_fault};
 ghost use Rattle.hunk_parts.specs.PartRows.{part_rows};
 ghost use Rattle.hunk_parts.specs.Parts.{AreParts, parts_of, seen};
 ghost use Rattle.hunk_parts.specs.ReadBack.{HasRows};
-ghost use Rattle.hunk_parts.specs.RowFields.{pointed_bytes};
+ghost use Rattle.hunk_parts.specs.RowFields.{AreRows, pointed_bytes};
 ghost use Rattle.hunk_parts.specs.declared.part_row.PartRow.{PartRow};
 ghost use Rattle.hunk_parts.specs.declared.row_fault.BuiltSize.{BuiltSize};
 ghost use Rattle.hunk_parts.specs.declared.row_fault.NotBuilt.{NotBuilt};
 ghost use Rattle.hunk_parts.specs.declared.row_fault.NotBuilt.TheVariants.{NoRoom};
+ghost use Rattle.hunk_parts.specs.declared.row_fault.RowFault.{RowFault};
 
 use crate::part_row::PartRow;
 use crate::row_fields::are_rows;
@@ -74,4 +78,17 @@ pub fn room_for_built()
         (built : Result BuiltSize NotBuilt) → Builds bytes rows old new built
         → 20 + 16 * length rows + sum_by pointed_bytes rows ≤ length old
         → (size : BuiltSize) → built ≢ Err (NoRoom size) }
+{}
+
+/// A fault is at the first row of which no file is made: some file of as many hunks begins with the
+/// parts before it, and none with that row, too.
+pub fn first_row()
+    ensures begins { (bytes : List ℕ) (rows : List PartRow) (fault : RowFault)
+        → IsBytes bytes → AreRows rows → (first_place rows).hunks ≤ most_hunks
+        → row_fault bytes rows ≡ Some fault
+        → BeginsSome (first_place rows).hunks bytes rows fault.row }
+    ensures stops { (bytes : List ℕ) (rows : List PartRow) (fault : RowFault)
+        → (first_place rows).hunks ≤ most_hunks
+        → row_fault bytes rows ≡ Some fault → fault.row < length rows
+        → BeginsSome (first_place rows).hunks bytes rows (fault.row + 1) → ⊥ }
 {}

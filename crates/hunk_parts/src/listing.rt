@@ -1,5 +1,4 @@
 //! The parts of a file, one after the other.
-ghost use Rattle.std.specs.Prelude.{◌≡◌};
 ghost use Rattle.std.specs.List.{AllByRecursion};
 ghost use Rattle.hunk_blocks.specs.Parts.{ext_text, group_text, symbol_text};
 ghost use Rattle.hunk_blocks.specs.Values.{IsExtEntry};

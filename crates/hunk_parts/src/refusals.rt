@@ -1,17 +1,13 @@
 //! Why a part is refused where it stands.
 ghost use Rattle.std.specs.Prelude.{◌≡◌};
-ghost use Rattle.std.specs.Option.{option_map};
-ghost use Rattle.hunk_grammar.specs.ObjectRoles as roles;
 ghost use Rattle.hunk_grammar.specs.ObjectRoles.{has_content};
-ghost use Rattle.hunk_parts.specs.PartFaults.{because, by_reason, is_before_units, is_in_place, is_open, open_items};
+ghost use Rattle.hunk_parts.specs.PartFaults.{because, is_before_units, is_in_place, is_open, open_items};
 ghost use Rattle.hunk_parts.specs.PartFaults.{refuse_block_part, refuse_block_word, refuse_content, refuse_entry_part, refuse_group};
 ghost use Rattle.hunk_parts.specs.PartFaults.{refuse_group_part, refuse_hunk, refuse_name, refuse_part, refuse_size};
-ghost use Rattle.hunk_parts.specs.PartFaults.{refuse_symbol_part, refuse_unit_part, strange};
+ghost use Rattle.hunk_parts.specs.PartFaults.{refuse_symbol_part, refuse_unit_part};
 
 use crate::fields::{items_of, shape_of_type};
-use crate::part_row::{
-    BLOCK_PART, ENTRY_PART, GROUP_PART, HUNK_PART, SYMBOL_PART, UNIT_PART,
-};
+use crate::part_row::{BLOCK_PART, ENTRY_PART, GROUP_PART, HUNK_PART, SYMBOL_PART, UNIT_PART};
 use crate::part_size::PartSize;
 use crate::place::PartPlace;
 use crate::row_fault::{Refusal, RowRefusal};

@@ -1,5 +1,5 @@
 //! A row with the bytes that it points at.
-ghost use Rattle.std.specs.Prelude.{◌≡◌, ◌*◌, ◌<◌, ◌≤◌, ◌^◌, ◌%◌, IfNone, IfSome, None, Some, length};
+ghost use Rattle.std.specs.Prelude.{◌≡◌, ◌<◌, ◌≤◌, ◌^◌, ◌%◌, IfNone, IfSome, None, Some, length};
 ghost use Rattle.std.specs.Option.{option_copied};
 ghost use Rattle.hunk_parts.specs.PartFaults.{size_of_part};
 ghost use Rattle.hunk_parts.specs.Parts.{run_at, seen};

@@ -3,7 +3,6 @@ ghost use Rattle.std.specs.Prelude.{◌&&◌, ◌||◌, ◌==◌, is_some, ◌�
 ghost use Rattle.hunk_words.specs.Bits.{entry_longs};
 ghost use Rattle.hunk_words.specs.Carriers.{saturated};
 ghost use Rattle.hunk_grammar.specs.ExtKinds.{ext_shape};
-ghost use Rattle.hunk_parts.specs.PartFaults as faults;
 ghost use Rattle.hunk_parts.specs.PartFaults.{begins_at, block_longs, closing_bytes, ends_at, list_after, part_longs};
 ghost use Rattle.hunk_parts.specs.PartFaults.{place_after, shape_longs, step_part};
 ghost use Rattle.hunk_parts.specs.Parts.{block_part, unit_part};
@@ -124,7 +123,11 @@ impl PartPlace {
             longs: if is_hunk { size.longs() } else { self.longs },
             place: place_after(self.place, part),
             list: list_after(self.list, part.what, part.word),
-            entry: if is_hunk { self.entry_after(part.word) } else { self.entry },
+            entry: if is_hunk {
+                self.entry_after(part.word)
+            } else {
+                self.entry
+            },
             at: self.at_after(part),
         }
     }
@@ -133,7 +136,8 @@ impl PartPlace {
     fn entry_after(self, word: u32) -> u64
         ensures { result ≡ saturated (self.entry + 4 * entry_longs word) }
     {
-        self.entry.saturating_add(4 * SizeWord::entry_longs(word) as u64)
+        self.entry
+            .saturating_add(4 * SizeWord::entry_longs(word) as u64)
     }
 
     /// The byte after the text of a part.

@@ -1,5 +1,5 @@
 //! The text of a part.
-ghost use Rattle.std.specs.Prelude.{◌≡◌, ◌+◌, ◌∷◌, ◌++◌, ◌%◌, [], if◌then◌else◌, length};
+ghost use Rattle.std.specs.Prelude.{◌≡◌, ◌+◌, ◌∷◌, ◌++◌, ◌%◌, [], Some, if◌then◌else◌, length};
 ghost use Rattle.hunk_words.specs.Bits.{kind};
 ghost use Rattle.hunk_words.specs.Longs.{bytes_of};
 ghost use Rattle.hunk_grammar.specs.ExtKinds.{ext_shape};
@@ -9,9 +9,7 @@ ghost use Rattle.hunk_parts.specs.RowsText.{closing, named_text, part_seen, part
 
 use crate::fields::{items_of, shape_of_type};
 use crate::longs::{put_count, put_padded, put_whole, put_word};
-use crate::part_row::{
-    BLOCK_PART, ENTRY_PART, GROUP_PART, SYMBOL_PART, UNIT_PART,
-};
+use crate::part_row::{BLOCK_PART, ENTRY_PART, GROUP_PART, SYMBOL_PART, UNIT_PART};
 use crate::seen_part::SeenPart;
 use crate::steps::closes;
 use hunk_files::TakesBytes;
@@ -112,18 +110,28 @@ fn put_name<T: TakesBytes>(taker: &mut T, part: &SeenPart<'_>)
 }
 
 /// Hands over what follows the name of an entry of this shape.
-fn put_shape<T: TakesBytes>(taker: &mut T, shape: Option<ExtShape>, part: &SeenPart<'_>)
+fn put_shape<T: TakesBytes>(taker: &mut T, shape: ExtShape, part: &SeenPart<'_>)
     requires { length part.now.offsets.now % 4 ≡ 0 }
-    ensures { T.takes taker.old (bytes_of (shape_text shape (part_seen part.now))) taker.new }
+    ensures { T.takes taker.old (bytes_of (shape_text (Some shape) (part_seen part.now))) taker.new }
 {
     match shape {
-        Some(ExtShape::Definition) => put_word(taker, part.value),
-        Some(ExtShape::References) => put_offsets(taker, part),
-        Some(ExtShape::Common) => {
+        ExtShape::Definition => put_word(taker, part.value),
+        ExtShape::References => put_offsets(taker, part),
+        ExtShape::Common => {
             put_word(taker, part.value);
             put_offsets(taker, part);
         }
-        None => {}
+    }
+}
+
+/// Hands over what follows the name of an entry.
+fn put_after_name<T: TakesBytes>(taker: &mut T, part: &SeenPart<'_>)
+    requires { length part.now.offsets.now % 4 ≡ 0 }
+    ensures { T.takes taker.old (bytes_of (shape_text (ext_shape part.now.word)
+        (part_seen part.now))) taker.new }
+{
+    if let Some(shape) = shape_of_type(part.word) {
+        put_shape(taker, shape, part);
     }
 }
 
@@ -143,7 +151,7 @@ fn put_entry<T: TakesBytes>(taker: &mut T, part: &SeenPart<'_>)
         ++ shape_text (ext_shape part.now.word) (part_seen part.now))) taker.new }
 {
     put_name(taker, part);
-    put_shape(taker, shape_of_type(part.word), part);
+    put_after_name(taker, part);
 }
 
 /// Hands over the text of a part, but of HUNK in the body.

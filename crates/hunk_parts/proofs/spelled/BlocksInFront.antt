@@ -75,7 +75,7 @@ fits_block : (hunks longs word : ℕ) (body : BlockBody) → IsLong word → ref
 fits_block zero longs word body fit alone is fits = (block_is modes.Object word body fit alone is).0
 fits_block (suc n) longs word body fit alone is fits = let b = block_is modes.Load word body fit alone is in record { block = b.0; mode = b.1; fits = fits }
 
--- Parts that begin with a block: what is left of the open list is empty, and then come blocks up to END.
+-- Parts that begin with a block: blocks up to END, and what follows their hunk.
 pub record FromBlock (hunks longs : ℕ) (place : WordPlace) (qs rest : List FilePart) : Type 0 where
   pub blocks : List BlockValue
   pub are_blocks : AllByRecursion (FitsBlock hunks longs) blocks

@@ -131,7 +131,7 @@ module _ (hunks longs : ℕ) (rest : List FilePart) (after : Pass hunks longs Be
 
 -- ---- hunks of a load file
 
-hunk_row_passes : (n longs : ℕ) (place : WordPlace) (e : TableEntry) → is_open place ≡ false → IsTableEntry e → refuse_row (spot (suc n) longs place None) (Some (of_hunk e)) ≡ None
+pub hunk_row_passes : (n longs : ℕ) (place : WordPlace) (e : TableEntry) → is_open place ≡ false → IsTableEntry e → refuse_row (spot (suc n) longs place None) (Some (of_hunk e)) ≡ None
 hunk_row_passes n longs place e closed is = by_bits (has_both_bits e.word) refl
   where
     by_bits : (b : Bool) → has_both_bits e.word ≡ b → refuse_row (spot (suc n) longs place None) (Some (of_hunk e)) ≡ None

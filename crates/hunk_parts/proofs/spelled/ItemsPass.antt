@@ -58,14 +58,14 @@ offsets_pass : (longs ahead : ℕ) (offsets : List ℕ) → AllByRecursion (IsIn
 offsets_pass longs ahead [] h = refl
 offsets_pass longs ahead (o ∷ os) h = rw (le-ltb (4 * longs) (o + 4) h.0) (offsets_pass longs (ahead + 4) os h.1)
 
-no_longs : (longs : ℕ) (offsets : List ℕ) → offsets ≢ [] → AllByRecursion (IsInside longs) offsets → longs ≡ 0 → ⊥
-no_longs longs [] some h e = some refl
-no_longs longs (o ∷ os) some h e = omega (arith, h.0)
+nothing_inside : (longs : ℕ) (offsets : List ℕ) → offsets ≢ [] → AllByRecursion (IsInside longs) offsets → longs ≡ 0 → ⊥
+nothing_inside longs [] some h e = some refl
+nothing_inside longs (o ∷ os) some h e = omega (arith, h.0)
 
 target_passes : (hunks longs : ℕ) (place : WordPlace) (list : Option Kind) (g : RelocGroup) → IsGroup g → FitsOneGroup hunks longs g → refuse_group (spot hunks longs place list) (size_of_part (of_group g)) ≡ None
 target_passes zero longs place list g is fits = refl
 target_passes (suc n) longs place list g is fits =
-    rw (no_zero n, ne_eqb longs 0 (no_longs longs g.offsets is.some fits.1), lt-ltb g.target (suc n) fits.0) refl
+    rw (no_zero n, ne_eqb longs 0 (nothing_inside longs g.offsets is.some fits.1), lt-ltb g.target (suc n) fits.0) refl
 
 far_passes : (hunks longs : ℕ) (place : WordPlace) (list : Option Kind) (g : RelocGroup) → FitsOneGroup hunks longs g → refuse_far (spot hunks longs place list) (of_group g) ≡ None
 far_passes zero longs place list g fits = refl

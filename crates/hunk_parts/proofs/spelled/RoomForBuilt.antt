@@ -1,23 +1,22 @@
 -- How much room rows need at most for what they spell.
-use Rattle.std.proofs.Common.{◌≡◌, ◌≢◌, ℕ, ◌+◌, ◌*◌, ◌/◌, ◌≤◌, List, [], ◌∷◌, ◌++◌, length, length-append, map, take, drop, refl, sym, ap, ◌∙◌, arith, Option, Some, None}
+use Rattle.std.proofs.Common.{◌≡◌, ◌≢◌, ℕ, ◌+◌, ◌*◌, ◌≤◌, List, [], ◌∷◌, ◌++◌, length, length-append, map, take, drop, sym, ap, ◌∙◌, arith, Option, Some, None}
 use Rattle.std.specs.Prelude.{Result, Err}
-use Rattle.std.specs.List.{AllByRecursion, flat_map, sum_by}
-use Rattle.std.proofs.lemmas.List.{length-take, length-drop, length-map}
+use Rattle.std.specs.List.{flat_map, sum_by}
+use Rattle.std.proofs.lemmas.List.{length-take}
 use Rattle.std.proofs.lemmas.List.Sums.{sum_by-cons}
-use Rattle.hunk_words.specs.Longs.{bytes_of, longs}
 use Rattle.hunk_words.proofs.LongLaws.{length-bytes_of, length-longs}
 use Rattle.hunk_grammar.specs.declared.ext_shape.ExtShape.{ExtShape}
 use Rattle.hunk_grammar.specs.declared.ext_shape.ExtShape.TheVariants.{Definition, References, Common}
 use Rattle.hunk_grammar.specs.ExtKinds.{ext_shape}
 use Rattle.hunk_blocks.specs.Entries.{shaped_text}
 use Rattle.hunk_blocks.specs.Parts.{block_text, ext_text, group_text, symbol_text, text_of}
-use Rattle.hunk_blocks.specs.Values.{BlockBody, BlockValue, ExtEntry, RelocGroup, SymbolEntry, Name, Code, Data, Bss, Reloc, Ext, Symbol, Debug, Advisory, End, ext_type}
+use Rattle.hunk_blocks.specs.Values.{BlockBody, BlockValue, ExtEntry, RelocGroup, SymbolEntry, Reloc, Ext, Symbol, ext_type}
 use Rattle.hunk_blocks.proofs.PartTexts.{body_text_is, ext_text_is, group_text_is, symbol_text_is}
 use Rattle.hunk_files.specs.HunkFile.{file_bytes}
 use Rattle.hunk_files.specs.Hunks.{block_texts}
-use Rattle.hunk_files.specs.LoadFile.{HunkValue, LoadFileValue, TableEntry}
+use Rattle.hunk_files.specs.LoadFile.{LoadFileValue, TableEntry}
 use Rattle.hunk_files.specs.LoadText.{table, text}
-use Rattle.hunk_files.specs.ObjectFile.{ObjectFileValue, UnitValue, object_text, unit_header, unit_text}
+use Rattle.hunk_files.specs.ObjectFile.{UnitValue, object_text, unit_header, unit_text}
 use Rattle.hunk_files.specs.Tables.{entry_text, header_text, hunk_texts}
 use Rattle.hunk_files.specs.declared.hunk_file.HunkFile.{HunkFile}
 use Rattle.hunk_files.specs.declared.hunk_file.HunkFile.TheVariants as files
@@ -26,7 +25,7 @@ use Rattle.hunk_parts.specs.Builds.{Builds, IsBuilt, IsRefused, LacksRoom}
 use Rattle.hunk_parts.specs.declared.row_fault.BuiltSize.{BuiltSize}
 use Rattle.hunk_parts.specs.declared.row_fault.NotBuilt.{NotBuilt}
 use Rattle.hunk_parts.specs.declared.row_fault.NotBuilt.TheVariants.{NoRoom}
-use Rattle.hunk_parts.specs.Parts.{AreParts, FilePart, block_file_parts, hunk_file_parts, item_parts, of_entry, of_group, of_symbol, parts_of, unit_file_parts}
+use Rattle.hunk_parts.specs.Parts.{AreParts, FilePart, block_file_parts, hunk_file_parts, of_entry, of_group, of_symbol, parts_of, unit_file_parts}
 use Rattle.hunk_parts.specs.RowFields.{pointed_bytes}
 use Rattle.hunk_parts.specs.RowsText.{row_part}
 use Rattle.hunk_parts.specs.declared.part_row.PartRow.{PartRow}

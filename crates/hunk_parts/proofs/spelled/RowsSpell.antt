@@ -32,7 +32,7 @@ rows_spell bytes rows file are = ap (λ (qs : List FilePart). bytes_of (parts_te
 
 -- ---- where the rows begin
 
-count_hunks : (v : LoadFileValue) → length (filter is_hunk (flat_map hunk_file_parts v)) ≡ length v
+pub count_hunks : (v : LoadFileValue) → length (filter is_hunk (flat_map hunk_file_parts v)) ≡ length v
 count_hunks v =
     sym (length-map (filter is_hunk (flat_map hunk_file_parts v)) hunk_entry) ∙ ap (λ (es : List TableEntry). length es) (entries_are v) ∙ length-map v (λ h. h.entry)
 

@@ -23,7 +23,7 @@ parts_seen bytes (r ∷ rows) (q ∷ qs) e =
 
 -- ---- how many hunks
 
-kept : {A B : Type 0} (b : Bool) (x : A) (xs : List A) (y : B) (ys : List B) → length xs ≡ length ys → length (cond b (x ∷ xs) xs) ≡ length (cond b (y ∷ ys) ys)
+pub kept : {A B : Type 0} (b : Bool) (x : A) (xs : List A) (y : B) (ys : List B) → length xs ≡ length ys → length (cond b (x ∷ xs) xs) ≡ length (cond b (y ∷ ys) ys)
 kept true x xs y ys e = ap suc e
 kept false x xs y ys e = e
 

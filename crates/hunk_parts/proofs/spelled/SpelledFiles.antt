@@ -14,6 +14,7 @@ use Rattle.hunk_files.specs.LoadText.{text}
 use Rattle.hunk_files.specs.ObjectFile.{IsObjectFile, ObjectHunk, ObjectFileValue}
 use Rattle.hunk_files.specs.declared.hunk_file.HunkFile.{HunkFile}
 use Rattle.hunk_files.specs.declared.hunk_file.HunkFile.TheVariants as files
+use Rattle.hunk_parts.specs.Builds.{hunks_in}
 use Rattle.hunk_parts.specs.PartFaults.{first_place, is_hunk_row, row_fault, rows_fault, start, table_bytes}
 use Rattle.hunk_parts.specs.Parts.{AreParts, FilePart, block_file_parts, hunk_file_parts, parts_of, seen}
 use Rattle.hunk_parts.specs.RowsText.{is_hunk}
@@ -25,9 +26,10 @@ use Rattle.hunk_parts.proofs.spelled.Passing.{Pass, Passing, passing}
 use Rattle.hunk_parts.proofs.spelled.SeenLongs.{hunks_seen, longs_seen}
 use Rattle.hunk_parts.proofs.spelled.Tails.{HasLongs}
 
--- These are the parts of a file, which nothing follows.
-pub record OfFile (qs : List FilePart) : Type 0 where
+-- These are the parts of a file of so many hunks, which nothing follows.
+pub record OfFile (hunks : ℕ) (qs : List FilePart) : Type 0 where
   pub file : HunkFile
+  pub hunks_are : hunks_in file ≡ hunks
   pub whole : IsFileOf (file_bytes file) file
   pub parts : qs ≡ parts_of file
 
@@ -41,7 +43,7 @@ object_whole o is = (record { value = o; is_object_file = is; text_is = refl }, 
 
 -- ---- parts that pass
 
-load_of : (n : ℕ) (qs : List FilePart) → AllByRecursion HasLongs qs → length (filter is_hunk qs) ≡ suc n → suc n ≤ most_hunks → Pass (suc n) 0 BeforeUnits None qs → OfFile qs
+pub load_of : (n : ℕ) (qs : List FilePart) → AllByRecursion HasLongs qs → length (filter is_hunk qs) ≡ suc n → suc n ≤ most_hunks → Pass (suc n) 0 BeforeUnits None qs → OfFile (suc n) qs
 unfolding parts_of
 load_of n qs fit count most pass =
     let t = load_tail n 0 BeforeUnits None qs fit pass tt in
@@ -53,16 +55,18 @@ load_of n qs fit count most pass =
     } in
     record {
       file = files.Load t.more 0;
+      hunks_are = size;
       whole = load_whole t.more is;
       parts = blocks_first (suc n) 0 BeforeUnits qs (flat_map hunk_file_parts t.more) t.tail ∙ ap (λ (bs : List BlockValue). flat_map block_file_parts bs ++ flat_map hunk_file_parts t.more) t.tail.stand;
     }
 
-object_of : (qs : List FilePart) → AllByRecursion HasLongs qs → Pass 0 0 BeforeUnits None qs → OfFile qs
+pub object_of : (qs : List FilePart) → AllByRecursion HasLongs qs → Pass 0 0 BeforeUnits None qs → OfFile 0 qs
 unfolding parts_of
 object_of qs fit pass =
     let t = object_tail 0 BeforeUnits None qs fit pass tt in
     record {
       file = files.Object t.units;
+      hunks_are = refl;
       whole = object_whole t.units (record { some = t.follow.1; units = t.are_units });
       parts =
           blocks_first 0 0 BeforeUnits qs (unit_rest t.hunks t.units) t.tail
@@ -76,20 +80,21 @@ some_hunk : (r : PartRow) (rows : List PartRow) → is_hunk_row r ≡ true → 0
 some_hunk r rows e = rw e (omega arith)
 
 module _ (bytes : List ℕ) (fit : IsBytes bytes) where
-  file_of : (rows : List PartRow) (qs : List FilePart) → map (seen bytes) rows ≡ map Some qs → OfFile qs → (file : HunkFile) × AreParts bytes rows file
-  file_of rows qs e f = (f.file, record { whole = f.whole; parts = e ∙ ap (λ (ps : List FilePart). map Some ps) f.parts })
+  file_of : (rows : List PartRow) (qs : List FilePart) → map (seen bytes) rows ≡ map Some qs → (hunks : ℕ) × OfFile hunks qs → (file : HunkFile) × AreParts bytes rows file
+  file_of rows qs e f = (f.1.file, record { whole = f.1.whole; parts = e ∙ ap (λ (ps : List FilePart). map Some ps) f.1.parts })
 
   load_rows : (rows : List PartRow) (n : ℕ) → AreRows rows → length (filter is_hunk_row rows) ≡ n → 0 < n → n ≤ most_hunks → (qs : List FilePart) → map (seen bytes) rows ≡ map Some qs →
-      Pass n 0 BeforeUnits None qs → OfFile qs
+      Pass n 0 BeforeUnits None qs → OfFile n qs
   load_rows rows zero are count some most qs e pass = absurd (omega (arith, some))
   load_rows rows (suc n) are count some most qs e pass = load_of n qs (longs_seen bytes rows qs fit are e) (hunks_seen bytes rows qs e ∙ count) most pass
 
   of_rows : (r : PartRow) (rows : List PartRow) → AreRows (r ∷ rows) → (b : Bool) → is_hunk_row r ≡ b →
       nat_lt most_hunks (cond b (start (length (filter is_hunk_row (r ∷ rows))) (20 + table_bytes (r ∷ rows))) (start 0 0)).hunks ≡ false →
-      (p : Passing bytes (r ∷ rows) (cond b (start (length (filter is_hunk_row (r ∷ rows))) (20 + table_bytes (r ∷ rows))) (start 0 0))) → OfFile p.parts
+      (p : Passing bytes (r ∷ rows) (cond b (start (length (filter is_hunk_row (r ∷ rows))) (20 + table_bytes (r ∷ rows))) (start 0 0))) → (hunks : ℕ) × OfFile hunks p.parts
   of_rows r rows are true e most p =
-      load_rows (r ∷ rows) (length (filter is_hunk_row (r ∷ rows))) are refl (some_hunk r rows e) (ltb-false most_hunks (length (filter is_hunk_row (r ∷ rows))) most) p.parts p.seen_are p.pass
-  of_rows r rows are false e most p = object_of p.parts (longs_seen bytes (r ∷ rows) p.parts fit are p.seen_are) p.pass
+      let n = length (filter is_hunk_row (r ∷ rows)) in
+      (n, load_rows (r ∷ rows) n are refl (some_hunk r rows e) (ltb-false most_hunks n most) p.parts p.seen_are p.pass)
+  of_rows r rows are false e most p = (0, object_of p.parts (longs_seen bytes (r ∷ rows) p.parts fit are p.seen_are) p.pass)
 
   -- Rows without a fault are the parts of a file.
   pub some_file : (rows : List PartRow) → AreRows rows → row_fault bytes rows ≡ None → (file : HunkFile) × AreParts bytes rows file

@@ -1,5 +1,5 @@
 use Rattle.std.proofs.Common.{ℕ, [], ◌∷◌, ap, subst}
-use Rattle.hunk_words.specs.Longs.{bytes_of, longs}
+use Rattle.hunk_words.specs.Longs.{bytes_of}
 use Rattle.hunk_parts.specs.PartFaults.{PartSize}
 use Rattle.hunk_parts.specs.RowsText.{part_seen}
 use Rattle.hunk_parts.proofs.LongBytes.{longs_more}

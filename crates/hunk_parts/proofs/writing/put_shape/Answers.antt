@@ -1,9 +1,13 @@
-use Rattle.std.proofs.Common.{Option, List, ℕ, [], ◌∷◌, ap, sym, ◌∙◌, subst, None, Some}
+use Rattle.std.proofs.Common.{[], ◌∷◌, sym, subst, Some}
 use Rattle.hunk_words.specs.Longs.{bytes_of}
 use Rattle.hunk_grammar.specs.declared.ext_shape.ExtShape.{ExtShape}
 use Rattle.hunk_parts.specs.RowsText.{part_seen, shape_text}
-use Rattle.hunk_parts.proofs.LongBytes.{longs_more, longs_none}
+use Rattle.hunk_parts.proofs.LongBytes.{longs_more}
 use Rattle.hunk_parts.proofs.writing.put_shape.Goals as goal
 
-pub returns-in-None : goal.returns-in-None
-returns-in-None g c = longs_none g.T.TakesBytes.takes g.met.T.TakesBytes.more g.met.T.TakesBytes.none c.args.taker.now _ (ap (λ (s : Option ExtShape). shape_text s (part_seen c.args.part.now)) c.in-None.is)
+pub returns-in-Common : goal.returns-in-Common
+returns-in-Common g c =
+    let q = part_seen c.args.part.now in
+    subst (λ (s : ExtShape). g.T.TakesBytes.takes c.args.taker.now (bytes_of (shape_text (Some s) q)) c.put_offsets-in-Common.new.taker) (sym c.in-Common.is)
+    (longs_more g.T.TakesBytes.takes g.met.T.TakesBytes.more c.args.taker.now c.put_word-in-Common.new.taker c.put_offsets-in-Common.new.taker (q.value ∷ []) _ c.put_word-in-Common.ensures
+    c.put_offsets-in-Common.ensures)

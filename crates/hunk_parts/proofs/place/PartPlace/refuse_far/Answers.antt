@@ -1,4 +1,4 @@
-use Rattle.std.proofs.Common.{◌<◌, ◌^◌, arith}
+use Rattle.std.proofs.Common.{arith}
 use Rattle.hunk_words.proofs.LongLaws.{length-longs}
 use Rattle.hunk_parts.specs.PartFaults.{size_of_part}
 use Rattle.hunk_parts.specs.RowsText.{part_seen}

@@ -1,6 +1,5 @@
 use Rattle.std.proofs.Common.{ℕ, arith, ap₂, sym}
 use Rattle.hunk_words.proofs.LongLaws.{length-longs}
-
 use Rattle.hunk_parts.proofs.PointedBytes.{padded_count, part_size}
 use Rattle.hunk_parts.proofs.seen_part.SeenPart.size.Goals as goal
 
