@@ -1,9 +1,9 @@
 -- What is listed in the caller's rows.
-use Rattle.std.proofs.Common.{◌≡◌, ◌++◌, ◌≤◌, ◌<◌, ◌^◌, ℕ, List, [], ◌∷◌, length, drop, refl, sym, ap, ap₂, ◌∙◌, arith, take-append-drop}
+use Rattle.std.proofs.Common.{◌≡◌, ◌++◌, ◌≤◌, ◌<◌, ◌^◌, ℕ, List, [], ◌∷◌, length, drop, refl, sym, ap, ◌∙◌, arith}
 use Rattle.hunk_words.specs.Carriers.{saturated}
 use Rattle.hunk_files.specs.{HunkFile.{IsFileOf, file_bytes}}
 use Rattle.hunk_files.specs.{declared.hunk_file.HunkFile.HunkFile}
-use Rattle.hunk_c.specs.{Answers.no_room, Checks.{finding_rows}, Copying.Copies, Files.hunks_in}
+use Rattle.hunk_c.specs.{Answers.no_room, Checks.{finding_rows}, Files.hunks_in}
 use Rattle.hunk_c.specs.Rows.{Lists, ListsExactly, ListsWhatFits, Tabulates, HasRows, HasNoRoom, HasNoFile}
 use Rattle.hunk_c.specs.declared.{answer.Answer.Answer}
 use Rattle.hunk_c.proofs.OneFile.{are_file, file_size, one_file}
@@ -38,10 +38,3 @@ exactly rows bytes old new answer few (HasNoFile f absent same e) = HasNoFile f 
 -- They are few where there is one for each finding.
 pub few_findings : (bytes : List ℕ) (file : HunkFile) → length bytes < 2 ^ 63 → IsFileOf bytes file → length (finding_rows file) < 2 ^ 64
 few_findings bytes file small is = omega (arith, few.few_findings bytes file (length (file_bytes file)) is (omega arith), file_size bytes file is, small)
-
--- ---- what is copied
-
-pub copied : {A : Type 0} (old items new : List A) (n : ℕ) → Copies old 0 items new n → length items ≤ length old → new ≡ items ++ drop n old
-copied {A} old items new n copies room =
-    let follows = copies.1 (omega (arith, room)) in
-    sym (take-append-drop n new) ∙ ap₂ (λ (xs ys : List A). xs ++ ys) follows.front follows.rest

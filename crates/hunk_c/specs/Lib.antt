@@ -1,7 +1,7 @@
 pub mod Answers
 pub mod Blocks
+pub mod Building
 pub mod Checks
-pub mod Copying
 pub mod Counting
 pub mod Entries
 pub mod Files

@@ -17,7 +17,7 @@ pub data IsNameOf (number : ℕ) (name : List ℕ) : Type 0 where
 pub data IsMeaningOf (number : ℕ) (words : List ℕ) : Type 0 where
   MeansReason : (reason : Reason) → number_of reason ≡ number → words ≡ meaning_of reason → IsMeaningOf number words
   MeansNoRoom : number ≡ no_room_number → words ≡ codes "the array of the caller has too few elements" → IsMeaningOf number words
-  MeansStrange : number ≡ strange_number → words ≡ codes "the numbers are none of a loader, or do not fit" → IsMeaningOf number words
+  MeansStrange : number ≡ strange_number → words ≡ codes "the numbers are none of a loader or of parts, or do not fit" → IsMeaningOf number words
   MeansNothing : (number ≡ 0) ⊎ (strange_number < number) → words ≡ [] → IsMeaningOf number words
 
 -- The text begins with the words, and what lies after them is as it was; or it is too short, and as it was.

@@ -10,9 +10,9 @@ ghost use Rattle.hunk_c.specs.FrontPlaces.{closed_bytes, closing, find_hunk, fin
 ghost use Rattle.hunk_c.specs.FrontPlaces.{hunk_between, place_between};
 
 use crate::answer::{Answer, done, no_room};
-use crate::copier::Copier;
 use hunk_files::{LoadView, ObjectView, Sniff, TakesBytes, sniff};
 use hunk_grammar::{ObjectPosition, OpenHunk, Phase, Position, WordPlace};
+use hunk_parts::Copier;
 use hunk_words::word_at;
 
 /// The bytes of END.
@@ -239,7 +239,7 @@ fn hunk_end_size(open_hunk: Option<bool>) -> u64
 
 /// Writes the front and what closes it to the front of the text, and gives the number of their
 /// bytes. The text after them is as it was.
-#[tactic(auto, using(crate::proofs::Tabulated::copied))]
+#[tactic(auto, using(hunk_parts::proofs::CopiedText::copied))]
 fn write_closed(bytes: &[u8], front: Front, text: &mut [u8]) -> usize
     requires inside { 4 * front.longs ≤ length bytes.now }
     requires room { length (closed_bytes bytes.now front) ≤ length text.old }

@@ -8,8 +8,8 @@
 mod abi;
 mod answer;
 mod blocks;
+mod build;
 mod check;
-mod copier;
 mod entries;
 mod file;
 mod front;
@@ -38,6 +38,7 @@ mod warnings;
 pub use crate::abi::hunk_abi;
 pub use crate::answer::Answer;
 pub use crate::blocks::{BlockRow, hunk_blocks};
+pub use crate::build::hunk_build;
 pub use crate::check::{FindingRow, hunk_check};
 pub use crate::entries::{EntryRow, hunk_entries};
 pub use crate::front::hunk_front;

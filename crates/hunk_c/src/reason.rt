@@ -56,7 +56,7 @@ fn meaning_of_number(number: u32) -> &'static str
         return "the array of the caller has too few elements";
     }
     if number == STRANGE {
-        return "the numbers are none of a loader, or do not fit";
+        return "the numbers are none of a loader or of parts, or do not fit";
     }
     match Reason::from_number(number) {
         Some(reason) => reason.meaning(),

@@ -8,7 +8,7 @@ ghost use Rattle.hunk_files.specs.LoadFile.{IsLoadFile, LoadFileValue};
 ghost use Rattle.hunk_files.specs.StandingBlocks.{StandingBlock};
 ghost use Rattle.hunk_files.specs.declared.hunk_file.HunkFile.{HunkFile};
 ghost use Rattle.hunk_files.specs.declared.hunk_file.HunkFile.TheVariants as files;
-ghost use Rattle.hunk_c.specs.Copying.{Copies, copies_none, copies_more};
+ghost use Rattle.hunk_parts.specs.Copying.{Copies, copies_none, copies_more};
 ghost use Rattle.hunk_c.specs.Counting.{Counts, counts_none, counts_more};
 ghost use Rattle.hunk_c.specs.Rows.{ListsWhatFits, Tabulates, rows_in};
 
@@ -199,7 +199,7 @@ pub(crate) fn count_rows<R: FileRow>(file: &FileView<'_>) -> u64
 
 /// Writes the row of each thing over the first of these, and gives their number.
 #[inline(never)]
-#[tactic(auto, using(crate::proofs::Tabulated::copied))]
+#[tactic(auto, using(hunk_parts::proofs::CopiedText::copied))]
 fn put_rows<R: FileRow>(file: &FileView<'_>, rows: &mut [R]) -> u64
     requires { length (R.rows (file_of file.now)) ≤ length rows.old }
     ensures count { result ≡ length (R.rows (file_of file.now)) }

@@ -7,9 +7,9 @@ ghost use Rattle.hunk_c.specs.Rows.{ListsWhatFits};
 ghost use Rattle.hunk_c.specs.Strips.{Strips, stripped_bytes};
 
 use crate::answer::{Answer, done, no_room, refused};
-use crate::copier::Copier;
 use crate::file::hunks_in;
 use hunk_files::{FileView, TakesBytes};
+use hunk_parts::Copier;
 
 /// Copies the file to the text, without its NAME, SYMBOL, DEBUG and ADVISORY blocks.
 #[unsafe(no_mangle)]
@@ -63,7 +63,7 @@ fn count_stripped(file: &FileView<'_>) -> u64
 /// Writes the file without those blocks to the front of the text, and gives the number of its
 /// bytes. The text after them is as it was.
 #[inline(never)]
-#[tactic(auto, using(crate::proofs::Tabulated::copied))]
+#[tactic(auto, using(hunk_parts::proofs::CopiedText::copied))]
 fn copy_stripped(file: &FileView<'_>, text: &mut [u8]) -> usize
     requires { length (stripped_bytes (file_of file.now)) ≤ length text.old }
     ensures count { result ≡ length (stripped_bytes (file_of file.now)) }
