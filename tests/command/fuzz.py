@@ -16,6 +16,7 @@ import sys
 import tempfile
 import time
 
+import building
 import compared
 import disks
 import files
@@ -25,7 +26,8 @@ SEED, RUNS, SECONDS = 75, 240, 25
 # So that a run is short: what it gets, and how long it may take.
 MEMORY, LONGEST = 192 << 20, 60
 # Those that write a file have the status 3 where they can't.
-STATUSES = {"explain": {0, 2}, "strip": {0, 1, 2, 3}, "convert": {0, 1, 2, 3}, "find": {0, 1, 2, 3}}
+STATUSES = {"explain": {0, 2}, "strip": {0, 1, 2, 3}, "convert": {0, 1, 2, 3}, "find": {0, 1, 2, 3}, "edit": {0, 1, 2, 3},
+            "build": {0, 1, 2, 3}}
 NUMBERS = ("0", "1", "4", "60", "1000", "00021000", "fffffff8", "ffffffff", "100000000", "4294967296", "16777216", "-1", "+1", "1_0",
            "0x10", "x", "", " ", "\N{ARABIC-INDIC DIGIT THREE}", str((1 << 64) - 1), str(1 << 64), "9" * 30, "9" * 5000)
 FLAGS = {
@@ -35,12 +37,15 @@ FLAGS = {
     "json": ("--wide", "--partial", "--lines"), "map": ("--wide", "--base N"), "diff": ("--wide", "--items"),
     "lint": ("--wide", "--json", "--ignore K", "--ignore K"),
     "survey": ("--json", "--csv", "--sha256", "--same", "--what", "--jobs N", "--resume T"), "explain": (), "same": (),
-    "find": ("--wide", "--raw", "--extract D"),
+    "find": ("--wide", "--raw", "--extract D"), "build": (),
+    "edit": ("--wide", "--memory E", "--memory E", "--symbols M", "--content E", "--append E"),
 }
 FORMATS = ("elf", "bin", "srec", "ihex", "text", "coff", "")
 # Those without which a command line is always refused.
 NEEDED = {"relocate": ("--base", "1000"), "convert": ("--to", "elf")}
-WRITERS = ("strip", "convert")
+EDITS = ("0=chip", "1=fast", "0.0=any", "0=10004", "9=chip", "=", "0", "DATA=w0", "CODE=", "BSS=8", "BSS=-1", "0=w1", "1=none", "0=-",
+         "x=y")
+WRITERS = ("strip", "convert", "edit", "build")
 # Each with a row of JSON on a line.
 HAS_ROWS = ("size", "nm", "relocs", "validate", "lint")
 KINDS = ("OddOffset", "overlap", "TWICE", "BadTarget", "BadOffset", "1", "")
@@ -89,6 +94,8 @@ def make_inputs(chance, folder):
     made.update({"empty": b"", "text": b"text\n", "table": f"{resumes.HEAD}\n".encode() + b"load\t-\t-\t0\tw0\nload\t-", "none.o": b"\x7fELF",
                  "json": f"{resumes.JSON_HEAD}\n".encode() + b"[" * 5000 + b"\n", "large": chance.choice(whole) + bytes(1 << 20),
                  "disk": damaged_disk(chance, whole), "disks": b"x" + damaged_disk(chance, whole)})
+    document = json.dumps({"parts": building.PROGRAM}).encode()
+    made.update({"map": b"0 4 main\n0 0 _m\n", "p0": document, **{f"p{i}": damaged(chance, document) for i in range(1, 6)}})
     for name, data in made.items():
         (folder / name).write_bytes(data)
     sub = os.fsencode(folder / "sub")
@@ -113,7 +120,8 @@ def command_line(chance, names, number):
         tables = (f"new-{number}", f"new-{number}", chance.choice(names), "/dev/full", "sub/pipe", "table", "json")
         # What is found goes to a new folder, or to one that is there or is none.
         folders = (f"found-{number}", "found", "sub", chance.choice(names))
-        words += [flag, *(chance.choice({"N": NUMBERS, "K": KINDS, "F": FORMATS, "D": folders}.get(it, tables)) for it in value)]
+        kinds = {"N": NUMBERS, "K": KINDS, "F": FORMATS, "D": folders, "E": EDITS, "M": (*names, "map", "map")}
+        words += [flag, *(chance.choice(kinds.get(it, tables)) for it in value)]
     count = {"diff": 2, "same": 2, "explain": 1, **dict.fromkeys(WRITERS, 2)}.get(command, chance.randint(1, 4))
     count = count if chance.random() < 0.9 else chance.randint(0, 3)
     if command in WRITERS:

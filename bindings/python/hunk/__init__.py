@@ -8,13 +8,15 @@
         print(symbol.hunk, symbol.value, symbol.name)
     for part in hunk.parts(data):
         print(part.what, part.word, part.content)
+    data = hunk.build([hunk.Part.hunk(1), hunk.Part.block(hunk.Kind.CODE, b"NuNq"), hunk.Part.end()])
 
 `data` is a bytes-like object; anything else raises a TypeError. Bytes that are refused raise a HunkError, which says why
-and at which byte; `hunk.read` with `partial=True` gives what stands before it. The module `hunk.stream`, to import by
-itself, loads a file that comes piece by piece. `hunk.library` says which library is taken.
+and at which byte; `hunk.read` with `partial=True` gives what stands before it. Parts that spell no file raise a BuildError.
+The module `hunk.stream`, to import by itself, loads a file that comes piece by piece. `hunk.library` says which library is taken.
 """
 
-from hunk.building import Part, parts
+from hunk.building import BuildError, Part, build, parts
+from hunk.editing import Edit, EditError
 from hunk.library import HunkError
 from hunk.loading import BUDGET, load, load_at, table
 from hunk.reading import File, check, read
@@ -41,7 +43,10 @@ __version__ = "0.2.0"
 __all__ = [
     "BUDGET",
     "Block",
+    "BuildError",
     "Data",
+    "Edit",
+    "EditError",
     "Entry",
     "EntryKind",
     "File",
@@ -58,6 +63,7 @@ __all__ = [
     "Symbol",
     "Unit",
     "Warning",
+    "build",
     "check",
     "input_place",
     "load",

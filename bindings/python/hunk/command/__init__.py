@@ -25,7 +25,7 @@ GROUPS = (
     ("See what stands in files", ("show", "size", "nm", "relocs", "dump", "json", "map")),
     ("Find out what is wrong", ("validate", "lint", "explain")),
     ("Sort, find and compare files", ("survey", "find", "diff", "same")),
-    ("Make other files of them", ("relocate", "strip", "convert")),
+    ("Make other files of them", ("relocate", "strip", "convert", "edit", "build")),
 )
 NAMES = tuple(name for _, names in GROUPS for name in names)
 # The modules that have another name than their command.
@@ -35,8 +35,9 @@ NOT_READ, CANNOT_WRITE, INTERRUPTED, NOBODY_READS = 1, 3, 130, 141
 
 USAGE = "hunk [-h] [--version] [--completions SHELL] COMMAND .."
 DESCRIPTION = "Tells what stands in hunk files of AmigaDOS, executables and object files, and makes other files of them."
-EPILOG = """strip and convert take a file IN, and write a file OUT; diff and same take two files. All others but explain
-take files, folders with their subfolders, and - for standard input. `hunk COMMAND --help` says more.
+EPILOG = """strip, convert and edit take a file IN, and build a document of JSON, and write a file OUT; diff and same take two
+files. All others but explain take files, folders with their subfolders, and - for standard input. `hunk COMMAND
+--help` says more.
 
 What can't be read or is refused is told on standard error, and the others go on:
   hunk: NAME: refused at byte N: REASON: what it means (no hunk file, not supported, damaged or not judged)

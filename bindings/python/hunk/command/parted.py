@@ -10,7 +10,8 @@ from typing import Any, Callable, Dict
 import hunk
 from hunk.command.layout import CONTENTS
 from hunk.command.words import flag_words, kind_word
-from hunk.rows import MEMORY, flags_of, kind_of
+from hunk.lists import FLAGS, KINDS
+from hunk.rows import MEMORY
 
 Made = Dict[str, Any]
 LONGS = (1 << 30) - 1
@@ -38,7 +39,7 @@ def of_unit(it: hunk.Part) -> Made:
 
 
 def of_block(it: hunk.Part) -> Made:
-    kind, flags = kind_of(it.word & 0x1FFFFFFF), flag_words(flags_of(it.word >> 29))
+    kind, flags = KINDS[it.word & 0x1FFFFFFF], flag_words(FLAGS[it.word >> 29])
     word = kind_word(kind)
     made: Made = {"kind": word, **({"type": int(kind)} if word == "ADVISORY" else {}), **({"flags": [*flags]} if flags else {})}
     if kind in CONTENTS and it.value >> 30:
