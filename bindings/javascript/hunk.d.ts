@@ -115,6 +115,12 @@ export class HunkError extends Error {
   readonly count: number;
 }
 
+/** Says that parts spell no file that is accepted. */
+export class BuildError extends HunkError {
+  /** The number of the part at fault, from 0 on, or of all where they end too soon. */
+  readonly row: number;
+}
+
 /** A hunk of the table of a load file. `memory` is a place in MEMORIES; 3 is by the attributes in `extra`. */
 export interface TableRow { word: number; extra: number; bytes: number; memory: number }
 
@@ -149,6 +155,33 @@ export interface Part {
   offsets: number;
   offsetCount: number;
 }
+
+/** A part of a file with its bytes. Zero bytes fill the content up to whole longwords; a text has a character for each byte. */
+export interface FilePart {
+  what: number;
+  word?: number;
+  value?: number;
+  content?: Uint8Array | string;
+  offsets?: number[];
+}
+
+/** Makes parts by what they are. */
+export const Part: {
+  /** A hunk of a load file begins: its longwords, and its memory, one of MEMORIES. */
+  hunk(longs: number, memory?: string, attributes?: number): FilePart;
+  unit(name?: Uint8Array | string): FilePart;
+  /** A block with its content or name, its FLAGS, and of CODE and DATA bits 30 and 31 of the size word. */
+  block(kind: number, content?: Uint8Array | string, flags?: number, bits?: number): FilePart;
+  bss(longs: number, flags?: number, bits?: number): FilePart;
+  end(): FilePart;
+  /** Offsets with one target, in the block of relocations before it. */
+  group(target: number, offsets: Iterable<number>): FilePart;
+  symbol(name: Uint8Array | string, value: number, top?: number): FilePart;
+  entry(kind: number, name: Uint8Array | string, value?: number, offsets?: Iterable<number>): FilePart;
+};
+
+/** A row of `parts` with its bytes, as `build` takes it. */
+export function partOf(bytes: Bytes, row: Part): FilePart;
 
 export interface Unit { place: number; name: number; nameBytes: number; hunks: number }
 
@@ -259,6 +292,8 @@ export class Hunk {
   check(bytes: Bytes, most?: number): Listed<Finding>;
   warnings(bytes: Bytes, most?: number): Listed<Warning>;
   parts(bytes: Bytes, most?: number): Listed<Part>;
+  /** The file that parts spell, in the order of `parts`. Throws a BuildError where they spell none. */
+  build(parts: readonly FilePart[]): Uint8Array;
   units(bytes: Bytes, most?: number): Listed<Unit>;
   blocks(bytes: Bytes, most?: number): Listed<Block>;
   symbols(bytes: Bytes, most?: number): Listed<HunkSymbol>;

@@ -11,11 +11,12 @@
 import { bytesOf, callable, longs, MOST_BYTES, MOST_LONG, refuseKind, whole } from "./arguments.js";
 import { Loader } from "./loader.js";
 import { Input, Memory, words } from "./memory.js";
+import { packed, Part, partOfRow } from "./parts.js";
 import { copyOf, Rows } from "./rows.js";
 import { LAYOUTS } from "./structs.js";
 
 export * from "./kinds.js";
-export { Input, LAYOUTS, Loader, Rows };
+export { Input, LAYOUTS, Loader, Part, Rows };
 
 /** The number of the C interface for which this file was written. */
 export const ABI = 1;
@@ -25,6 +26,7 @@ export const BUDGET = 1 << 24;
 
 const OK = 0;
 const NO_ROOM = 32;
+const STRANGE = 33;
 const LONGWORD = 4;
 
 /** A module that has nothing but a 64-bit memory. */
@@ -45,6 +47,23 @@ export class HunkError extends Error {
     this.hunk = answer.hunk;
     this.count = answer.count;
   }
+}
+
+/** Says that parts spell no file that is accepted: `row` is the number of the part at fault, or of all where they end too soon. */
+export class BuildError extends HunkError {
+  constructor(answer, reason, text) {
+    super(answer, reason, answer.number === STRANGE ? "no file has such a part there" : text);
+    this.name = "BuildError";
+    this.message = `part ${answer.count} ${this.message}`;
+    this.row = answer.count;
+  }
+}
+
+/** A row of `parts` with its bytes, as `build` takes it. */
+export function partOf(bytes, row) {
+  const file = bytes instanceof Input ? bytes.bytes : bytesOf("bytes", bytes, "a Uint8Array or an Input");
+  if (row === null || typeof row !== "object") refuseKind("row", "a row of parts", row);
+  return partOfRow(file, row);
 }
 
 /** The bytes of a name, as a text in which each character is a byte. */
@@ -270,6 +289,23 @@ export class Hunk {
   /** All that a file says, as one flat list of parts. */
   parts(bytes, most) {
     return this.#list("hunk_parts", LAYOUTS.part, bytes, most);
+  }
+
+  /** The file that parts spell, in the order of `parts`. */
+  build(parts) {
+    const memory = this.#memory;
+    if (typeof memory.exports.hunk_build !== "function") throw new TypeError("build: this module has no hunk_build, it is older than hunk.js");
+    const { rows, bytes } = packed(parts);
+    return memory.within((lease) => {
+      const [{ at: first }, data] = [rows, bytes].map((view) => lease.place({ view, length: view.length }));
+      const count = rows.length / LAYOUTS.part.size;
+      // This is always enough.
+      const length = 20 + 16 * count + bytes.length;
+      const at = lease.take(length);
+      const answer = memory.call("hunk_build", BigInt(first), BigInt(count), ...words(data), ...words({ at, length }));
+      if (answer.number !== OK) throw new BuildError(answer, this.reason(answer.number), this.reasonText(answer.number));
+      return memory.bytes(at, answer.count).slice();
+    });
   }
 
   units(bytes, most) {

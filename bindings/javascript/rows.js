@@ -86,7 +86,14 @@ export class Rows {
     return new Rows(this.#layout, copyOf(this.#home.bytes()));
   }
 
-  *[Symbol.iterator]() {
-    for (let i = 0; i < this.length; i++) yield this.at(i);
+  /** An object of its own: a generator takes twice as long. */
+  [Symbol.iterator]() {
+    let i = 0;
+    return {
+      next: () => (i < this.length ? { done: false, value: this.at(i++) } : { done: true, value: undefined }),
+      [Symbol.iterator]() {
+        return this;
+      },
+    };
   }
 }

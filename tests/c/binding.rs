@@ -4,7 +4,7 @@
 //! binding --show FILE..: prints what stands in the files by the package, in the words of `hunkinfo show` after `== FILE` for
 //! each. It ends with status 1 where something does not stand at the place that its row has.
 
-use hunk::{Block, Entry, EntryKind, Error, Fault, File, Finding, Front, Hunk, Kind, Memory, Plain, Reference, Relocation,
+use hunk::{Block, Entry, EntryKind, Error, Fault, File, Finding, Front, Hunk, Kind, Memory, Part, Plain, Reference, Relocation,
     Spelling, Symbol, Warning, WarningKind, BUDGET};
 use std::process::ExitCode;
 use std::{env, fs};
@@ -238,6 +238,34 @@ fn wrong_calls(load: &[Row], objects: &[Row]) -> Vec<String> {
     checks.iter().filter(|(_, holds)| !holds).map(|(name, _)| format!("{name}: another answer")).collect()
 }
 
+/// What is built otherwise than it must be.
+fn wrong_builds(rows: &[Row]) -> Vec<String> {
+    let made = |data: &[u8]| hunk::parts(data).map(|parts| hunk::build(&parts).unwrap());
+    let accepted = |row: &&Row| hunk::parts(&row.data).is_ok();
+    let same = |row: &&Row| row.data.starts_with(&made(&row.data).unwrap());
+    let (all, wrong) = (rows.iter().filter(accepted), rows.iter().filter(accepted).filter(|row| !same(row)));
+    let mut said: Vec<String> = wrong.map(|row| format!("{}: built otherwise", row.name)).collect();
+    let text = |parts: &[Part]| hunk::build(parts).unwrap_err().to_string();
+    // A hunk of two longwords, with an offset of which the longword runs past its end.
+    let code = [Part::hunk(2, Memory::Any), Part::block(Kind::CODE, &[0; 7]), Part::block(Kind::RELOC32, &[])];
+    let group = |offsets: &[u32]| [&code[..], &[Part::group(0, offsets), Part::end()]].concat();
+    let fast = Part::hunk(1, Memory::Attributes(7));
+    let entry = Part::entry(EntryKind::DEF, b"_f", 4, &[]);
+    let checks = [
+        ("files that are built", all.count() > 5),
+        ("filled up", hunk::build(&group(&[4])).unwrap()[32..40] == [0; 8]),
+        ("an offset", text(&group(&[4, 5])) == "part 3 refused at byte 56: BadOffset (24)"),
+        ("no part", text(&[]) == "part 0 refused at byte 0: Truncated (26)"),
+        ("a part elsewhere", text(&[entry.clone()]) == "part 0 refused at byte 0: Strange (33)"),
+        ("its meaning", hunk::build(&[entry]).unwrap_err().error.meaning == "no file has such a part there"),
+        ("attributes", (fast.word, fast.value) == (0xC000_0001, 7)),
+        ("names", Part::symbol(b"", 0).content.len() == 4 && Part::entry(EntryKind::REF8, b"", 0, &[]).content.is_empty()),
+        ("size words", (Part::hunk(u32::MAX, Memory::Any).word, Part::bss(u32::MAX).value) == (0x3FFF_FFFF, 0x3FFF_FFFF)),
+    ];
+    said.extend(checks.iter().filter(|(_, holds)| !holds).map(|(name, _)| format!("{name}: another answer")));
+    said
+}
+
 fn text_of(name: &[u8]) -> String {
     let text = |&it: &u8| match it {
         b' '..=b'[' | b']'..=b'~' => char::from(it).to_string(),
@@ -388,6 +416,7 @@ fn main() -> ExitCode {
     let mut wrong = wrong_rows(&load, &objects);
     wrong.extend(wrong_calls(&load, &objects));
     wrong.extend(wrong_lists(&load));
+    wrong.extend([&load, &objects].iter().flat_map(|rows| wrong_builds(rows)));
     let one = &load.iter().find(|row| row.name == "one-hunk").unwrap().data;
     wrong.extend(wrong_spellings(one));
     wrong.extend(wrong_fronts(one));

@@ -31,6 +31,11 @@ runs() {
   prints "blocks.js in node $*" "$symbol 24 12 CODE
 $symbol 36 20 SYMBOL
 $symbol 56 4 END" node "$@" blocks.js "$symbol"
+  # By hand, as in tests/command/building.py.
+  prints "two-hunks.js in node $*" '000003f3000000000000000200000000000000010000000300000002000003e90000000341f9000000002018d0904e75
+000003ec00000001000000010000000200000000000003f00000000273746172740000000000000000000000000003f2
+000003ea000000020000001400000016000003f2' sh -c 'out=$1 && shift && node "$@" two-hunks.js "$out" && xxd -p -c 48 "$out"' sh "$work/two" "$@"
+  prints "tests/targets/package/parts.js in node $*" 'as promised' node "$@" parts.js "$symbol"
   prints "tests/targets/package/inputs.js in node $*" 'as promised' node "$@" inputs.js "$symbol"
   prints "tests/targets/package/wrong.js in node $*" 'as promised' node "$@" wrong.js "$symbol"
   prints "tests/targets/package/fuzz.js in node $*" 'as promised' \

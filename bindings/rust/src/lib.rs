@@ -36,6 +36,7 @@
 //! |---|---|
 //! | see what stands in a file | [`read`], which gives a [`File`] |
 //! | see all that a file says, as one flat list | [`parts`] |
+//! | make a file of such a list | [`build`](fn@build) |
 //! | load a file | [`load_packed`], or [`load`] where each hunk has its own address |
 //! | load it into memory of your own | [`load_into`], [`load_at`], with sizes from [`table`] |
 //! | find what is wrong with its offsets | [`check`] |
@@ -49,6 +50,7 @@
 
 #![deny(missing_docs, unsafe_code)]
 
+mod build;
 mod error;
 mod file;
 mod finding;
@@ -64,6 +66,7 @@ mod segments;
 mod show;
 mod warning;
 
+pub use build::{build, BuildError};
 pub use error::Error;
 pub use file::{read, File};
 pub use finding::{check, strip, Fault, Finding};

@@ -11,6 +11,7 @@ pub const OK: u32 = 0;
 pub const NO_BASE: u32 = 29;
 pub const OUT_OF_MEMORY: u32 = 31;
 pub const NO_ROOM: u32 = 32;
+pub const STRANGE: u32 = 33;
 
 #[repr(C)]
 pub struct Answer {
@@ -166,6 +167,14 @@ extern "C" {
     fn hunk_entries(bytes: *const u8, bytes_len: u64, rows: *mut Entry, rows_len: u64) -> Answer;
     fn hunk_references(bytes: *const u8, bytes_len: u64, rows: *mut Reference, rows_len: u64) -> Answer;
     fn hunk_parts(bytes: *const u8, bytes_len: u64, rows: *mut Part, rows_len: u64) -> Answer;
+    fn hunk_build(
+        rows: *const Part,
+        rows_len: u64,
+        bytes: *const u8,
+        bytes_len: u64,
+        text: *mut u8,
+        text_len: u64,
+    ) -> Answer;
     fn hunk_warnings(
         bytes: *const u8,
         bytes_len: u64,
@@ -223,6 +232,12 @@ pub fn list<R: Listed>(data: &[u8], most: usize) -> (Vec<R>, Answer) {
         unsafe { rows.set_len(answer.count as usize) };
     }
     (rows, answer)
+}
+
+pub fn build(rows: &[Part], data: &[u8], text: &mut [u8]) -> Answer {
+    let (to, len) = (text.as_mut_ptr(), length(text));
+    // SAFETY: as in `list`.
+    unsafe { hunk_build(rows.as_ptr(), length(rows), data.as_ptr(), length(data), to, len) }
 }
 
 pub fn warnings(data: &[u8], room: &mut [u32], rows: &mut [Warning]) -> Answer {

@@ -1,6 +1,6 @@
 // A caller that compiles by the types of the package alone, with none of a browser or of node.
 import { type Block, entryKindName, HunkError, Hunk, type Input, KINDS, kindName, MEMORIES, nameOf, open } from "hunk-files";
-import { type Part, PARTS, type Rows, type Warning, type WarningKind, warningName, WARNINGS } from "hunk-files";
+import { BuildError, type FilePart, Part, partOf, PARTS, type Rows, type Warning, type WarningKind, warningName, WARNINGS } from "hunk-files";
 import { open as openInline } from "hunk-files/inline";
 import { Hunk as Plain, type Source, takesMemory64 } from "hunk-files/hunk.js";
 import { type ElfInput, NoForm, program, relocatable } from "hunk-files/sections.js";
@@ -21,6 +21,10 @@ async function lists(hunk: Hunk, bytes: Uint8Array): Promise<string[]> {
   names.push(...warned.map((it) => `${warningName(it.kind)} ${it.kind === WARNINGS[odd]} ${it.other}`));
   const parts: Part[] = [...hunk.parts(input).rows];
   names.push(...parts.map((it) => `${it.what === PARTS.GROUP} ${it.offsetCount}`));
+  const listed: FilePart[] = parts.map((it) => partOf(input, it));
+  names.push(String(hunk.build([...listed, Part.symbol("name", 0), { what: PARTS.UNIT }]).length));
+  // @ts-expect-error: a part is no row
+  hunk.build(parts);
   // @ts-expect-error: a row has no such field
   rows.get(place, "nothing");
   // @ts-expect-error: nor a column of it

@@ -62,6 +62,16 @@ function bytesOf(hunk) {
   return (name) => other(name, [...notBytes(), input, view, new Uint8Array(view.buffer)]);
 }
 
+/** What is no list of parts. */
+function noParts() {
+  const none = [undefined, null, 5, "x", true, {}, new Set(), new Uint8Array(4), [5], [null], ["x"], [{}], [{ what: "1" }], [{ what: 5n }]];
+  const unit = (field) => [{ what: 2 }, { what: 2, ...field }];
+  const fields = [{ word: "1" }, { value: null }, { content: 5 }, { content: [1] }, { content: new Uint16Array(2) }, { offsets: 5 }];
+  const views = [...gone(Uint8Array)].map((content) => ({ content }));
+  const numbers = [{ word: 2 ** 32 }, { word: -1 }, { value: 0.5 }, { value: NaN }, { content: "\u0100" }, { offsets: [2 ** 32] }];
+  return number("parts", [[{ what: 7 }], [{ what: 0 }], ...numbers.map(unit)], [...none, ...[...fields, ...views].map(unit)]);
+}
+
 /** What each call of a library is given by right, and then its arguments. */
 function callsOf(hunk, file) {
   const bytes = bytesOf(hunk);
@@ -81,6 +91,7 @@ function callsOf(hunk, file) {
     loadPacked: [[file, 0, 100], bytes("bytes"), needed("base", LONGS), number("budget", COUNTS)],
     begin: [[table, [0]], number("table", ranges, [...tables, ...sizes]), lists("bases")],
     inputPlace: [[file, 0], bytes("bytes"), needed("place", COUNTS)],
+    build: [[[{ what: 1, word: 1 }, { what: 3, word: 0x3eb, value: 1 }, { what: 3, word: 0x3f2 }]], noParts()],
     wide: [[file, () => 0], bytes("bytes"), other("call", [undefined, null, 5, "x", {}, [], Symbol("x")])],
   };
   const most = number("most", COUNTS.filter((it) => it !== Infinity));
