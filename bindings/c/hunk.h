@@ -102,7 +102,7 @@ uint32_t hunk_abi(void);
 #define HUNK_OUT_OF_MEMORY UINT32_C(31)
 /* the array of the caller has too few elements */
 #define HUNK_NO_ROOM UINT32_C(32)
-/* the numbers are none of a loader, or do not fit */
+/* the numbers are none of a loader or of parts, or do not fit */
 #define HUNK_STRANGE UINT32_C(33)
 
 /* What a call answers: 24 bytes. On a machine of 32 bits a count of bytes may be above what the
@@ -511,6 +511,28 @@ struct hunk_part {
  * header's other longwords have no row. */
 struct hunk_answer hunk_parts(const uint8_t *bytes, uint64_t bytes_len, struct hunk_part *rows,
                               uint64_t rows_len);
+
+/* Writes the file that the rows spell, of either kind, as the first row says, to the text.
+ *
+ *   rows   the parts, in the order of hunk_parts; a field that their kind has no use for is 0
+ *   bytes  what content and offsets are bytes of: a file that was read, for instance, with what is
+ *          new behind it. Rows may point at the same bytes. After a content zero bytes are written,
+ *          up to a whole longword
+ *   text   where the file goes: 20 bytes, 16 for each row, and as many as the rows point at are
+ *          always enough
+ *
+ * HUNK_OK       `hunk` is the hunks of a load file, 0 of an object file; `place` and `count` are the
+ *               bytes of the file.
+ * HUNK_NO_ROOM  the text is too short. `count` is how many bytes are needed, else as at HUNK_OK.
+ * HUNK_STRANGE  no file has such a row there. `count` is the row, from 0 on, `place` the byte of
+ *               the file at which it would begin.
+ *
+ * Else it is the first fault of that file, as at hunk_check, and `count` the row that has it. At
+ * HUNK_TRUNCATED that is rows_len: a hunk is open, or there are no rows. The targets and offsets of
+ * object files are left to hunk_check. Text after the file, and at any answer but HUNK_OK all text,
+ * is as it was. */
+struct hunk_answer hunk_build(const struct hunk_part *rows, uint64_t rows_len, const uint8_t *bytes,
+                              uint64_t bytes_len, uint8_t *text, uint64_t text_len);
 
 /* What is suspicious in a load file that is accepted. Later versions may have more kinds, which a
  * program passes over. */

@@ -174,7 +174,7 @@ static const struct {
     {HUNK_READ, "Read", "the input could not be read"},
     {HUNK_OUT_OF_MEMORY, "OutOfMemory", "memory was refused"},
     {HUNK_NO_ROOM, "NoRoom", "the array of the caller has too few elements"},
-    {HUNK_STRANGE, "Strange", "the numbers are none of a loader, or do not fit"},
+    {HUNK_STRANGE, "Strange", "the numbers are none of a loader or of parts, or do not fit"},
     {34, "", ""},
     {UINT32_MAX, "", ""},
 };

@@ -121,6 +121,11 @@ static void references(void) { answer = hunk_references(object, sizeof object, &
 static void units(void) { answer = hunk_units(object, sizeof object, &unit, 1); }
 static void parted(void) { answer = hunk_parts(object, sizeof object, parts, PARTS); }
 static void parted_load(void) { answer = hunk_parts(file, sizeof file, parts, PARTS); }
+static void built(void)
+{
+    answer = hunk_parts(file, sizeof file, parts, PARTS);
+    answer = hunk_build(parts, answer.count, file, sizeof file, text, sizeof text);
+}
 static void warned(void) { answer = hunk_warnings(file, sizeof file, elements, 3, warnings, 1); }
 static void warned_of_many(void)
 {
@@ -177,6 +182,7 @@ static const struct {
     {"hunk_units", units, ALL},
     {"hunk_parts", parted, ALL},
     {"hunk_parts of a load file", parted_load, ALL},
+    {"hunk_parts, and hunk_build of a load file", built, ALL},
     {"hunk_warnings", warned, ALL},
     {"hunk_warnings of many offsets", warned_of_many, ALL},
     {"hunk_strip", strip, ALL},

@@ -56,6 +56,7 @@ static void call_without_bytes(void)
     expect(same(hunk_check(NULL, 0, NULL, 0), none), "no bytes", "a check");
     expect(same(hunk_strip(NULL, 0, NULL, 0), none), "no bytes", "a strip");
     expect(same(hunk_parts(NULL, 0, NULL, 0), none), "no bytes", "parts");
+    expect(same(hunk_build(NULL, 0, NULL, 0, NULL, 0), none), "no rows", "a build");
     expect(same(hunk_warnings(NULL, 0, NULL, 0, NULL, 0), none), "no bytes", "warnings");
     /* A header has six longwords at least. */
     static const struct hunk_answer header = {HUNK_TRUNCATED, 0, 0, 24};

@@ -27,6 +27,8 @@ struct hunk_answer hunk_relocations(const uint8_t *, uint64_t, struct hunk_reloc
 struct hunk_answer hunk_entries(const uint8_t *, uint64_t, struct hunk_entry *, uint64_t);
 struct hunk_answer hunk_references(const uint8_t *, uint64_t, struct hunk_reference *, uint64_t);
 struct hunk_answer hunk_parts(const uint8_t *, uint64_t, struct hunk_part *, uint64_t);
+struct hunk_answer hunk_build(const struct hunk_part *, uint64_t, const uint8_t *, uint64_t,
+                              uint8_t *, uint64_t);
 struct hunk_answer hunk_warnings(const uint8_t *, uint64_t, uint32_t *, uint64_t,
                                  struct hunk_warning *, uint64_t);
 struct hunk_answer hunk_strip(const uint8_t *, uint64_t, uint8_t *, uint64_t);
