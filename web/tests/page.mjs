@@ -5,6 +5,10 @@ import { pathToFileURL } from "node:url";
 /** The address that memory is shown from. */
 export const BASE = "00021000";
 
+/** How long a test waits for what is to be shown, in milliseconds: 13,000 files take minutes where others use the
+ * machine. */
+const MOST_TIME = 600000;
+
 export class Page {
   constructor(browser, path) {
     this.browser = browser;
@@ -21,11 +25,12 @@ export class Page {
     const before = await this.in("return document.body.dataset.shows ?? '0'");
     await doing();
     await this.in(
-      `for (let i = 0; (document.body.dataset.shows ?? "0") === values[0]; i++) {
-         if (i > 6000) throw new Error("nothing new is shown");
+      `for (const end = performance.now() + values[1]; (document.body.dataset.shows ?? "0") === values[0]; ) {
+         if (performance.now() > end) throw new Error("nothing new is shown");
          await new Promise((done) => setTimeout(done, 5));
        }`,
       before,
+      MOST_TIME,
     );
   }
 
