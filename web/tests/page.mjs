@@ -9,6 +9,9 @@ export const BASE = "00021000";
  * machine. */
 const MOST_TIME = 600000;
 
+/** How many bytes of what is saved come in one answer. */
+const PIECE = 1 << 18;
+
 export class Page {
   constructor(browser, path) {
     this.browser = browser;
@@ -64,17 +67,22 @@ export class Page {
     );
   }
 
-  /** What a button saves, as digits. */
-  saved(id) {
-    return this.in(
+  /** What a button saves, as digits. They come in pieces, as Chromium's driver ends at an answer of several MB. */
+  async saved(id) {
+    const length = await this.in(
       `const was = URL.createObjectURL;
        let blob;
        URL.createObjectURL = (it) => { blob = it; return "#"; };
        HTMLAnchorElement.prototype.click = () => {};
        document.getElementById(values[0]).click();
        URL.createObjectURL = was;
-       return Array.from(new Uint8Array(await blob.arrayBuffer()), (it) => it.toString(16).padStart(2, "0")).join("");`,
+       window.saved = new Uint8Array(await blob.arrayBuffer());
+       return saved.length`,
       id,
     );
+    const piece = `return Array.from(saved.subarray(...values), (it) => it.toString(16).padStart(2, "0")).join("")`;
+    const pieces = [];
+    for (let at = 0; at < length; at += PIECE) pieces.push(await this.in(piece, at, at + PIECE));
+    return pieces.join("");
   }
 }
