@@ -164,6 +164,10 @@ static void parts_listed(const char *name, uint32_t hunks, uint64_t from, size_t
     }
     for (int i = 0; i < 6; i++)
         expect(met[i + 1] == wanted[i], name, "the parts of a kind");
+    uint8_t *text = marked(&again_room, len);
+    struct hunk_answer built = hunk_build(parts, all.count, file, len, text, len);
+    expect(same(built, (struct hunk_answer){HUNK_OK, hunks, len, len}), name, "hunk_build");
+    expect(memcmp(text, file, len) == 0, name, "the file that is built again");
 }
 
 /* hunk_entries, of what put_entries puts from this byte on. */

@@ -1,13 +1,15 @@
 /* The parts of files: parts FILE.. Each file is written again from its parts, whose bytes have to
- * stand where they are written. The call is tried with rows up to a page that faults, with one too
- * few, with more, and with none. Status 1 where an answer, or what it leaves in the caller's
- * memory, is not what hunk.h says. */
+ * stand where they are written, and hunk_build has to write it again. The calls are tried with rows
+ * and text up to a page that faults, with one row or byte too few, with more, and with none; and
+ * hunk_build with as many hunks and bytes as no file has. Status 1 where an answer, or what it
+ * leaves in the caller's memory, is not what hunk.h says. */
 #include "guarded.h"
 
 #define MOST_BYTES (1 << 20)
 
 static struct guarded file_bytes = {MOST_BYTES, NULL};
 static struct guarded row_room = {(MOST_BYTES / 4 + AFTER) * sizeof(struct hunk_part), NULL};
+static struct guarded text_room = {MOST_BYTES + AFTER, NULL};
 
 /* A file, what hunk_check answers of it, but for `count`, and how much of it was written again. */
 struct parted {
@@ -182,10 +184,67 @@ static void write_again(struct parted *f, const struct hunk_part *rows, uint64_t
     expect(f->at == f->of.place, f->name, "the bytes that are written again");
 }
 
+/* ---- Building. */
+
+static void build_again(const struct parted *f, const struct hunk_part *rows, uint64_t count)
+{
+    size_t size = f->of.place;
+    uint8_t *text = marked(&text_room, size - 1);
+    struct hunk_answer less = hunk_build(rows, count, f->bytes, f->len, text, size - 1);
+    expect(same(less, answer_of(f, HUNK_NO_ROOM, size)), f->name, "text a byte too short");
+    expect(all_marked(text, size - 1), f->name, "text that is too short");
+    text = marked(&text_room, size + AFTER);
+    struct hunk_answer more = hunk_build(rows, count, f->bytes, f->len, text, size + AFTER);
+    expect(same(more, answer_of(f, HUNK_OK, size)), f->name, "a build");
+    expect(all_marked(text + size, AFTER), f->name, "text after the file");
+    text = marked(&text_room, size);
+    struct hunk_answer all = hunk_build(rows, count, f->bytes, f->len, text, size);
+    expect(same(all, answer_of(f, HUNK_OK, size)), f->name, "a build with just enough room");
+    expect(memcmp(text, f->bytes, size) == 0, f->name, "the file that is built again");
+}
+
+/* Without its last row a file lacks its last END, or it is one without a last, empty unit. */
+static void build_less(const struct parted *f, const struct hunk_part *rows, uint64_t count)
+{
+    if (rows[count - 1].what == HUNK_PART_UNIT)
+        return;
+    uint8_t *text = marked(&text_room, f->of.place);
+    struct hunk_answer a = hunk_build(rows, count - 1, f->bytes, f->len, text, f->of.place);
+    struct hunk_answer wanted = {HUNK_TRUNCATED, 0, f->of.place - 4, count - 1};
+    expect(same(a, wanted), f->name, "a build without the last row");
+    expect(all_marked(text, f->of.place), f->name, "text of no file");
+}
+
+/* More hunks, a longer content and a longer name than a file has. */
+static void build_too_much(void)
+{
+    const uint64_t content = UINT64_C(1) << 32, name = UINT64_C(1) << 26;
+    void *bytes = mmap(NULL, content, PROT_READ, MAP_PRIVATE | MAP_ANONYMOUS | MAP_NORESERVE, -1, 0);
+    uint8_t *text = marked(&text_room, AFTER);
+    struct hunk_part *rows = marked(&row_room, 65537 * sizeof *rows);
+    for (int i = 0; i < 65537; i++)
+        rows[i] = (struct hunk_part){.what = HUNK_PART_HUNK, .word = 1};
+    struct hunk_answer a = hunk_build(rows, 65537, NULL, 0, text, AFTER);
+    expect(same(a, (struct hunk_answer){HUNK_TOO_MANY_HUNKS, 0, 8, 65536}), "hunks", "a build");
+    if (bytes == MAP_FAILED)
+        exit(3);
+    struct hunk_part unit = {.what = HUNK_PART_UNIT, .content_bytes = name};
+    a = hunk_build(&unit, 1, bytes, content, text, AFTER);
+    expect(same(a, (struct hunk_answer){HUNK_NAME_WORD, 0, 4, 0}), "a name", "a build");
+    struct hunk_part code[] = {{.what = HUNK_PART_UNIT},
+                               {.what = HUNK_PART_BLOCK, .word = 0x3E9, .content_bytes = content}};
+    a = hunk_build(code, 2, bytes, content, text, AFTER);
+    expect(same(a, (struct hunk_answer){HUNK_CONTENT_TOO_LONG, 0, 12, 1}), "content", "a build");
+    expect(all_marked(text, AFTER), "too much", "text");
+    munmap(bytes, content);
+}
+
 int main(int argc, char **argv)
 {
-    if (argc < 2 || !make_guarded(&file_bytes) || !make_guarded(&row_room))
+    if (argc < 2 || !make_guarded(&file_bytes) || !make_guarded(&row_room) ||
+        !make_guarded(&text_room))
         return 3;
+    build_too_much();
     for (int i = 1; i < argc; i++) {
         struct parted f = {.name = argv[i]};
         f.bytes = read_file(&file_bytes, f.name, &f.len);
@@ -197,6 +256,8 @@ int main(int argc, char **argv)
         uint64_t count;
         const struct hunk_part *rows = try_file(&f, &count);
         write_again(&f, rows, count);
+        build_again(&f, rows, count);
+        build_less(&f, rows, count);
     }
     return failures > 0;
 }
