@@ -157,6 +157,40 @@ def build(rows, data):
     return (0, built.hunks, built.place, built.place), b"".join(built.out)
 
 
+def spelled(row, data):
+    """The longwords that a row spells in the body of a file, whatever stands there."""
+    content, offsets = padded(data[row.content :][: row.content_bytes]), data[row.offsets :][: 4 * row.offset_count]
+    longs, kind, top = len(content) // 4, h.kind_of(row.word), row.word << 24 & 0xFFFFFFFF
+    if row.what == A_UNIT:
+        return h.longs(h.UNIT, longs) + content
+    if row.what == A_BLOCK:
+        if kind == h.END or lists(kind):
+            return h.longs(row.word)
+        size = row.value if kind == h.BSS else row.value + longs if kind in (h.CODE, h.DATA) else longs
+        return h.longs(row.word, size & 0xFFFFFFFF) + (b"" if kind == h.BSS else content)
+    if row.what == A_GROUP:
+        return h.longs(row.offset_count & 0xFFFFFFFF, row.word) + offsets
+    if row.what == A_SYMBOL:
+        return h.longs(top | longs) + content + h.longs(row.value)
+    if row.what != AN_ENTRY:
+        return b""
+    text = h.longs(top | longs) + content + (h.longs(row.value) if row.word in h.DEFINITIONS + h.COMMONS else b"")
+    return text + (h.longs(row.offset_count & 0xFFFFFFFF) + offsets if row.word in h.REFERENCES else b"")
+
+
+def text_of(rows, data):
+    """The text that rows spell with no test made, for a reader to judge. What they point at has to be there."""
+    built = Builder(rows, data)
+    for row in rows:
+        if row.what in (A_HUNK, A_UNIT, A_BLOCK):
+            built.close()
+        built.put(spelled(row, data))
+        if row.what == A_BLOCK and lists(h.kind_of(row.word)):
+            built.kind = h.kind_of(row.word)
+    built.close()
+    return b"".join(built.out)
+
+
 def rows_of(text):
     """The rows that a field of the table tells, and the bytes that they point at."""
     rows, data = [], b""

@@ -3,7 +3,8 @@
 They are compared on the rows of TABLE, vectors/build.tsv, to which the model is held, too; on the rows of N drawn files of both
 kinds, 1,000 where nothing else is said, which have to give the file again; on these where what they point at lies elsewhere; and on
 five changed copies of each: with rows left out, doubled, exchanged and put in, fields changed, offsets at the ends of hunks. Each
-answer is compared with more room than it needs, just as much, a byte less, and none. Prints the first that differ, and how many
+answer is compared with more room than it needs, just as much, a byte less, and none. Where all that the rows point at is there, it
+has also to be what hunk_check answers to the text that they spell: what is Strange is no file, or has other parts. Prints the first that differ, and how many
 answers of each number were compared; ends with status 1 where one differs."""
 
 import argparse
@@ -27,7 +28,8 @@ LAST = 2**64 - 1
 # Types of blocks, of which some are none or have flags.
 BLOCKS = (*range(0x3E7, 0x3FF), 0x3E6, 0x3FF, 0x4D2, 0x200004D2, 0xC00003E9, 0x200003E7, 0x400003FC)
 library = ctypes.CDLL(os.environ["LIBHUNK"])
-library.hunk_build.restype = Answer
+library.hunk_build.restype = library.hunk_check.restype = Answer
+library.hunk_check.argtypes = (ctypes.c_char_p, ctypes.c_uint64, ctypes.c_void_p, ctypes.c_uint64)
 library.hunk_build.argtypes = (ctypes.c_char_p, ctypes.c_uint64) * 2 + (ctypes.c_void_p, ctypes.c_uint64)
 
 
@@ -42,6 +44,7 @@ def faults_of(rows, data, met):
     """What is not as the model has it."""
     wanted, text = model.build(rows, data)
     met[wanted[0]] += 1
+    yield from reader_faults(rows, data, wanted)
     if text is None:
         for room in (0, 20 + 16 * len(rows) + len(data)):
             if (got := answered(rows, data, room)) != (wanted, MARK * (room + 8)):
@@ -53,6 +56,31 @@ def faults_of(rows, data, met):
     for room in (0, len(text) - 1):
         if (got := answered(rows, data, room)) != ((NO_ROOM, *wanted[1:]), MARK * (room + 8)):
             yield f"{got[0]} where {NO_ROOM} and {wanted[1:]} are wanted, or text was written"
+
+
+def reader_faults(rows, data, wanted):
+    """What the model answers otherwise than hunk_check to the text that the rows spell."""
+    if any(it.content + it.content_bytes > len(data) for it in rows if it.content_bytes) or any(
+        it.offsets + 4 * it.offset_count > len(data) for it in rows if it.offset_count
+    ):
+        return
+    text, (number, _, place, count) = model.text_of(rows, data), wanted
+    told, _, at, _ = library.hunk_check(text, len(text), None, 0).told()
+    told = 0 if told == NO_ROOM else told
+    if number == model.STRANGE:
+        same = told or at != len(text) or seen(parts.parts(text), text) != seen(rows, data)
+    elif number == hunks.EXT_KIND and rows[count].word > 255:
+        same = at >= place
+    else:
+        same = (told, at) == (number, place)
+    if not same:
+        yield f"{number} at {place}, where the reader has {told} at {at}"
+
+
+def seen(rows, data):
+    """The rows with the bytes that they point at."""
+    ends = [(it.content + it.content_bytes, it.offsets + 4 * it.offset_count) for it in rows]
+    return [(it[:3], model.padded(data[it.content : end[0]]), data[it.offsets : end[1]]) for it, end in zip(rows, ends)]
 
 
 # ---- The inputs.
