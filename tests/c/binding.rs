@@ -111,7 +111,8 @@ fn wrong_spellings(one: &[u8]) -> Vec<String> {
         ("plain of a plain file", as_is.bytes() == one && as_is.spelling().is_plain()),
         ("wide", plain.read().unwrap().relocations()[0].offset == 0 && plain.read().unwrap().bytes().len() == 64),
         ("wide load", plain.load_packed(0x21000, BUDGET).unwrap().into_memory() == bytes_of("0002100000000000")),
-        ("wide refusal", Plain::of(&bad).read().unwrap_err().to_string() == "refused at byte 46: BadTarget (23)"),
+        ("wide refusal", Plain::of(&bad).read().unwrap_err().to_string()
+            == "refused at byte 46: BadTarget (23): the target of a relocation is no hunk of the file"),
         ("no wide load", Plain::of(&bad).load_packed(0, BUDGET).unwrap_err().place == 46),
         ("input place", plain.input_place(60) == wide.len() as u64),
     ];
@@ -216,23 +217,28 @@ fn wrong_calls(load: &[Row], objects: &[Row]) -> Vec<String> {
         ("debug", format!("{:?}", hunk::read(&symbol).unwrap().symbols()[0]).ends_with(", value: 0, name: b\"_m\" }")),
         ("meaning", hunk::read(&one[..9]).unwrap_err().meaning.len() > "Truncated".len()),
         ("bases", hunk::load(&two, &[0x10000, 0x20000], BUDGET).unwrap()[0] == bytes_of("4ef9000200044e71")),
-        ("no base", text(hunk::load(&two, &[0x10000], BUDGET).map(|it| it.len())) == "refused at byte 28: NoBase (29) hunk 1"),
-        ("budget", text(hunk::load_packed(&one, 0, 3).map(|it| it.len())) == "refused at byte 20: Budget (27)"),
-        ("no room", text(hunk::load_into(&one, 0, &mut ram[..3])) == "refused at byte 24: NoRoom (32)"),
+        ("no base", text(hunk::load(&two, &[0x10000], BUDGET).map(|it| it.len()))
+            == "refused at byte 28: NoBase (29) hunk 1: a hunk has no base, or would pass the address 2^32"),
+        ("budget", text(hunk::load_packed(&one, 0, 3).map(|it| it.len()))
+            == "refused at byte 20: Budget (27): the hunks declare more bytes than the budget allows"),
+        ("no room", text(hunk::load_into(&one, 0, &mut ram[..3]))
+            == "refused at byte 24: NoRoom (32): the array of the caller has too few elements"),
         ("refused memory", ram == [0xAA; 8]),
         ("into", load_ram(&symbol, 2, &mut ram, &mut names) == Ok(4)),
         ("names", names == [(0, &b"_m"[..])]),
         ("memory", ram[2..6] == code && ram[..2] == [0xAA; 2] && ram[6..] == [0xAA; 2]),
         ("places", places == Ok(12) && apart[..] == bytes_of("aa12345678aaaaaaaaaaaaaa4ef9000100054e71aaaaaaaa")),
         ("overlap", overlap == Ok(12)),
-        ("no place", text(no_place) == "refused at byte 28: NoBase (29) hunk 0"),
+        ("no place", text(no_place)
+            == "refused at byte 28: NoBase (29) hunk 0: a hunk has no base, or would pass the address 2^32"),
         ("warnings", matches!(odd.warnings()[..], [Warning { place: 52, kind: WarningKind::OddOffset, offset: 1, .. }])),
         ("no warnings", read.warnings().is_empty() && hunk::read(&object).unwrap().warnings().is_empty()),
         ("warnings of a front", Front::of(&odd_file).unwrap().read().unwrap().warnings().is_empty()),
         ("parts", hunk::parts(&symbol).unwrap().iter().map(|it| it.kind as u32).eq([1, 3, 3, 5, 3])),
         ("a part", hunk::parts(&symbol).unwrap()[3].content[..] == *b"_m\0\0"),
         ("a group", hunk::parts(&two).unwrap()[3].offsets == [2]),
-        ("no parts", text(hunk::parts(&one[..9]).map(|it| it.len())) == "refused at byte 8: Truncated (26)"),
+        ("no parts", text(hunk::parts(&one[..9]).map(|it| it.len()))
+            == "refused at byte 8: Truncated (26): the input ends too soon"),
         ("findings", hunk::check(&findings) == Ok(vec![finding(32, Fault::BadTarget), finding(32, Fault::OutsideHunk)])),
     ];
     checks.iter().filter(|(_, holds)| !holds).map(|(name, _)| format!("{name}: another answer")).collect()
@@ -254,9 +260,11 @@ fn wrong_builds(rows: &[Row]) -> Vec<String> {
     let checks = [
         ("files that are built", all.count() > 5),
         ("filled up", hunk::build(&group(&[4])).unwrap()[32..40] == [0; 8]),
-        ("an offset", text(&group(&[4, 5])) == "part 3 refused at byte 56: BadOffset (24)"),
-        ("no part", text(&[]) == "part 0 refused at byte 0: Truncated (26)"),
-        ("a part elsewhere", text(&[entry.clone()]) == "part 0 refused at byte 0: Strange (33)"),
+        ("an offset", text(&group(&[4, 5]))
+            == "part 3 refused at byte 56: BadOffset (24): a relocated longword runs past the end of its hunk"),
+        ("no part", text(&[]) == "part 0 refused at byte 0: Truncated (26): the input ends too soon"),
+        ("a part elsewhere", text(&[entry.clone()])
+            == "part 0 refused at byte 0: Strange (33): the numbers are none of a loader or of parts, or do not fit"),
         ("its meaning", hunk::build(&[entry]).unwrap_err().error.meaning == "no file has such a part there"),
         ("attributes", (fast.word, fast.value) == (0xC000_0001, 7)),
         ("names", Part::symbol(b"", 0).content.len() == 4 && Part::entry(EntryKind::REF8, b"", 0, &[]).content.is_empty()),

@@ -15,29 +15,36 @@ and at which byte; `hunk.read` with `partial=True` gives what stands before it. 
 The module `hunk.stream`, to import by itself, loads a file that comes piece by piece. `hunk.library` says which library is taken.
 """
 
-from hunk.building import BuildError, Part, build, parts
-from hunk.editing import Edit, EditError
-from hunk.library import HunkError
-from hunk.loading import BUDGET, load, load_at, table
-from hunk.reading import File, check, read
-from hunk.lists import Rows
-from hunk.rows import (
-    Block,
-    Data,
-    Entry,
-    EntryKind,
-    Finding,
-    Flags,
-    Hunk,
-    Kind,
-    Reference,
-    Relocation,
-    Spelling,
-    Symbol,
-    Unit,
-    Warning,
-)
-from hunk.spellings import input_place, plain, spelling, strip
+from __future__ import annotations
+
+import importlib
+from typing import TYPE_CHECKING, Any, List
+
+if TYPE_CHECKING:
+    from hunk.building import BuildError, Part, build, parts
+    from hunk.editing import Edit, EditError
+    from hunk.errors import HunkError
+    from hunk.loading import load, load_at, table
+    from hunk.reading import File, check, read
+    from hunk.lists import Rows
+    from hunk.rows import (
+        BUDGET,
+        Block,
+        Data,
+        Entry,
+        EntryKind,
+        Finding,
+        Flags,
+        Hunk,
+        Kind,
+        Reference,
+        Relocation,
+        Spelling,
+        Symbol,
+        Unit,
+        Warning,
+    )
+    from hunk.spellings import input_place, plain, spelling, strip
 
 __version__ = "0.2.0"
 __all__ = [
@@ -75,3 +82,46 @@ __all__ = [
     "strip",
     "table",
 ]
+
+# Where the names stand: a module is imported when the first of its names is asked for. So what needs no library does without it.
+_NAMES = {
+    "building": ("BuildError", "Part", "build", "parts"),
+    "editing": ("Edit", "EditError"),
+    "errors": ("HunkError",),
+    "lists": ("Rows",),
+    "loading": ("load", "load_at", "table"),
+    "reading": ("File", "check", "read"),
+    "rows": (
+        "BUDGET",
+        "Block",
+        "Data",
+        "Entry",
+        "EntryKind",
+        "Finding",
+        "Flags",
+        "Hunk",
+        "Kind",
+        "Reference",
+        "Relocation",
+        "Spelling",
+        "Symbol",
+        "Unit",
+        "Warning",
+    ),
+    "spellings": ("input_place", "plain", "spelling", "strip"),
+}
+_PLACES = {name: module for module, names in _NAMES.items() for name in names}
+
+
+def __getattr__(name: str) -> Any:
+    """Imports the module of a name, or the module that is asked for."""
+    if name in (*_NAMES, "library"):
+        return importlib.import_module(f"hunk.{name}")
+    if name not in _PLACES:
+        raise AttributeError(f"module 'hunk' has no attribute {name!r}")
+    value = globals()[name] = getattr(importlib.import_module(f"hunk.{_PLACES[name]}"), name)
+    return value
+
+
+def __dir__() -> List[str]:
+    return sorted({*globals(), *_NAMES, *__all__})

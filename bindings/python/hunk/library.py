@@ -12,26 +12,14 @@ import sys
 from ctypes import c_char_p, c_uint8, c_uint32, c_uint64, c_void_p
 from typing import Any, Callable, Optional, Union
 
+from hunk.errors import HunkError
 from hunk.rows import Data
 
 # The number of the interface, which the names of shared libraries have where a system has several side by side.
 ABI = 1
 NAME = {"win32": "hunk.dll", "darwin": f"libhunk.{ABI}.dylib"}.get(sys.platform, f"libhunk.so.{ABI}")
+REMEDY = "In a clone `./build library` and then packaging/install.sh make the library; a wheel has it; LIBHUNK may name one"
 OK, TRUNCATED, NO_BASE, NO_ROOM = 0, 26, 29, 32
-
-
-class HunkError(ValueError):
-    """Says that the bytes are refused: `reason` by its name, `number` by its number, at the byte `place`.
-
-    `hunk` is the hunk without a base where the reason is NoBase, else None. `meaning` is the reason in a sentence."""
-
-    def __init__(self, reason: str, number: int, place: int, hunk: Optional[int] = None, meaning: str = "") -> None:
-        super().__init__(reason, number, place, hunk, meaning)
-        self.reason, self.number, self.place, self.hunk, self.meaning = reason, number, place, hunk, meaning
-
-    def __str__(self) -> str:
-        which = "" if self.hunk is None else f" hunk {self.hunk}"
-        return f"refused at byte {self.place}: {self.reason} ({self.number}){which}"
 
 
 class _Answer(ctypes.Structure):
@@ -62,9 +50,9 @@ def opened(path: str) -> ctypes.CDLL:
         library.hunk_abi.restype, library.hunk_abi.argtypes = c_uint32, ()
         number = library.hunk_abi()
     except (OSError, AttributeError) as error:
-        raise ImportError(f"no libhunk for the package hunk: {error}. LIBHUNK may name one") from error
+        raise ImportError(f"{error}. {REMEDY}", name="libhunk") from error
     if number != ABI:
-        raise ImportError(f"{path} has the interface {number}, and the package hunk is written for {ABI}")
+        raise ImportError(f"{path} has the interface {number}, and the package hunk is written for {ABI}", name="libhunk")
     return library
 
 
@@ -106,7 +94,9 @@ def accepted(answer: Any) -> Any:
 
 
 def bytes_of(data: Data) -> bytes:
-    """The bytes of a bytes-like object. What `bytes` would make of a number or a list is a TypeError."""
+    """The bytes of a bytes-like object. A number or a list is a TypeError, and so is a name of a file."""
+    if isinstance(data, (str, os.PathLike)):
+        raise TypeError(f"bytes are wanted, not a {type(data).__name__}; those of a file are pathlib.Path(NAME).read_bytes()")
     return data if isinstance(data, bytes) else memoryview(data).tobytes()
 
 

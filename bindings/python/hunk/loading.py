@@ -6,11 +6,9 @@ from ctypes import c_uint8, c_uint32, c_uint64
 from typing import Any, Sequence, Union
 
 from hunk.library import BYTES, FEW, NO_ROOM, ROOM, accepted, address_of, bytes_of, call, number_of, room
-from hunk.rows import MEMORY, Data, Hunk, row_of
+from hunk.rows import BUDGET, MEMORY, Data, Hunk, row_of
 from hunk.spellings import by_plain
 
-# The most bytes that the hunks of a file may have in memory together, where a caller does not say.
-BUDGET = 1 << 24
 # So many longwords has a row of hunk.h.
 ROW = 4
 _Few = c_uint32 * (ROW * FEW)

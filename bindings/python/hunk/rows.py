@@ -5,6 +5,8 @@ import enum
 from typing import Any, NamedTuple, Optional, Sequence, Union
 
 Data = Union[bytes, bytearray, memoryview]
+# The most bytes that the hunks of a file may have in memory together, where a caller does not say.
+BUDGET = 1 << 24
 # The row of a class and its fields, some four times as quick as by the name of the class.
 row_of: Any = tuple.__new__
 # How the library numbers what a hunk asks for, and what is wrong with an offset.

@@ -13,8 +13,8 @@ from ctypes import c_uint32, c_uint64, c_void_p
 from typing import Any, BinaryIO
 
 from hunk.library import BYTES, NO_BASE, NO_ROOM, ROOM, TRUNCATED, accepted, address_of, bytes_of, call, number_of, refusal, room
-from hunk.loading import BUDGET, ROW, header_of, read_header, segments_of
-from hunk.rows import Data
+from hunk.loading import ROW, header_of, read_header, segments_of
+from hunk.rows import BUDGET, Data
 
 _LOADER_WORDS = 96 // 8
 # The most bytes that a stream is asked for at once: a file may declare more than a machine can address.

@@ -12,7 +12,7 @@ use std::{error, fmt};
 ///
 /// let error = hunk::build(&[Part::hunk(1, Memory::Any), Part::end()]).unwrap_err();
 /// assert_eq!((error.row, error.error.reason.as_str()), (1, "NoContent"));
-/// assert_eq!(error.to_string(), "part 1 refused at byte 24: NoContent (19)");
+/// assert_eq!(error.to_string(), "part 1 refused at byte 24: NoContent (19): a hunk ends without a CODE, DATA or BSS block");
 /// ```
 #[derive(Clone, Debug, PartialEq, Eq)]
 pub struct BuildError {

@@ -8,8 +8,7 @@ use std::{error, fmt};
 /// ```
 /// let error = hunk::read(b"MZ").unwrap_err();
 /// assert_eq!((error.reason.as_str(), error.number, error.place), ("Truncated", 26, 0));
-/// assert_eq!(error.to_string(), "refused at byte 0: Truncated (26)");
-/// println!("byte {}: {}", error.place, error.meaning);
+/// assert_eq!(error.to_string(), "refused at byte 0: Truncated (26): the input ends too soon");
 /// ```
 #[derive(Clone, Debug, PartialEq, Eq)]
 pub struct Error {
@@ -28,10 +27,10 @@ pub struct Error {
 impl fmt::Display for Error {
     fn fmt(&self, f: &mut fmt::Formatter<'_>) -> fmt::Result {
         write!(f, "refused at byte {}: {} ({})", self.place, self.reason, self.number)?;
-        match self.hunk {
-            Some(hunk) => write!(f, " hunk {hunk}"),
-            None => Ok(()),
+        if let Some(hunk) = self.hunk {
+            write!(f, " hunk {hunk}")?;
         }
+        write!(f, ": {}", self.meaning)
     }
 }
 

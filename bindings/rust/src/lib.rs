@@ -25,7 +25,7 @@
 //!
 //! // What is refused says why, and at which byte.
 //! let error = hunk::read(&data[..34]).unwrap_err();
-//! assert_eq!(error.to_string(), "refused at byte 32: Truncated (26)");
+//! assert_eq!(error.to_string(), "refused at byte 32: Truncated (26): the input ends too soon");
 //! # Ok::<(), hunk::Error>(())
 //! ```
 //!

@@ -4,9 +4,9 @@
     hunk explain REASON..
 
 Each command is a module beside this one, with its name, its help, its arguments and its run, which answers the status: 0 where
-all is well, 1 where a file was refused or could not be read (the others are done), 2 of a command line that is refused, 3 where
-nothing more can be written, 130 of ^C, and 141 where nobody reads any more of what is printed. The module of a command is imported
-when that is called, so that no other takes time to begin.
+all is well, 1 where a file was refused or could not be read (the others are done), 2 of a command line that is refused or where
+the library is not there, 3 where nothing more can be written, 130 of ^C, and 141 where nobody reads any more of what is printed.
+The module of a command is imported when that is called, so that no other takes time to begin.
 """
 
 from __future__ import annotations
@@ -31,7 +31,9 @@ NAMES = tuple(name for _, names in GROUPS for name in names)
 # The modules that have another name than their command.
 MODULES = {"json": "documents", "map": "picture", "diff": "differences"}
 COMPLETIONS = {"bash": "hunk.bash", "zsh": "_hunk", "fish": "hunk.fish"}
-NOT_READ, CANNOT_WRITE, INTERRUPTED, NOBODY_READS = 1, 3, 130, 141
+NOT_READ, NO_LIBRARY, CANNOT_WRITE, INTERRUPTED, NOBODY_READS = 1, 2, 3, 130, 141
+# The name in an ImportError where the library is not there.
+LIBRARY = "libhunk"
 
 USAGE = "hunk [-h] [--version] [--completions SHELL] COMMAND .."
 DESCRIPTION = "Tells what stands in hunk files of AmigaDOS, executables and object files, and makes other files of them."
@@ -47,7 +49,8 @@ Exit status:
   0    done
   1    a file was refused or could not be read; of validate also: it has findings; of diff: the files differ;
        of same: nothing is the same; of lint: something was told; of find: nothing was found
-  2    the command line was refused; of diff, same and lint: a file was refused or could not be read
+  2    the command line was refused, or the library is not there; of diff, same and lint: a file was refused or could
+       not be read
   3    writing failed
   130  interrupted
   141  what reads the output has ended, as with | head"""
@@ -121,6 +124,11 @@ def run(words: Sequence[str]) -> int:
     except SystemExit as ended:
         # Help was printed, or what is wrong with the words.
         status = ended.code
+    except ImportError as error:
+        if error.name != LIBRARY:
+            raise
+        print(f"hunk: {error}", file=sys.stderr)
+        status = NO_LIBRARY
     except MemoryError as error:
         print(f"hunk: {inputs.explained(inputs.alone(error))}", file=sys.stderr)
         status = NOT_READ

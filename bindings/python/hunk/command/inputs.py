@@ -1,6 +1,8 @@
 """What a command line names: files, folders with their subfolders, and standard input as `-`. What can't be read or is refused is
 told on standard error, a line each, and the others go on."""
 
+from __future__ import annotations
+
 import argparse
 import contextlib
 import errno

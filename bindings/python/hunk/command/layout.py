@@ -1,5 +1,7 @@
 """Where the hunks of a file lie, what is in them, and which names stand where."""
 
+from __future__ import annotations
+
 import itertools
 from typing import Dict, Iterator, List, NamedTuple, Tuple, Union
 
