@@ -173,14 +173,15 @@ def block_lines(data):
     return lines
 
 
-def raises_type_error(call, data):
+def type_error(call, data):
+    """What the TypeError says that is raised, or nothing where none is."""
     try:
         call(data)
-    except TypeError:
-        return True
+    except TypeError as error:
+        return str(error)
     except hunk.HunkError:
         pass
-    return False
+    return ""
 
 
 class Narrow(io.BytesIO):
@@ -327,8 +328,12 @@ def wrong_calls(texts):
         yield "an array that no machine can address: no MemoryError is raised"
     calls = (hunk.table, hunk.load, hunk.check, hunk.strip, hunk.read, hunk.spelling, hunk.plain)
     for call, data in itertools.product(calls, (5, list(one), "text")):
-        if not raises_type_error(call, data):
+        if not type_error(call, data):
             yield f"{call.__name__} of {data}: no TypeError is raised"
+    for data, name in (("prog", "str"), (pathlib.PurePosixPath("prog"), "PurePosixPath")):
+        wanted = f"bytes are wanted, not a {name}; those of a file are pathlib.Path(NAME).read_bytes()"
+        if type_error(hunk.read, data) != wanted:
+            yield f"read of {data!r}: the TypeError does not say: {wanted}"
 
 
 def main(words):

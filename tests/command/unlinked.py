@@ -7,17 +7,17 @@ import sys
 import building
 import files
 from compared import same
-from hunk import command
 
 NOWHERE = "/nowhere/libhunk.so"
 SAID = (f"hunk: {NOWHERE}: cannot open shared object file: No such file or directory. In a clone `./build library` and then "
         "packaging/install.sh make the library; a wheel has it; LIBHUNK may name one\n")
 # Words for each command that needs the library.
 CALLED = {
-    **{it: [it, "sum"] for it in ("show", "size", "nm", "relocs", "dump", "json", "map", "validate", "lint", "survey", "find", "relocate")},
+    **{it: [it, "sum"] for it in ("show", "size", "nm", "relocs", "dump", "json", "map")},
+    **{it: [it, "sum"] for it in ("validate", "lint", "survey", "find")},
     **{it: [it, "sum", "symbol"] for it in ("diff", "same")},
-    "strip": ["strip", "sum", "out"], "convert": ["convert", "--to", "elf", "sum", "out"], "edit": ["edit", "sum", "out"],
-    "build": ["build", "parts.json", "out"],
+    "relocate": ["relocate", "--base", "1000", "sum"], "strip": ["strip", "sum", "unmade"], "convert": ["convert", "--to", "elf", "sum", "unmade"], "edit": ["edit", "sum", "unmade"],
+    "build": ["build", "parts.json", "unmade"],
 }
 
 
@@ -29,11 +29,13 @@ def without(words, home):
 
 
 def tried(home):
+    from hunk import command
+
     same("commands that need the library", {*CALLED, "explain"}, {*command.NAMES})
     (home / "parts.json").write_text(json.dumps({"parts": building.PROGRAM}), encoding="utf-8")
     for name, words in CALLED.items():
         _, said, status = without(["-m", "hunk", *words], home)
-        same(f"without a library: {' '.join(words)}", (said, status, (home / "out").exists()), (SAID, 2, False))
+        same(f"without a library: {' '.join(words)}", (said, status, (home / "unmade").exists()), (SAID, 2, False))
     for words in (["--help"], ["--version"], ["explain", "Budget"], ["dump", "--help"], ["--completions", "bash"]):
         same(f"without a library: {' '.join(words)}", without(["-m", "hunk", *words], home), files.hunk(*words, folder=home))
     line = SAID.replace("hunk: ", "ImportError: ", 1)

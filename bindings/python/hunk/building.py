@@ -7,7 +7,8 @@ from functools import lru_cache
 from itertools import accumulate
 from typing import Any, NamedTuple, Sequence, Tuple
 
-from hunk.library import BYTES, OK, ROOM, HunkError, address_of, bytes_of, call, number_of, refusal, room, rows_of
+from hunk.errors import HunkError
+from hunk.library import BYTES, OK, ROOM, address_of, bytes_of, call, number_of, refusal, room, rows_of
 from hunk.rows import MEMORY, Data
 
 _parts = call("hunk_parts", *BYTES, *ROOM)

@@ -6,7 +6,8 @@ import bisect
 from functools import cached_property
 from typing import Any, Optional, Type, TypeVar
 
-from hunk.library import BYTES, NO_ROOM, ROOM, HunkError, accepted, address_of, bytes_of, call, room, rows_of
+from hunk.errors import HunkError
+from hunk.library import BYTES, NO_ROOM, ROOM, accepted, address_of, bytes_of, call, room, rows_of
 from hunk.lists import KINDS, Blocks, Entries, Findings, References, Relocations, Rows, Symbols, Units, Warnings
 from hunk.loading import table
 from hunk.rows import (

@@ -6,7 +6,8 @@ import ctypes
 from ctypes import c_uint64
 from typing import Callable, TypeVar
 
-from hunk.library import BYTES, ROOM, HunkError, accepted, address_of, bytes_of, call, number_of, room
+from hunk.errors import HunkError
+from hunk.library import BYTES, ROOM, accepted, address_of, bytes_of, call, number_of, room
 from hunk.rows import Data, Spelling
 
 
