@@ -264,7 +264,7 @@ fn wrong_builds(rows: &[Row]) -> Vec<String> {
             == "part 3 refused at byte 56: BadOffset (24): a relocated longword runs past the end of its hunk"),
         ("no part", text(&[]) == "part 0 refused at byte 0: Truncated (26): the input ends too soon"),
         ("a part elsewhere", text(&[entry.clone()])
-            == "part 0 refused at byte 0: Strange (33): the numbers are none of a loader or of parts, or do not fit"),
+            == "part 0 refused at byte 0: Strange (33): no file has such a part there"),
         ("its meaning", hunk::build(&[entry]).unwrap_err().error.meaning == "no file has such a part there"),
         ("attributes", (fast.word, fast.value) == (0xC000_0001, 7)),
         ("names", Part::symbol(b"", 0).content.len() == 4 && Part::entry(EntryKind::REF8, b"", 0, &[]).content.is_empty()),
