@@ -27,6 +27,9 @@ use std::convert::AsStr;
 /// The segment bytes that `relocate` may hold where the command line does not say.
 const DEFAULT_BUDGET: u64 = 16_777_216;
 
+/// What follows the text of clap where a word is no command.
+const SHOW_TIP: &str = "To list a file, try 'hunkinfo show FILE'.\n";
+
 /// The words that stand for none.
 static STORED: [&str; 5] = ["hunkinfo", "relocate", "--hex", "--base", "00000000"];
 
@@ -81,7 +84,7 @@ fn relocate_order(alloc: Global, found: &ArgMatches<'_>) -> Result<Order, OrderF
 {
     let hex = text_of(found, "base").unwrap_or("");
     let Some(base) = base_of(hex) else {
-        let wanted = "eight hexadecimal digits are wanted";
+        let wanted = "eight hexadecimal digits are wanted, without 0x, as 00021000";
         return Err(unwanted(alloc, hex, "--base <HEX>", wanted));
     };
     let budget = match text_of(found, "budget") {
@@ -122,7 +125,7 @@ fn rewrite_order(alloc: Global, found: &ArgMatches<'_>) -> Result<Order, OrderFa
 }
 
 /// What an error of clap means: the help or the version that was asked for, out of memory, or no
-/// order.
+/// order. A word that is no command may well be a file, so the text says how one is listed.
 fn fault_of(alloc: Global, error: &Error) -> OrderFault
     ensures memory { kind_of error.now ≡ ErrorKind.OutOfMemory → result ≡ Memory }
     ensures asked { IsHelp result → kind_of error.now ≡ ErrorKind.DisplayHelp }
@@ -134,6 +137,7 @@ fn fault_of(alloc: Global, error: &Error) -> OrderFault
         ErrorKind::DisplayHelp => told(format!(in alloc; "{error}"), true),
         ErrorKind::DisplayVersion => OrderFault::Version,
         ErrorKind::OutOfMemory => OrderFault::Memory,
+        ErrorKind::InvalidSubcommand => told(format!(in alloc; "{error}{SHOW_TIP}"), false),
         _ => told(format!(in alloc; "{error}"), false),
     }
 }

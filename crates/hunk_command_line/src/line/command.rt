@@ -24,6 +24,9 @@ With --wide a file is read as its plain spelling: blocks of relocations with
 16-bit words count as RELOC32, and an END that is left out before the next
 hunk, or at the end, is put in. Standard error says how much was spelled so.
 
+The command hunk, of the Python package, reads many files, warns of programs
+that may crash, and converts programs to ELF and other formats.
+
 Limits:
   The input: fewer than 67108864 bytes (64 MiB); for relocate, and as text of
   --hex, at most 67108864.
@@ -189,7 +192,7 @@ fn relocate<'a>(alloc: Global) -> Result<Command<'a>, AllocError>
     ensures { IfOk result (spec.IsCommand spec.relocate_command) }
 {
     let about = "Loads a load file at an address, and prints the bytes of its hunks";
-    let base = "The address of the first hunk: exactly eight hexadecimal digits";
+    let base = "The address of the first hunk: eight hexadecimal digits without 0x, as 00021000";
     let budget = "The most bytes that the hunks may have together, in decimal [default: 16777216]";
     let command = reading_command(alloc, "relocate", about, AFTER_RELOCATE);
     let command = with_argument(command, mandatory(option(alloc, "base", "HEX", base)));
