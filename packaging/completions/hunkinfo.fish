@@ -14,7 +14,7 @@ complete -c hunkinfo -n '__fish_seen_subcommand_from validate' -l wide -d 'Read 
 complete -c hunkinfo -n '__fish_seen_subcommand_from validate' -s h -l help -d 'Print help'
 complete -c hunkinfo -n '__fish_seen_subcommand_from relocate' -l hex -d 'The input is hexadecimal text; spaces, tabs and line ends in it are ignored'
 complete -c hunkinfo -n '__fish_seen_subcommand_from relocate' -l wide -d 'Read short relocations, and hunks whose END is left out, as their plain spelling'
-complete -c hunkinfo -n '__fish_seen_subcommand_from relocate' -l base -x -d 'The address of the first hunk: exactly eight hexadecimal digits'
+complete -c hunkinfo -n '__fish_seen_subcommand_from relocate' -l base -x -d 'The address of the first hunk: eight hexadecimal digits without 0x, as 00021000'
 complete -c hunkinfo -n '__fish_seen_subcommand_from relocate' -l budget -x -d 'The most bytes that the hunks may have together, in decimal [default: 16777216]'
 complete -c hunkinfo -n '__fish_seen_subcommand_from relocate' -s h -l help -d 'Print help'
 complete -c hunkinfo -n '__fish_seen_subcommand_from rewrite' -l strip -d 'Leave out names, symbols, debug data and advisory blocks'

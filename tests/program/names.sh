@@ -34,7 +34,7 @@ END
 hex text refused
 END
   runs first rewrite first "missing/$1"
-  wants "a name that is shown as $2: not made" 3 "missing/$2: $not_there: the first 0 bytes of it are written" << END
+  wants "a name that is shown as $2: not made" 3 "missing/$2: $not_there: nothing was written" << END
 writing failed after 0 bytes
 END
   rm "$1"
@@ -47,7 +47,8 @@ named "$slash" "$slash_shown"
 named "$text" "$text"
 # A word that is no order is said in a text of several lines, whose ends stay.
 runs first relocate --base "$bell$c1$slash"
+wants_digits='eight hexadecimal digits are wanted, without 0x, as 00021000'
 wants 'a word with control characters' 2 \
-  "error: invalid value '$bell_shown$c1_shown$slash_shown' for '--base <HEX>': eight hexadecimal digits are wanted$try_help" << END
+  "error: invalid value '$bell_shown$c1_shown$slash_shown' for '--base <HEX>': $wants_digits$try_help" << END
 command line refused
 END

@@ -17,9 +17,19 @@ reading failed at byte 0
 END
 same 'OUT where IN is a folder' out old
 runs second rewrite first /dev/full
-wants 'a full disk' 3 '/dev/full: No space left on device (os error 28): the first 0 bytes of it are written' << END
+wants 'a full disk' 3 '/dev/full: No space left on device (os error 28): nothing was written' << END
 writing failed after 0 bytes
 END
+runs second rewrite first folder
+wants 'a folder as OUT' 3 'folder: Is a directory (os error 21): nothing was written' << END
+writing failed after 0 bytes
+END
+# A file that was opened is empty where it takes nothing.
+cp old out
+(trap '' XFSZ; ulimit -f 0; exec "$program" rewrite first out 2>&1) | cat > printed
+printf '%s\n' 'writing failed after 0 bytes' 'hunkinfo: out: File too large (os error 27): nothing was written' > both
+same 'an OUT that takes nothing' printed both
+same 'what such an OUT has' out /dev/null
 # A pipe has nothing to keep, which is no failure; nor has a terminal or /dev/null.
 mkfifo pipe
 timeout 60 cat pipe > out &
@@ -48,7 +58,7 @@ fi
 
 # ---- standard output as OUT: a file is not written to twice, and anything else is
 
-taken='standard output goes there: the first 0 bytes of it are written'
+taken='standard output goes there: nothing was written'
 ln -s mixed linked
 for name in /dev/stdout /dev/fd/1 /proc/self/fd/1 mixed linked; do
   "$program" rewrite first "$name" > mixed 2> complained; status=$?
@@ -83,7 +93,7 @@ done
 
 # ---- standard error as OUT: what is said there never takes the place of what is written
 
-heard='standard error goes there: the first 0 bytes of it are written'
+heard='standard error goes there: nothing was written'
 rm -f linked
 : > mixed
 ln -s mixed linked

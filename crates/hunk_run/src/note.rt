@@ -290,7 +290,8 @@ fn write_reading<W: fmt::Write>(
 }
 
 /// Writes that an output was not written: what the system says and how much was written, where
-/// that is known.
+/// that is known. Where that is nothing, a file that could be made is empty, and no other was
+/// touched.
 fn write_writing<W: fmt::Write>(
     f: &mut fmt::Formatter<W>,
     name: &Option<FileName>,
@@ -303,6 +304,10 @@ fn write_writing<W: fmt::Write>(
 {
     let name = Named(name, "standard output");
     match cause {
+        Some(error) if written == 0 => write!(
+            f,
+            "hunkinfo: {name}: {error}: nothing was written\n"
+        ),
         Some(error) => write!(
             f,
             "hunkinfo: {name}: {error}: the first {written} bytes of it are written\n"

@@ -32,15 +32,19 @@ impl fmt::Display for Verdict {
     }
 }
 
-/// What may help with a refusal. Of a type of block that is not known: which are PowerPC code. Where
-/// the order has no such flag, what `--wide` can do: about short relocations of any file, and about
-/// an END that may be missing in a hunk of a load file.
+/// What may help with a refusal. Of a type of block that is not known: which are PowerPC code. Of an
+/// input that ends at its start: how few bytes it has. Where the order has no such flag, what
+/// `--wide` can do: about short relocations of any file, and about an END that may be missing in a
+/// hunk of a load file.
 pub(crate) fn hint(refusal: Refusal, wide: bool) -> &'static str
     ensures { result.now ≡ hint_of refusal wide }
 {
     match (refusal.part, refusal.fault.reason) {
         (_, Reason::UnknownBlock) => {
             "; if it is 4E9 or 4EA, this is a program with PowerPC code, which is not supported"
+        }
+        (_, Reason::Truncated) if refusal.fault.place == 0 => {
+            "; it is empty, or has fewer than 4 bytes"
         }
         _ if wide => "",
         (_, Reason::ShortReloc) => "; --wide reads such blocks",
