@@ -66,20 +66,23 @@ judged class (Some part) meaning = words_of_class class ++ (codes " in " ++ (par
 abbrev pub verdict_line : Verdict → List ℕ
 verdict_line verdict = judged (class_of verdict.refusal) verdict.part (meaning_of verdict.refusal.reason)
 
--- What may help with an input that ends too soon: where it does so at its start, how few bytes it has; and where the order has no such flag, what `--wide` can do
--- where the last END may be missing in a hunk of a load file.
-abbrev pub end_hint : Bool → Part → ℕ → List ℕ
-end_hint false (parts.Hunk number) place =
-    if place == 0 then codes "; it is empty, or has fewer than 4 bytes" else codes "; --wide reads it, if only the last END is missing"
-end_hint _ _ place = if place == 0 then codes "; it is empty, or has fewer than 4 bytes" else []
+-- What may help with an input that ends too soon, where the order has no such flag: `--wide` reads a load file in whose
+-- last hunk only the END may be missing.
+abbrev pub end_hint : Bool → Part → List ℕ
+end_hint false (parts.Hunk number) = codes "; --wide reads it, if only the last END is missing"
+end_hint _ _ = []
 
--- What may help with a refusal for this reason: which types are PowerPC code; how few bytes it has; and where the order has no such flag, what `--wide` can do, in
--- any file, and where an END may be missing in a hunk of a load file.
+-- What may help with a refusal for this reason at this place: which types are PowerPC code; of an input that ends at its
+-- start, how few bytes it has; and where the order has no such flag, what `--wide` can do, in any file, and where an END
+-- may be missing in a hunk of a load file.
 abbrev pub hint_in : Bool → Part → Reason → ℕ → List ℕ
-hint_in wide part reasons.UnknownBlock place = codes "; if it is 4E9 or 4EA, this is a program with PowerPC code, which is not supported"
-hint_in wide part reasons.Truncated place = end_hint wide part place
+hint_in wide part reasons.UnknownBlock place =
+    codes "; if it is 4E9 or 4EA, this is a program with PowerPC code, which is not supported"
+hint_in wide part reasons.Truncated place =
+    if place == 0 then codes "; it is empty, or has fewer than 4 bytes" else end_hint wide part
 hint_in false part reasons.ShortReloc place = codes "; --wide reads such blocks"
-hint_in false (parts.Hunk number) reasons.SecondContent place = codes "; --wide reads it, if only the END before it is missing"
+hint_in false (parts.Hunk number) reasons.SecondContent place =
+    codes "; --wide reads it, if only the END before it is missing"
 hint_in _ _ _ _ = []
 
 abbrev pub hint_of : Refusal → Bool → List ℕ
