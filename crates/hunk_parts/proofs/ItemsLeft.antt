@@ -5,10 +5,13 @@ use Rattle.std.proofs.lemmas.List.{length-append}
 use Rattle.hunk_blocks.specs.{Parts.block_text, Placed.Placed, Values.BlockValue}
 use Rattle.hunk_files.specs.Hunks.{block_texts}
 use Rattle.hunk_files.specs.InPlace.{GivesPart}
+use Rattle.hunk_files.specs.ItemViews.{GivesItem, item_seen}
 use Rattle.hunk_files.specs.Items.{ItemValue, UnitItem, HunkItem, BlockItem, blocks_items, hunks_items, item_text, units_items}
 use Rattle.hunk_files.specs.LoadFile.{HunkValue, TableEntry}
 use Rattle.hunk_files.specs.LoadText.{table}
 use Rattle.hunk_files.specs.ObjectFile.{ObjectHunk, UnitValue, unit_header, unit_text}
+use Rattle.hunk_files.specs.declared.items.Item.{Item}
+use Rattle.hunk_files.proofs.findings.FindingSteps.{TakenUpTo, taken_on}
 use Rattle.hunk_parts.specs.Listing.{in_turn}
 use Rattle.hunk_parts.specs.PartRows.{block_row, block_rows, blocks_rows, hunk_row, hunk_rows, items_rows, unit_row, unit_rows}
 use Rattle.hunk_parts.specs.declared.part_row.PartRow.{PartRow}
@@ -34,6 +37,17 @@ pub first_left : (entries : List TableEntry) (old new : Placed (List ItemValue))
 first_left entries old new item gives =
     ap (λ (p : Placed (List ItemValue)). rows_left entries p.place p.value) gives.0
     ∙ ap (λ (n : ℕ). own_rows entries item.place item.value ++ rows_left (entries_after entries item.value) n new.value) (sym gives.1)
+
+-- The rows of the next item are taken.
+pub item_taken : {S : Type 0} (Takes : S → List PartRow → S → Type 0) → ((a b c : S) (xs ys : List PartRow) → Takes a xs b → Takes b ys c → Takes a (xs ++ ys) c) →
+    (a b c : S) (entries : List TableEntry) (old new : Placed (List ItemValue)) (item value : Item) (rows all : List PartRow) →
+    item ≡ value → GivesItem old (Some item) new → rows ≡ own_rows entries (item_seen value).place (item_seen value).value →
+    TakenUpTo Takes a b (rows_left entries old.place old.value) all → Takes b rows c →
+    TakenUpTo Takes a c (rows_left (entries_after entries (item_seen value).value) new.place new.value) all
+item_taken Takes more a b c entries old new item value rows all is gives are before next =
+    let after = rows_left (entries_after entries (item_seen value).value) new.place new.value in
+    let first = first_left entries old new (item_seen value) (subst (λ (i : Item). GivesItem old (Some i) new) is gives) in
+    taken_on Takes more a b c rows after (rows_left entries old.place old.value) all (first ∙ ap (λ (xs : List PartRow). xs ++ after) (sym are)) before next
 
 -- A block is taken with its items.
 pub block_taken : {S : Type 0} (Takes : S → List PartRow → S → Type 0) → ((a b c : S) (xs ys : List PartRow) → Takes a xs b → Takes b ys c → Takes a (xs ++ ys) c) →

@@ -1,7 +1,7 @@
 -- The bytes of longwords, one after the other.
 use Rattle.std.proofs.Math.Seq.{take-append-add, take-append_seam}
 use Rattle.std.proofs.lemmas.List.{nil_from_length}
-use Rattle.std.proofs.Common.{append-nil, append_assoc, zero, suc, ◌≡◌, ◌+◌, ◌-◌, ◌%◌, ◌∷◌, ◌++◌, ℕ, List, [], length, length-append, take, drop, arith, ap, ◌∙◌, refl, sym, subst}
+use Rattle.std.proofs.Common.{append-nil, append_assoc, zero, suc, ◌≡◌, ◌<◌, ◌+◌, ◌-◌, ◌%◌, ◌∷◌, ◌++◌, ℕ, List, [], length, length-append, take, drop, arith, ap, ◌∙◌, refl, sym, subst}
 use Rattle.std.specs.Int.{to_be_bytes, w32, w64}
 use Rattle.hunk_words.specs.Longs.{IsBytes, bytes_of, longs}
 use Rattle.hunk_words.proofs.LongLaws.{bytes_of-append, bytes_of-nil, bytes_of-one, length-bytes_of, length-longs, spelled}
@@ -30,6 +30,18 @@ padded xs fit =
     let s = spelled (xs ++ zeros) (zeros_after xs fit) in
     let size : length words ≡ length xs + (3 - (length xs + 3) % 4) = omega (arith, length-bytes_of (longs (xs ++ zeros)), length-longs (xs ++ zeros), length-append xs zeros) in
     sym (take-append-add xs zeros (3 - (length xs + 3) % 4)) ∙ ap (λ (n : ℕ). take n (xs ++ zeros)) (sym size) ∙ ap (λ (ys : List ℕ). take (length words) ys) s.split ∙ take-append_seam words s.over
+
+-- the same, where one is begun
+pub padded_begun : (xs : List ℕ) → IsBytes xs → 0 < length xs % 4 → xs ++ take (4 - length xs % 4) (0 ∷ 0 ∷ 0 ∷ []) ≡ bytes_of (longs (xs ++ 0 ∷ 0 ∷ 0 ∷ []))
+padded_begun xs fit begun =
+    let same : 4 - length xs % 4 ≡ 3 - (length xs + 3) % 4 = omega (arith, begun) in
+    ap (λ (n : ℕ). xs ++ take n (0 ∷ 0 ∷ 0 ∷ [])) same ∙ padded xs fit
+
+-- and where none is
+pub padded_whole : (xs : List ℕ) → IsBytes xs → length xs % 4 ≡ 0 → xs ≡ bytes_of (longs (xs ++ 0 ∷ 0 ∷ 0 ∷ []))
+padded_whole xs fit four =
+    let none : 0 ≡ 3 - (length xs + 3) % 4 = omega (arith, four) in
+    sym (append-nil xs) ∙ ap (λ (n : ℕ). xs ++ take n (0 ∷ 0 ∷ 0 ∷ [])) none ∙ padded xs fit
 
 -- Whole longwords are their bytes.
 pub whole : (xs : List ℕ) → IsBytes xs → length xs % 4 ≡ 0 → xs ≡ bytes_of (longs xs)

@@ -9,7 +9,6 @@ use Rattle.hunk_words.specs.Bits.{entry_longs, kind}
 use Rattle.hunk_words.specs.Limits.{most_hunks}
 use Rattle.hunk_files.specs.LoadFile.{TableEntry}
 use Rattle.hunk_files.specs.LoadText.{entry_labelled, header_labelled}
-use Rattle.hunk_words.specs.Longs.{longs}
 use Rattle.hunk_words.specs.Carriers.{saturated}
 use Rattle.hunk_words.specs.declared.block_word.Kind.{Kind}
 use Rattle.hunk_grammar.specs.ExtKinds.{ext_shape}
@@ -19,7 +18,7 @@ use Rattle.hunk_grammar.specs.Roles.{Role}
 use Rattle.hunk_blocks.specs.Faults.{words}
 use Rattle.std.proofs.lemmas.List.{length-map}
 use Rattle.hunk_parts.specs.PartFaults.{PartPlace, Refusal, RowFault, block_longs, closing_bytes, first_place, is_hunk_row, list_after, next_fault, start, table_bytes, part_longs, refuse_row, row_fault, rows_fault, shape_longs, size_of_part, step_part, step_row}
-use Rattle.hunk_parts.specs.Parts.{FilePart, block_part, entry_part, group_part, part, run_at, seen, seen_by, symbol_part, unit_part}
+use Rattle.hunk_parts.specs.Parts.{FilePart, block_part, entry_part, group_part, part_of_bytes, run_at, seen, seen_by, symbol_part, unit_part}
 use Rattle.hunk_parts.specs.RowsText.{closing, hunk_entry, is_hunk, named_text, part_text, payload_text, row_part, rows_text, shape_text, text_from}
 use Rattle.hunk_parts.specs.declared.part_row.PartRow.{PartRow}
 
@@ -70,9 +69,9 @@ run_is bytes place count xs is =
     (λ more there. within (nat_lt (length bytes) (place + count)) _ xs there)
 
 seen_is : (r : PartRow) (a b : Option (List ℕ)) (q : FilePart) (xs ys : List ℕ) → seen_by r a b ≡ Some q → ((zs : List ℕ) → a ≡ Some zs → zs ≡ xs) → ((zs : List ℕ) → b ≡ Some zs → zs ≡ ys)
-    → part r.what r.word r.value (longs (xs ++ 0 ∷ 0 ∷ 0 ∷ [])) (longs ys) ≡ q
+    → part_of_bytes r.what r.word r.value xs ys ≡ q
 seen_is r (Some a) (Some b) q xs ys is content offsets =
-    ap₂ (λ (xs ys : List ℕ). part r.what r.word r.value (longs (xs ++ 0 ∷ 0 ∷ 0 ∷ [])) (longs ys)) (sym (content a refl)) (sym (offsets b refl)) ∙ same_Some _ _ is
+    ap₂ (λ (xs ys : List ℕ). part_of_bytes r.what r.word r.value xs ys) (sym (content a refl)) (sym (offsets b refl)) ∙ same_Some _ _ is
 seen_is r None b q xs ys is content offsets = absurd (none-some _ is)
 seen_is r (Some a) None q xs ys is content offsets = absurd (none-some _ is)
 

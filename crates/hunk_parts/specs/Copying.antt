@@ -1,4 +1,5 @@
--- What is written range by range, after what there was: bytes or rows.
+-- What is written range by range, after what there was: bytes or rows. The laws that a taker of ranges
+-- has to give stand here, too, as code can't cite what is in proofs/.
 use Rattle.std.specs.Prelude.{◌≡◌, ◌≤◌, ◌+◌, ◌-◌, ℕ, List, [], ◌++◌, length, take, drop}
 use Rattle.std.proofs.Common.{refl, sym, ap, ◌∙◌, append-nil, append_assoc, length-append, arith}
 use Rattle.std.proofs.lemmas.List.{drop-drop}

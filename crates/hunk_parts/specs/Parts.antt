@@ -114,10 +114,14 @@ abbrev pub run_at : List ℕ → ℕ → ℕ → Option (List ℕ)
 run_at bytes place count =
     if count == 0 then Some [] else if nat_lt (length bytes) (place + count) then None else Some (take count (drop place bytes))
 
--- what a row is, where its bytes are there: three zero bytes more make a longword of each begun one
+-- a part of these bytes: three zero bytes more make a longword of each begun one
+abbrev pub part_of_bytes : ℕ → ℕ → ℕ → List ℕ → List ℕ → FilePart
+part_of_bytes what word value content offsets =
+    part what word value (longs (content ++ 0 ∷ 0 ∷ 0 ∷ [])) (longs offsets)
+
+-- what a row is, where its bytes are there
 abbrev pub seen_by : PartRow → Option (List ℕ) → Option (List ℕ) → Option FilePart
-seen_by r (Some content) (Some offsets) =
-    Some (part r.what r.word r.value (longs (content ++ 0 ∷ 0 ∷ 0 ∷ [])) (longs offsets))
+seen_by r (Some content) (Some offsets) = Some (part_of_bytes r.what r.word r.value content offsets)
 seen_by r content offsets = None
 
 abbrev pub seen : List ℕ → PartRow → Option FilePart

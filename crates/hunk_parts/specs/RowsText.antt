@@ -4,7 +4,6 @@ use Rattle.std.specs.List.{filter}
 use Rattle.hunk_words.specs.Bits.{kind}
 use Rattle.hunk_words.specs.Carriers.{saturated}
 use Rattle.hunk_words.specs.Limits.{name_limit}
-use Rattle.hunk_words.specs.Longs.{longs}
 use Rattle.hunk_words.specs.declared.block_word.Kind.{Kind}
 use Rattle.hunk_words.specs.declared.block_word.Kind.TheVariants as kinds
 use Rattle.hunk_grammar.specs.ExtKinds.{ext_shape}
@@ -14,7 +13,7 @@ use Rattle.hunk_blocks.specs.Faults.{words}
 use Rattle.hunk_files.specs.LoadFile.{TableEntry}
 use Rattle.hunk_files.specs.LoadText.{header_labelled}
 use Rattle.hunk_files.specs.ObjectFile.{unit_header}
-use Rattle.hunk_parts.specs.Parts.{FilePart, block_part, entry_part, group_part, hunk_part, part, symbol_part, unit_part}
+use Rattle.hunk_parts.specs.Parts.{FilePart, block_part, entry_part, group_part, hunk_part, part_of_bytes, symbol_part, unit_part}
 use Rattle.hunk_parts.specs.PartFaults.{first_place, is_hunk_row, items_of, list_after}
 use Rattle.hunk_parts.specs.declared.part_row.PartRow.{PartRow}
 use Rattle.hunk_parts.specs.declared.row_fault.BuiltSize.{BuiltSize}
@@ -79,13 +78,12 @@ parts_text qs = header_of qs ++ text_from None qs
 
 -- the part that a row is with these bytes
 abbrev pub part_seen : SeenPart → FilePart
-part_seen s = part s.what s.word s.value (longs (s.content.now ++ 0 ∷ 0 ∷ 0 ∷ [])) (longs s.offsets.now)
+part_seen s = part_of_bytes s.what s.word s.value s.content.now s.offsets.now
 
 -- the part that a row is, where its bytes are there
 abbrev pub row_part : List ℕ → PartRow → FilePart
 row_part bytes r =
-    part r.what r.word r.value (longs (take r.content_bytes (drop r.content bytes) ++ 0 ∷ 0 ∷ 0 ∷ []))
-    (longs (take (4 * r.offset_count) (drop r.offsets bytes)))
+    part_of_bytes r.what r.word r.value (take r.content_bytes (drop r.content bytes)) (take (4 * r.offset_count) (drop r.offsets bytes))
 
 -- what the table has for rows
 abbrev pub row_entry : PartRow → TableEntry

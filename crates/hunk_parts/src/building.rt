@@ -1,5 +1,6 @@
 //! The file that rows spell, written.
-ghost use Rattle.std.specs.Prelude.{◌≡◌, ◌<◌, ◌≤◌, ◌*◌, ◌++◌, ℕ, IsFalse, IsTrue, None, Ok, drop, length};
+ghost use Rattle.std.specs.Prelude.{◌≡◌, ◌<◌, ◌≤◌, ◌*◌, ◌++◌, ℕ, IsFalse, IsTrue, None, Ok};
+ghost use Rattle.std.specs.Prelude.{drop, length};
 ghost use Rattle.hunk_words.specs.Carriers.{saturated};
 ghost use Rattle.hunk_words.specs.Longs.{bytes_of};
 ghost use Rattle.hunk_files.specs.HunkFile.{file_bytes};

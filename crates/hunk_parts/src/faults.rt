@@ -1,15 +1,17 @@
 //! The first row of which no file is made.
-ghost use Rattle.std.specs.Prelude.{◌≡◌, ◌<◌, ◌^◌, ◌≤◌, ◌*◌, IfErr, IfOk, None, OnErr, OnOk, Some, length};
+ghost use Rattle.std.specs.Prelude.{◌≡◌, ◌<◌, ◌^◌, ◌≤◌, ◌*◌, IfErr, IfOk, None, OnErr, OnOk};
+ghost use Rattle.std.specs.Prelude.{Some, length};
 ghost use Rattle.std.specs.List.{filter};
 ghost use Rattle.hunk_words.specs.Limits.{most_hunks};
 ghost use Rattle.hunk_words.specs.Longs.{longs};
 ghost use Rattle.hunk_parts.specs.PartFaults.{end_fault, fault_at, first_place, is_hunk_row, nth_hunk};
-ghost use Rattle.hunk_parts.specs.PartFaults.{refuse_far, refuse_offsets, row_fault, start, table_bytes, too_many_hunks};
+ghost use Rattle.hunk_parts.specs.PartFaults.{refuse_far, refuse_offsets, row_fault, start, table_bytes};
+ghost use Rattle.hunk_parts.specs.PartFaults.{too_many_hunks};
 ghost use Rattle.hunk_parts.specs.PartFaults.{refuse_part, refuse_row, size_of_part, step_row};
 ghost use Rattle.hunk_parts.specs.Parts.{seen};
 ghost use Rattle.hunk_parts.specs.RowsText.{part_seen, rows_size};
 
-use crate::part_row::{GROUP_PART, HUNK_PART, PartRow};
+use crate::part_row::{BLOCK_PART, GROUP_PART, HUNK_PART, PartRow, SYMBOL_PART};
 use crate::place::PartPlace;
 use crate::refusals::{STRANGE, because, is_before_units, is_open};
 use crate::row_fault::{BuiltSize, Refusal, RowFault, RowRefusal};
@@ -50,6 +52,7 @@ impl PartPlace {
     }
 
     /// Why the offsets of a part are refused that is not refused otherwise.
+    #[inline(always)]
     fn refuse_far(self, part: &SeenPart<'_>) -> Option<Refusal>
         requires { refuse_part self (size_of_part (part_seen part.now)) ≡ None }
         ensures { result ≡ refuse_far self (part_seen part.now) }
@@ -60,8 +63,25 @@ impl PartPlace {
         refuse_offsets(self.longs, part.offsets)
     }
 
-    /// The place after the row, or why it is refused.
+    /// The place after the row, or why it is refused. The most frequent kinds of parts are told apart
+    /// here, once for all that is asked of one.
     fn pass(self, bytes: &[u8], row: &PartRow) -> Result<PartPlace, Refusal>
+        ensures passes { OnOk result (refuse_row self (seen bytes.now row.now) ≡ None) }
+        ensures next { IfOk result (λ next. next ≡ step_row self (seen bytes.now row.now)) }
+        ensures refused { IfErr result (λ refusal.
+            refuse_row self (seen bytes.now row.now) ≡ Some refusal) }
+    {
+        match row.what {
+            BLOCK_PART => self.pass_any(bytes, row),
+            GROUP_PART => self.pass_any(bytes, row),
+            SYMBOL_PART => self.pass_any(bytes, row),
+            _ => self.pass_any(bytes, row),
+        }
+    }
+
+    /// The same, with no kind told apart beforehand.
+    #[inline(always)]
+    fn pass_any(self, bytes: &[u8], row: &PartRow) -> Result<PartPlace, Refusal>
         ensures passes { OnOk result (refuse_row self (seen bytes.now row.now) ≡ None) }
         ensures next { IfOk result (λ next. next ≡ step_row self (seen bytes.now row.now)) }
         ensures refused { IfErr result (λ refusal.

@@ -1,5 +1,6 @@
 //! Laws over the definitions alone: each function does nothing, and its contract is the law.
-ghost use Rattle.std.specs.Prelude.{◌≡◌, ◌≢◌, ◌≤◌, ◌<◌, ◌↔◌, ◌++◌, ◌+◌, ◌*◌, ◌^◌, ℕ, List, Result};
+ghost use Rattle.std.specs.Prelude.{◌≡◌, ◌≢◌, ◌≤◌, ◌<◌, ◌↔◌, ◌++◌, ◌+◌, ◌*◌};
+ghost use Rattle.std.specs.Prelude.{◌^◌, ℕ, List, Result};
 ghost use Rattle.std.specs.Prelude.{Err, None, Ok, Some};
 ghost use Rattle.std.specs.Prelude.{drop, length, map, take};
 ghost use Rattle.std.specs.List.{sum_by};

@@ -27,7 +27,10 @@ pub(crate) fn put_padded<T: TakesBytes>(taker: &mut T, bytes: &[u8])
     ensures { T.takes taker.old (bytes_of (longs (bytes.now ++ 0 ∷ 0 ∷ 0 ∷ []))) taker.new }
 {
     taker.take(bytes);
-    taker.take(&[0; 3][..3 - (bytes.len() + 3) % 4]);
+    let begun = bytes.len() % 4;
+    if begun > 0 {
+        taker.take(&[0; 3][..4 - begun]);
+    }
 }
 
 /// Hands over the longwords that these bytes are.

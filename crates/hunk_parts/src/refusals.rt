@@ -1,18 +1,18 @@
 //! Why a part is refused where it stands.
 ghost use Rattle.std.specs.Prelude.{◌≡◌};
-ghost use Rattle.hunk_grammar.specs.ObjectRoles.{has_content};
+ghost use Rattle.hunk_grammar.specs.ObjectRoles.{has_content, refuse_object_word};
 ghost use Rattle.hunk_parts.specs.PartFaults.{because, is_before_units, is_in_place, is_open, open_items};
-ghost use Rattle.hunk_parts.specs.PartFaults.{refuse_block_part, refuse_block_word, refuse_content, refuse_entry_part, refuse_group};
-ghost use Rattle.hunk_parts.specs.PartFaults.{refuse_group_part, refuse_hunk, refuse_name, refuse_part, refuse_size};
-ghost use Rattle.hunk_parts.specs.PartFaults.{refuse_symbol_part, refuse_unit_part};
+ghost use Rattle.hunk_parts.specs.PartFaults.{refuse_block_part, refuse_block_word, refuse_content, refuse_entry_part};
+ghost use Rattle.hunk_parts.specs.PartFaults.{refuse_group, refuse_group_part, refuse_hunk, refuse_name, refuse_part};
+ghost use Rattle.hunk_parts.specs.PartFaults.{refuse_size, refuse_symbol_part, refuse_unit_part};
 
 use crate::fields::{items_of, shape_of_type};
 use crate::part_row::{BLOCK_PART, ENTRY_PART, GROUP_PART, HUNK_PART, SYMBOL_PART, UNIT_PART};
 use crate::part_size::PartSize;
 use crate::place::PartPlace;
 use crate::row_fault::{Refusal, RowRefusal};
-use hunk_grammar::{ObjectPosition, OpenHunk, Phase, Position, WordPlace};
-use hunk_words::{BlockWord, CONTENT_LIMIT, Kind, NAME_LIMIT, Reason, SizeWord};
+use hunk_grammar::{Mode, OpenHunk, Phase, Position, WordPlace, refuse_place};
+use hunk_words::{BlockWord, CONTENT_LIMIT, Kind, NAME_LIMIT, Reason, SizeWord, UNIT_WORD};
 
 /// The row spells nothing that a file has there.
 pub(crate) const STRANGE: Refusal = Refusal {
@@ -54,6 +54,23 @@ pub(crate) fn has_content(place: WordPlace) -> bool
     }
 }
 
+/// Why a block word is refused in an object file, where it is.
+fn refuse_object_word(place: WordPlace, word: u32) -> Option<Reason>
+    ensures { result ≡ refuse_object_word place word }
+{
+    if word == UNIT_WORD {
+        return is_open(place).then_some(Reason::Misplaced);
+    }
+    let word = BlockWord::of(word);
+    if let Some(reason) = Mode::Object.refuse(word) {
+        return Some(reason);
+    }
+    if is_before_units(place) {
+        return Some(Reason::Misplaced);
+    }
+    refuse_place(word.kind(), has_content(place))
+}
+
 impl PartPlace {
     /// What the items of the open list are; 0 where none is open.
     fn open_items(self) -> u32
@@ -70,7 +87,7 @@ impl PartPlace {
         ensures { result ≡ refuse_block_word self word }
     {
         if self.hunks == 0 {
-            return ObjectPosition::Word(self.place).stride_from(word).err();
+            return refuse_object_word(self.place, word);
         }
         let hunk = OpenHunk {
             hunks: self.hunks,
@@ -199,6 +216,7 @@ impl PartPlace {
     }
 
     /// Whether a hunk or a unit is open for a part that is no HUNK.
+    #[inline(always)]
     fn is_in_place(self, part: PartSize) -> bool
         ensures { result ≡ is_in_place self part }
     {
@@ -210,6 +228,7 @@ impl PartPlace {
     }
 
     /// Why the part is refused here, but for its offsets.
+    #[inline(always)]
     pub(crate) fn refuse(self, part: PartSize) -> Option<Refusal>
         ensures { result ≡ refuse_part self part }
     {

@@ -1,5 +1,6 @@
 //! A row with the bytes that it points at.
-ghost use Rattle.std.specs.Prelude.{◌≡◌, ◌<◌, ◌≤◌, ◌^◌, ◌%◌, IfNone, IfSome, None, Some, length};
+ghost use Rattle.std.specs.Prelude.{◌*◌, ◌≡◌, ◌<◌, ◌≤◌, ◌^◌, ◌%◌, IfNone, IfSome, None, Some};
+ghost use Rattle.std.specs.Prelude.{length};
 ghost use Rattle.std.specs.Option.{option_copied};
 ghost use Rattle.hunk_parts.specs.PartFaults.{size_of_part};
 ghost use Rattle.hunk_parts.specs.Parts.{run_at, seen};
@@ -21,6 +22,7 @@ pub(crate) struct SeenPart<'a> {
 }
 
 /// The bytes from this place on, where that many are there.
+#[inline(always)]
 fn run_at(bytes: &[u8], place: u64, count: u64) -> Option<&[u8]>
     ensures { option_copied result ≡ run_at bytes.now place count }
 {
@@ -34,15 +36,27 @@ fn run_at(bytes: &[u8], place: u64, count: u64) -> Option<&[u8]>
     Some(&bytes[place as usize..end as usize])
 }
 
+/// The bytes of so many longwords from this place on, where they are there.
+#[inline(always)]
+fn longs_at(bytes: &[u8], place: u64, count: u64) -> Option<&[u8]>
+    ensures { option_copied result ≡ run_at bytes.now place (4 * count) }
+{
+    if count == 0 {
+        return Some(&[]);
+    }
+    run_at(bytes, place, count.checked_mul(4)?)
+}
+
 impl<'a> SeenPart<'a> {
     /// The row with its bytes, where they are there.
+    #[inline(always)]
     pub(crate) fn of(bytes: &'a [u8], row: &PartRow) -> Option<SeenPart<'a>>
         ensures some { IfSome result (λ part. seen bytes.now row.now ≡ Some (part_seen part)) }
         ensures whole { IfSome result (λ part. length part.offsets.now % 4 ≡ 0) }
         ensures none { IfNone result (seen bytes.now row.now ≡ None) }
     {
         let content = run_at(bytes, row.content, row.content_bytes)?;
-        let offsets = run_at(bytes, row.offsets, row.offset_count.checked_mul(4)?)?;
+        let offsets = longs_at(bytes, row.offsets, row.offset_count)?;
         Some(SeenPart {
             what: row.what,
             word: row.word,
@@ -53,6 +67,7 @@ impl<'a> SeenPart<'a> {
     }
 
     /// The part with the numbers of its longwords.
+    #[inline(always)]
     pub(crate) fn size(&self) -> PartSize
         ensures value { result ≡ size_of_part (part_seen self.now) }
         ensures content { result.content ≤ 2 ^ 62 }

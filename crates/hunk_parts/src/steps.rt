@@ -1,5 +1,6 @@
 //! What a part leads to.
-ghost use Rattle.std.specs.Prelude.{◌&&◌, ◌||◌, ◌==◌, is_some, ◌≡◌, ◌≤◌, ◌+◌, ◌*◌, ◌<◌, ◌^◌};
+ghost use Rattle.std.specs.Prelude.{◌&&◌, ◌||◌, ◌==◌, is_some, ◌≡◌, ◌≤◌, ◌+◌, ◌*◌};
+ghost use Rattle.std.specs.Prelude.{◌<◌, ◌^◌};
 ghost use Rattle.hunk_words.specs.Bits.{entry_longs};
 ghost use Rattle.hunk_words.specs.Carriers.{saturated};
 ghost use Rattle.hunk_grammar.specs.ExtKinds.{ext_shape};
@@ -18,6 +19,7 @@ use hunk_grammar::{ExtShape, WordPlace};
 use hunk_words::{BlockWord, Kind, SizeWord};
 
 /// Whether a zero ends the open list before such a part.
+#[inline(always)]
 pub(crate) fn closes(list: Option<Kind>, what: u32) -> bool
     ensures { result ≡ (is_some list && (what == unit_part || what == block_part)) }
 {
@@ -25,6 +27,7 @@ pub(crate) fn closes(list: Option<Kind>, what: u32) -> bool
 }
 
 /// The bytes of the zero that ends the open list before such a part.
+#[inline(always)]
 fn closing_bytes(list: Option<Kind>, what: u32) -> u64
     ensures value { result ≡ closing_bytes list what }
     ensures bound { result ≤ 4 }
@@ -33,6 +36,7 @@ fn closing_bytes(list: Option<Kind>, what: u32) -> u64
 }
 
 /// The list that is open after such a part.
+#[inline(always)]
 pub(crate) fn list_after(list: Option<Kind>, what: u32, word: u32) -> Option<Kind>
     ensures { result ≡ list_after list what word }
 {
@@ -47,6 +51,7 @@ pub(crate) fn list_after(list: Option<Kind>, what: u32, word: u32) -> Option<Kin
 }
 
 /// Where the next block word stands, after a part.
+#[inline(always)]
 fn place_after(place: WordPlace, part: PartSize) -> WordPlace
     ensures { result ≡ place_after place part }
 {
@@ -91,6 +96,7 @@ impl PartSize {
     }
 
     /// How many longwords it has, but of HUNK in the body.
+    #[inline(always)]
     fn longs(self) -> u64
         requires content { self.content ≤ 2 ^ 62 }
         requires offsets { self.offsets < 2 ^ 62 }
@@ -108,6 +114,7 @@ impl PartSize {
 
 impl PartPlace {
     /// After a part.
+    #[inline(always)]
     pub(crate) fn step(self, part: PartSize) -> PartPlace
         requires content { part.content ≤ 2 ^ 62 }
         requires offsets { part.offsets < 2 ^ 62 }
@@ -141,6 +148,7 @@ impl PartPlace {
     }
 
     /// The byte after the text of a part.
+    #[inline(always)]
     fn at_after(self, part: PartSize) -> u64
         requires content { part.content ≤ 2 ^ 62 }
         requires offsets { part.offsets < 2 ^ 62 }

@@ -1,5 +1,6 @@
 //! The text that rows spell.
-ghost use Rattle.std.specs.Prelude.{◌≡◌, ◌<◌, ◌++◌, ◌∷◌, ◌-◌, [], IsTrue, None, List, if◌then◌else◌, is_some, length, map, ℕ};
+ghost use Rattle.std.specs.Prelude.{◌≡◌, ◌<◌, ◌++◌, ◌∷◌, ◌-◌, [], IsTrue, None, List};
+ghost use Rattle.std.specs.Prelude.{if◌then◌else◌, is_some, length, map, ℕ};
 ghost use Rattle.std.specs.List.{AllByRecursion, filter, flat_map};
 ghost use Rattle.hunk_words.specs.Bits.{header_word};
 ghost use Rattle.hunk_words.specs.Longs.{bytes_of};
@@ -9,10 +10,11 @@ ghost use Rattle.hunk_files.specs.Tables.{entry_text};
 ghost use Rattle.hunk_parts.specs.PartFaults as faults;
 ghost use Rattle.hunk_parts.specs.PartFaults.{is_hunk_row, row_fault};
 ghost use Rattle.hunk_parts.specs.Parts.{seen};
-ghost use Rattle.hunk_parts.specs.RowsText.{closing, header_of, part_text, row_entry, row_part, rows_table, rows_text, table_entry, text_from};
+ghost use Rattle.hunk_parts.specs.RowsText.{closing, header_of, part_text, row_entry, row_part, rows_table, rows_text};
+ghost use Rattle.hunk_parts.specs.RowsText.{table_entry, text_from};
 
 use crate::longs::put_word;
-use crate::part_row::{BLOCK_PART, HUNK_PART, PartRow};
+use crate::part_row::{BLOCK_PART, GROUP_PART, HUNK_PART, PartRow, SYMBOL_PART};
 use crate::seen_part::SeenPart;
 use crate::steps::list_after;
 use crate::writing::{put_closing, put_part};
@@ -91,7 +93,29 @@ fn put_head<T: TakesBytes>(taker: &mut T, rows: &[PartRow], hunks: u32)
 // ---- The parts.
 
 /// Hands over the text of a row where this list is open, and gives the list that is open after it.
+/// The most frequent kinds of parts are told apart here, once for all that is asked of one.
 fn put_row<T: TakesBytes>(
+    taker: &mut T,
+    bytes: &[u8],
+    list: Option<Kind>,
+    row: &PartRow,
+) -> Option<Kind>
+    requires { IsTrue (is_some (seen bytes.now row.now)) }
+    ensures text { T.takes taker.old (bytes_of (closing list row.now.what
+        ++ part_text (row_part bytes.now row.now))) taker.new }
+    ensures list { result ≡ faults.list_after list row.now.what row.now.word }
+{
+    match row.what {
+        BLOCK_PART => put_any_row(taker, bytes, list, row),
+        GROUP_PART => put_any_row(taker, bytes, list, row),
+        SYMBOL_PART => put_any_row(taker, bytes, list, row),
+        _ => put_any_row(taker, bytes, list, row),
+    }
+}
+
+/// The same, with no kind told apart beforehand.
+#[inline(always)]
+fn put_any_row<T: TakesBytes>(
     taker: &mut T,
     bytes: &[u8],
     list: Option<Kind>,
@@ -105,9 +129,10 @@ fn put_row<T: TakesBytes>(
     let Some(part) = SeenPart::of(bytes, row) else {
         return list;
     };
+    let next = list_after(list, row.what, row.word);
     put_closing(taker, list, row.what);
     put_part(taker, &part);
-    list_after(list, row.what, row.word)
+    next
 }
 
 /// Hands over the texts of the rows.

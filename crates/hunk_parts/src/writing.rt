@@ -1,5 +1,6 @@
 //! The text of a part.
-ghost use Rattle.std.specs.Prelude.{◌≡◌, ◌+◌, ◌∷◌, ◌++◌, ◌%◌, [], Some, if◌then◌else◌, length};
+ghost use Rattle.std.specs.Prelude.{◌≡◌, ◌+◌, ◌∷◌, ◌++◌, ◌%◌, [], Some, if◌then◌else◌};
+ghost use Rattle.std.specs.Prelude.{length};
 ghost use Rattle.hunk_words.specs.Bits.{kind};
 ghost use Rattle.hunk_words.specs.Longs.{bytes_of};
 ghost use Rattle.hunk_grammar.specs.ExtKinds.{ext_shape};
@@ -17,6 +18,7 @@ use hunk_grammar::ExtShape;
 use hunk_words::{BlockWord, Kind, NAME_LIMIT, UNIT_WORD};
 
 /// Hands over the zero that ends the open list before such a part.
+#[inline(always)]
 pub(crate) fn put_closing<T: TakesBytes>(taker: &mut T, list: Option<Kind>, what: u32)
     ensures { T.takes taker.old (bytes_of (closing list what)) taker.new }
 {
@@ -155,6 +157,7 @@ fn put_entry<T: TakesBytes>(taker: &mut T, part: &SeenPart<'_>)
 }
 
 /// Hands over the text of a part, but of HUNK in the body.
+#[inline(always)]
 pub(crate) fn put_part<T: TakesBytes>(taker: &mut T, part: &SeenPart<'_>)
     requires { length part.now.offsets.now % 4 ≡ 0 }
     ensures { T.takes taker.old (bytes_of (part_text (part_seen part.now))) taker.new }

@@ -4,7 +4,7 @@ use Rattle.hunk_parts.specs.Parts.{FilePart}
 use Rattle.hunk_parts.specs.RowsText.{closing, part_seen, part_text}
 use Rattle.hunk_parts.proofs.LongBytes.{longs_more}
 use Rattle.hunk_parts.proofs.RowSizes.{seen_part}
-use Rattle.hunk_parts.proofs.text.put_row.Goals as goal
+use Rattle.hunk_parts.proofs.text.put_any_row.Goals as goal
 
 pub returns-clause-text : goal.returns-clause-text
 returns-clause-text g c =
