@@ -1,15 +1,8 @@
-#!/usr/bin/env python3
-"""commands.py ROUNDS PROGRAM PLAIN FOLDER COMMANDS: the processor milliseconds of each command on each file of the folder, and what
-those of the plain program go into it. The two are run in turn, and of each the least of the rounds counts. Both have to print, and
-write, the same. With `--hex` the input is hexadecimal text of the kind `code`."""
-
+"""The processor milliseconds of a command on a file beside plain programs that do the same, each compiled by another
+compiler. They are run in turn, and of each the least of the rounds counts; of the plain ones the quickest does. All have
+to print, and write, the same."""
 import os
-import pathlib
 import subprocess
-import sys
-
-# Of a file of fewer bytes a run tells no more than what a program begins with.
-LEAST = 4096
 
 
 def words(command, name, out, is_plain, is_hex=False):
@@ -38,33 +31,22 @@ def left_by(program, given, out):
     return said, out.read_bytes() if out.exists() else b""
 
 
-def compared(rounds, programs, file, command, out, is_hex=False):
-    """Prints what a command takes on a file, and answers whether the plain program prints and writes otherwise."""
-    given = [words(command, str(file), str(out), is_plain, is_hex) for is_plain in (False, True)]
-    same = left_by(programs[0], given[0], out) == left_by(programs[1], given[1], out)
-    rows = [[milliseconds(*it) for it in zip(programs, given)] for _ in range(int(rounds))]
-    ours, theirs = (min(it) for it in zip(*rows))
-    name = f"{file.name}, --hex" if is_hex else file.name
-    mark = "" if same else " ! they print or write otherwise"
-    print(f"{name:<16} {command:<9} {ours:8.1f} {ours / max(theirs, 0.1):8.2f}{mark}", flush=True)
-    return not same
-
-
-def main(rounds, program, plain, folder, commands):
-    print(f"{'file':<16} {'command':<9} {'ms':>8} {'plain':>8}")
-    out, text, status, programs = pathlib.Path(folder) / "out", pathlib.Path(folder) / "text", 0, (program, plain)
-    files = [it for it in sorted(pathlib.Path(folder).iterdir()) if it.stat().st_size > LEAST and not os.access(it, os.X_OK)]
-    for file in files:
-        is_object = file.read_bytes()[:4] == bytes.fromhex("000003e7")
-        for command in commands.split():
-            if is_object and command == "relocate":
-                continue
-            status |= compared(rounds, programs, file, command, out)
-    if "validate" in commands and (pathlib.Path(folder) / "code").exists():
-        text.write_text((pathlib.Path(folder) / "code").read_bytes().hex())
-        status |= compared(rounds, programs, text, "validate", out, True)
-    return status
-
-
-if __name__ == "__main__":
-    sys.exit(main(*sys.argv[1:]))
+def compared(rounds, program, plain, file, command, out, is_hex=False):
+    """The milliseconds of a command on a file, and what those of the quickest plain program go into it; with `!` where
+    they print or write otherwise. With `is_hex` the input is the file in hexadecimal text. An object file has no memory to
+    show."""
+    with open(file, "rb") as bytes_of_file:
+        is_object = bytes_of_file.read(4) == bytes.fromhex("000003e7")
+    if is_object and command == "relocate":
+        return ""
+    if is_hex:
+        text = file.with_suffix(".hex")
+        text.write_text(file.read_bytes().hex())
+        file = text
+    programs = [program, *plain]
+    given = [words(command, str(file), str(out), at > 0, is_hex) for at in range(len(programs))]
+    left = left_by(program, given[0], out)
+    same = all(left == left_by(*it, out) for it in zip(programs[1:], given[1:]))
+    rows = [[milliseconds(*it) for it in zip(programs, given)] for _ in range(rounds)]
+    ours, *theirs = (min(it) for it in zip(*rows))
+    return f"{ours:.1f} / {ours / max(min(theirs), 0.1):.2f}" + ("" if same else " !")

@@ -2,10 +2,12 @@
 """make.py KIND MIB OUT: a valid hunk file of about MIB MiB, the same at each call.
 
 Load files: code, debug, offsets, hunks (65,536 of them from 2 MiB on), targets (hunks that are relocated to any other), symbols,
-blocks (DEBUG blocks of nothing), program (what a linker makes of some modules: 12 hunks, or 3 below 16 KiB).
+blocks (DEBUG blocks of nothing), program (what a linker makes of some modules: 12 hunks, or 3 below 16 KiB), least (one hunk of
+nothing, whatever MIB is).
 Object files: units, findings (relocations at no hunk, outside theirs).
 In other spellings, for --wide: short (one block of short relocations, in large groups), groups (the same, of 1 to 8 offsets), open
 (hunks of one longword, each END left out).
+No file: nothing (no bytes).
 For memory: entry, symbol, group (blocks with one of these), unit and hunk (the smallest ones)."""
 import array
 import random
@@ -127,12 +129,20 @@ def open_hunks(longs, _):
     yield [CODE, 1, 0x4E754E71] * count
 
 
+def least(longs, _):
+    yield [HEADER, 0, 1, 0, 0, 0, BSS, 0, END]
+
+
+def nothing(longs, _):
+    yield []
+
+
 def repeated(front, part, back):
     """The kind of a file with this part over and over."""
     return lambda longs, _: iter([front, part * (longs // len(part)), back])
 
 
-KINDS = {make.__name__: make for make in (code, debug, offsets, hunks, targets, symbols, blocks, program, units, findings, short, groups)} | {
+KINDS = {make.__name__: make for make in (code, debug, offsets, hunks, targets, symbols, blocks, program, units, findings, short, groups, least, nothing)} | {
     "open": open_hunks,
     "entry": repeated([UNIT, 0, CODE, 1, 0], [EXT, 0x01000000, 0, 0], [END]),
     "symbol": repeated(ONE_HUNK, [SYMBOL, 1, 0x61000000, 0, 0], [END]),

@@ -1,28 +1,36 @@
-/* A loader of load files in plain C that keeps what the library promises: it takes no memory, and changes the caller's only where
- * it accepts the whole file. One walk tests, and a second one writes. */
+/* The calls of hunk.h in C, with the same promise: they take no memory, and change the caller's only where they accept
+ * the whole file. They are as quick as could be made: what the library's calls are measured against. */
 #ifndef CAREFUL_H
 #define CAREFUL_H
 
-#include "hand.h"
+#include "hunk.h"
 
-/* 0 where a load file begins here, which ends at byte `end`; else the number of its first fault. */
-uint32_t careful_check(const uint8_t *b, size_t len, size_t *end);
+struct hunk_answer careful_table(const uint8_t *bytes, uint64_t len, uint64_t budget, struct hunk_row *rows,
+                                 uint64_t room);
+struct hunk_answer careful_load_packed(const uint8_t *bytes, uint64_t len, uint32_t base, uint8_t *memory,
+                                       uint64_t memory_len);
+struct hunk_answer careful_load_at(const uint8_t *bytes, uint64_t len, const uint32_t *bases, uint64_t bases_len,
+                                   uint32_t start, uint8_t *memory, uint64_t memory_len);
+struct hunk_answer careful_check(const uint8_t *bytes, uint64_t len, struct hunk_finding *rows, uint64_t room);
+struct hunk_answer careful_strip(const uint8_t *bytes, uint64_t len, uint8_t *text, uint64_t text_len);
+struct hunk_answer careful_front(const uint8_t *bytes, uint64_t len, uint8_t *text, uint64_t text_len);
 
-/* Hunks one right after the other, the first at `base`. */
-uint32_t careful_load(const uint8_t *b, size_t len, uint32_t base, uint8_t *memory, size_t memory_len);
+struct hunk_answer careful_units(const uint8_t *bytes, uint64_t len, struct hunk_unit *rows, uint64_t room);
+struct hunk_answer careful_blocks(const uint8_t *bytes, uint64_t len, struct hunk_block *rows, uint64_t room);
+struct hunk_answer careful_symbols(const uint8_t *bytes, uint64_t len, struct hunk_symbol *rows, uint64_t room);
+struct hunk_answer careful_relocations(const uint8_t *bytes, uint64_t len, struct hunk_relocation *rows, uint64_t room);
+struct hunk_answer careful_entries(const uint8_t *bytes, uint64_t len, struct hunk_entry *rows, uint64_t room);
+struct hunk_answer careful_references(const uint8_t *bytes, uint64_t len, struct hunk_reference *rows, uint64_t room);
 
-/* How many rows a table has, which are written where there is room for all of them. */
-size_t careful_items(enum hand_table table, const uint8_t *b, size_t len, void *rows, size_t n);
+/* These two answer as the library does where the plain spelling is one of an accepted file. */
+struct hunk_answer careful_plain(const uint8_t *bytes, uint64_t len, uint8_t *text, uint64_t text_len);
+uint64_t careful_input_place(const uint8_t *bytes, uint64_t len, uint64_t place);
 
-/* How many bytes the stripped file has. */
-size_t careful_strip(const uint8_t *b, size_t len, uint8_t *out, size_t out_len);
-
-/* The calls hunk_begin, hunk_feed and hunk_end, in careful_feed.c: they answer what hunk.h says, whatever numbers stand in the
- * loader. */
-struct hunk_answer careful_begin(struct hunk_loader *loader, const struct hunk_place *places, size_t places_len, uint64_t header,
-                                 uint8_t *memory, size_t memory_len);
-struct hunk_answer careful_feed(struct hunk_loader *loader, const struct hunk_place *places, size_t places_len, uint8_t *memory,
-                                size_t memory_len, const uint8_t *bytes, size_t len);
+/* Whatever numbers stand in a loader, these answer as the library does. */
+struct hunk_answer careful_begin(struct hunk_loader *loader, const struct hunk_place *places, uint64_t places_len,
+                                 uint64_t header, uint8_t *memory, uint64_t memory_len);
+struct hunk_answer careful_feed(struct hunk_loader *loader, const struct hunk_place *places, uint64_t places_len,
+                                uint8_t *memory, uint64_t memory_len, const uint8_t *bytes, uint64_t len);
 struct hunk_answer careful_end(const struct hunk_loader *loader);
 
 #endif
