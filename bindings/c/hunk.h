@@ -8,6 +8,11 @@
  * time, as long as no call writes memory that another one uses. hunk_load_packed needs 6 KiB of
  * stack. Each other call needs less than 1 KiB, on Arm of 32 bits 1.25, and on Windows 1.5.
  *
+ * On x86-64 the library wants a processor of x86-64-v2, with SSE4.2 and POPCNT: Intel's since 2009,
+ * AMD's since 2011. It does not look: on an older one a call may end the program by an illegal
+ * instruction. There `grep -m1 -o sse4_2 /proc/cpuinfo` prints nothing, and the library to link is
+ * the one that `ports/build x86_64-v1` of the source tree makes.
+ *
  * What the caller has to make sure of:
  * - Each pointer points to as many elements as its length says, aligned for their type. Where the
  *   length is 0 it may be NULL. Misaligned pointers are forbidden. Lengths have 64 bits on every

@@ -1,19 +1,32 @@
 # shellcheck shell=sh disable=SC2154,SC2034
-# Linux on other processors, under qemu: a part of tests/targets/run. With --few armv6 is left to a full run, and riscv64's
-# library is held to the answers and the header alone. Debian's C library for 32-bit Arm is for ARMv7: for armv6 the library is
-# tried, not the program.
+# Linux on other processors, under qemu: a part of tests/targets/run. With --few armv6 and x86_64-v1 are left to a full run, and
+# riscv64's library is held to the answers and the header alone. Debian's C library for 32-bit Arm is for ARMv7: for armv6 the
+# library is tried, not the program. The qemu64 of qemu has no SSSE3, SSE4 and POPCNT.
 
 # machine TARGET: sets what names its tools and its library; where a tool is not there, a line says so
 machine() {
+  options=
   case $1 in
+    x86_64-v1) system=x86_64-linux-gnu processor=x86_64 options=' -cpu qemu64' ;;
     arm*) system=arm-linux-gnueabihf processor=arm ;;
     *) system=${1%%-*}-linux-gnu processor=${1%%-*} ;;
   esac
   target=$1
-  emulator=qemu-$processor
+  emulator=qemu-$processor$options
   compiler="$system-gcc -static"
   archive=$top/ports/out/$target/libhunk.a
-  has "$target" "$system-gcc" "$emulator"
+  has "$target" "$system-gcc" "qemu-$processor"
+}
+# needed: the processor has to be one that ends a program with the library of x86-64-v2, or the comparison shows nothing
+needed() {
+  archive=$library
+  compiles newer "$here/dump.c"
+  archive=$top/ports/out/$target/libhunk.a
+  # shellcheck disable=SC2086
+  if { (cd "$work/files" && $emulator "$work/there-newer" < "$work/names") > "$work/newer"; } 2> /dev/null; then
+    lack "$emulator takes the library that is for x86-64-v2"
+  fi
+  pass
 }
 # linux: holds the library to what is here
 linux() {
@@ -50,7 +63,7 @@ installed() {
 }
 
 targets=
-for target in aarch64-unknown-linux-gnu armv7 riscv64 ${few:-armv6}; do
+for target in aarch64-unknown-linux-gnu armv7 riscv64 ${few:-armv6 x86_64-v1}; do
   case $target in --*) continue ;; esac
   machine "$target" || continue
   targets="$targets $target"
@@ -63,9 +76,11 @@ for target in $targets; do
     --*riscv64) briefly ;;
     *) linux ;;
   esac
-  [ "$few" ] || [ ! -x "ports/out/$target/hunkinfo" ] || {
-    program
-    installed
-  }
+  [ "$few" ] || [ ! -x "ports/out/$target/hunkinfo" ] || program
+  case $few$target in
+    x86_64-v1) needed ;;
+    --* | armv6) ;;
+    *) [ ! -x "ports/out/$target/hunkinfo" ] || installed ;;
+  esac
 done
-[ -z "$few" ] || echo 'tests/targets: armv6, and hunkinfo on other processors, were not tried (--few)'
+[ -z "$few" ] || echo 'tests/targets: armv6, x86_64-v1, and hunkinfo on other processors, were not tried (--few)'
