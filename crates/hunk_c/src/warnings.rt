@@ -1,5 +1,5 @@
 //! What is suspicious in a load file.
-ghost use Rattle.std.specs.Prelude.{◌≡◌, ◌<◌, ◌≤◌, ◌^◌, ◌++◌, IfErr, IfOk, OnErr, OnOk, drop, length, map};
+ghost use Rattle.std.specs.Prelude.{◌≡◌, ◌*◌, ◌<◌, ◌≤◌, ◌^◌, ◌++◌, IfErr, IfOk, OnErr, OnOk, drop, length, map};
 ghost use Rattle.std.proofs.Common.{◌∙◌, refl};
 ghost use Rattle.hunk_files.specs.Collecting.{mapped_more};
 ghost use Rattle.hunk_files.specs.FileView.{file_of};
@@ -12,7 +12,7 @@ use crate::answer::{Answer, done, no_room, refused};
 use crate::file::hunks_in;
 use crate::rows::{RowCount, RowFiller};
 use hunk_files::{FileView, LoadView, Takes};
-use hunk_lint::{NoRoom, Warning, WarningKind, list_warnings};
+use hunk_lint::{NoRoom, Warning, WarningKind, list_in_room, list_warnings};
 
 /// Something suspicious, `struct hunk_warning`: 40 bytes, with no padding.
 #[repr(C)]
@@ -66,7 +66,7 @@ fn write_warnings(
     if count > most {
         return no_room(hunks, size, count);
     }
-    match put_warnings(file, room, rows) {
+    match put_warnings(file, size, room, rows) {
         Ok(count) => done(hunks, size, count),
         Err(NoRoom) => no_room(hunks, size, 0),
     }
@@ -76,6 +76,7 @@ fn write_warnings(
 /// rows for these, and else just as many. So they are counted only where that may tell something.
 fn most_warnings(file: &LoadView<'_>, size: u64, most: u64, room: &mut [u32]) -> Result<u64, NoRoom>
     requires few { length (warnings file.now) ≤ size }
+    requires longs { 4 * room_for file.now ≤ size }
     ensures all { IfOk result (λ n. length (warnings file.now) ≤ n) }
     ensures exact { IfOk result (λ n. most < n → n ≡ length (warnings file.now)) }
     ensures too_small { IfErr result (λ e. length room.old < room_for file.now) }
@@ -84,7 +85,7 @@ fn most_warnings(file: &LoadView<'_>, size: u64, most: u64, room: &mut [u32]) ->
         return Ok(size);
     }
     let mut counter = RowCount { count: 0 };
-    match list_rows(file, room, &mut counter) {
+    match list_rows(file, size, room, &mut counter) {
         Ok(()) => Ok(counter.count),
         Err(NoRoom) => Err(NoRoom),
     }
@@ -93,10 +94,12 @@ fn most_warnings(file: &LoadView<'_>, size: u64, most: u64, room: &mut [u32]) ->
 /// Writes the row of each warning over the first of these, and gives their number.
 fn put_warnings(
     file: &LoadView<'_>,
+    size: u64,
     room: &mut [u32],
     rows: &mut [WarningRow],
 ) -> Result<u64, NoRoom>
-    requires { length (load_rows file.now) ≤ length rows.old }
+    requires fits { length (load_rows file.now) ≤ length rows.old }
+    requires longs { 4 * room_for file.now ≤ size }
     ensures count { IfOk result (λ n. n ≡ length (load_rows file.now)) }
     ensures rows { OnOk result (rows.new ≡ load_rows file.now
         ++ drop (length (load_rows file.now)) rows.old) }
@@ -104,23 +107,31 @@ fn put_warnings(
     ensures stays { OnErr result (rows.new ≡ rows.old) }
 {
     let mut filler = RowFiller { rows, at: 0 };
-    match list_rows(file, room, &mut filler) {
+    match list_rows(file, size, room, &mut filler) {
         Ok(()) => Ok(filler.at as u64),
         Err(NoRoom) => Err(NoRoom),
     }
 }
 
-/// Hands over the row of each warning of a load file.
+/// Hands over the row of each warning of a load file of so many bytes.
+///
+/// It needs no more room than it has longwords, so where there is that much no block is counted.
 fn list_rows<T: Takes<WarningRow>>(
     file: &LoadView<'_>,
+    size: u64,
     room: &mut [u32],
     taker: &mut T,
 ) -> Result<(), NoRoom>
+    requires { 4 * room_for file.now ≤ size }
     ensures taken { OnOk result (T.takes taker.old (load_rows file.now) taker.new) }
     ensures too_small { IfErr result (λ e. length room.old < room_for file.now) }
     ensures stays { IfErr result (λ e. taker.new ≡ taker.old) }
 {
     let mut rows = WarningRows { taker };
+    if size / 4 <= room.len() as u64 {
+        list_in_room(file, room, &mut rows);
+        return Ok(());
+    }
     list_warnings(file, room, &mut rows)
 }
 

@@ -1,5 +1,5 @@
 -- What is collected of a hunk: block by block it comes to what the blocks have.
-use Rattle.std.proofs.Common.{◌≡◌, ℕ, ◌+◌, Bool, true, false, cond, List, [], ◌∷◌, ◌++◌, length, take, refl, sym, ap, subst, ◌∙◌, append_assoc, length-append, arith, nat_lt, ◌⊎◌, inl, inr}
+use Rattle.std.proofs.Common.{◌≡◌, ℕ, ◌+◌, Bool, true, false, cond, List, [], ◌∷◌, ◌++◌, length, take, refl, sym, ap, subst, ◌∙◌, append-nil, append_assoc, length-append, arith, nat_lt, ◌⊎◌, inl, inr}
 use Rattle.std.specs.Prelude.{◌||◌}
 use Rattle.std.specs.List.{AllByRecursion, count_by, flat_map}
 use Rattle.std.proofs.lemmas.{Bool.Decides.nat_tests, List.map-append, List.Sums.sum_by-cons}
@@ -95,3 +95,29 @@ module _ {all old : List BlockValue} {bytes : List ℕ} {bss : Bool} {count : �
               ∙ ap (λ (os : List ℕ). take count room ++ os) (sym here ∙ ap blocks_offsets (sym is))
               ∙ l.offsets_are;
         }
+
+-- ---- only END is left
+
+or_false : (b : Bool) → (b || false) ≡ b
+or_false true = refl
+or_false false = refl
+
+module _ {all old : List BlockValue} {bytes : List ℕ} {bss : Bool} {count : ℕ} {room : List ℕ} (l : Left all old bytes bss count room) (b : BlockValue) (last : old ≡ b ∷ []) (end : b.body ≡ End) where
+  no_offsets : blocks_offsets old ≡ []
+  no_offsets = ap blocks_offsets last ∙ first_offsets b [] ∙ ap (λ (x : BlockBody). offsets (block_relocations x) ++ []) end
+
+  pub content_collected : bytes ≡ blocks_content all
+  content_collected =
+      sym (l.content ∙ ap (λ (xs : List ℕ). bytes ++ xs) (ap blocks_content last ∙ ap (λ (x : BlockBody). block_content x ++ []) end) ∙ append-nil bytes)
+
+  pub bss_collected : bss ≡ nat_lt 0 (bss_count all)
+  bss_collected =
+      let none : bss_count old ≡ 0 =
+      ap bss_count last ∙ sum_by-cons (λ (x : BlockValue). cond (is_bss x.body) 1 0) b [] ∙ ap (λ (x : BlockBody). cond (is_bss x) 1 0 + 0) end in
+      sym (l.bss_is ∙ ap (λ (n : ℕ). bss || nat_lt 0 n) none ∙ or_false bss)
+
+  pub count_collected : count ≡ length (blocks_offsets all)
+  count_collected = omega (arith, l.count_is, ap (λ (os : List ℕ). length os) no_offsets)
+
+  pub offsets_collected : take count room ≡ blocks_offsets all
+  offsets_collected = sym (append-nil (take count room)) ∙ ap (λ (os : List ℕ). take count room ++ os) (sym no_offsets) ∙ l.offsets_are

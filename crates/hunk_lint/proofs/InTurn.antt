@@ -1,5 +1,5 @@
 -- Items whose warnings are listed one after the other.
-use Rattle.std.proofs.Common.{◌≡◌, ℕ, ◌+◌, ◌*◌, List, ◌∷◌, ◌++◌, length, sym, ap, ap₂, subst, ◌∙◌, Some}
+use Rattle.std.proofs.Common.{◌≡◌, ℕ, ◌+◌, ◌*◌, List, ◌∷◌, ◌++◌, length, sym, ap, subst, ◌∙◌, Some}
 use Rattle.hunk_blocks.specs.Placed.{GivesFirst, Placed}
 use Rattle.hunk_files.specs.InPlace.{GivesPart}
 use Rattle.hunk_files.proofs.findings.FindingSteps.{TakenUpTo, taken_on}
@@ -41,15 +41,3 @@ module _ {S : Type 0} (Takes : S → List Warning → S → Type 0) (more : (a b
       let left = λ (n : ℕ) (p : Placed LoadFileValue). hunks_warnings sizes n p.place p.value in
       taken_on Takes more a b c here (left (number + 1) new) (left number old) all
       (ap (left number) gives.0 ∙ ap (λ (n : ℕ). here ++ hunks_warnings sizes (number + 1) n new.value) (sym gives.1)) t taken
-
--- ---- two views of the same parts
-
--- Where both have given one, the same are left.
-pub same_left : {A : Type 0} (text : A → List ℕ) (old again new next : Placed (List A)) (x y : Placed A) → again ≡ old → GivesPart text old (Some x) new → GivesPart text again (Some y) next → next ≡ new
-same_left {A} text old again new next x y same gives repeats =
-    let place : x.place ≡ y.place = ap (λ (p : Placed (List A)). p.place) (sym gives.0 ∙ sym same ∙ repeats.0) in
-    let values : x.value ∷ new.value ≡ y.value ∷ next.value = ap (λ (p : Placed (List A)). p.value) (sym gives.0 ∙ sym same ∙ repeats.0) in
-    let value : x.value ≡ y.value = cc in
-    let left : next.value ≡ new.value = cc in
-    let after : next.place ≡ new.place = repeats.1 ∙ ap₂ (λ (n : ℕ) (a : A). n + 4 * length (text a)) (sym place) (sym value) ∙ sym gives.1 in
-    ap₂ (λ (n : ℕ) (xs : List A). record { place = n; value = xs }) after left

@@ -1,11 +1,13 @@
 mod AnyOrder
 mod Collected
-mod EnoughRoom
+pub mod EnoughRoom
 pub mod FewWarnings
 mod Heaps
+mod HunksLeft
 mod InTurn
 mod Least
 mod NoneTold
+mod OpenHunk
 mod Rising
 mod RoomLaws
 mod Stripping

@@ -2,6 +2,7 @@ pub mod Collecting
 pub mod Facts
 pub mod Heap
 pub mod Known
+pub mod NextHunk
 pub mod Room
 pub mod Stripped
 pub mod Suspicious

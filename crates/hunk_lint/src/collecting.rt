@@ -1,15 +1,19 @@
 //! What the warnings of a hunk depend on, collected from its blocks.
-ghost use Rattle.std.specs.Prelude.{◌≡◌, ◌+◌, ◌≤◌, ◌++◌, ◌||◌, false, length, map, nat_lt, take};
+ghost use Rattle.std.specs.Prelude.{◌≡◌, ◌+◌, ◌*◌, ◌≤◌, ◌++◌, ◌||◌, false, length, map, nat_lt, take};
 ghost use Rattle.std.specs.List.{count_by};
+ghost use Rattle.hunk_grammar.specs.Standings.{is_ending};
 ghost use Rattle.hunk_blocks.specs.BodyViews.{viewed};
+ghost use Rattle.hunk_files.specs.Hunks.{block_texts};
 ghost use Rattle.hunk_files.specs.Image.{block_relocations, offsets};
 ghost use Rattle.hunk_files.specs.LoadFile.{AreInOrder, standing};
 ghost use Rattle.hunk_lint.specs.Collecting.{blocks_content, blocks_offsets, content_after};
 ghost use Rattle.hunk_lint.specs.Collecting.{groups_offsets};
 ghost use Rattle.hunk_lint.specs.Facts.{is_bss};
+ghost use Rattle.hunk_lint.specs.NextHunk.{after_blocks, first_blocks};
 
+use crate::next_hunk::next_block;
 use hunk_blocks::{BodyView, GroupsIter, Longs};
-use hunk_files::BlockViews;
+use hunk_files::Items;
 
 /// What the blocks of a hunk have.
 #[derive(Clone, Copy)]
@@ -22,57 +26,65 @@ pub(crate) struct Collected<'a> {
     pub(crate) count: usize,
 }
 
-/// Puts the offsets of all relocations of a hunk to the front of the room, in file order.
-pub(crate) fn collect<'a>(room: &mut [u32], mut blocks: BlockViews<'a>) -> Collected<'a>
-    requires order { AreInOrder false (map (λ b. standing b.body) blocks.value) }
-    requires room { length (blocks_offsets blocks.value) ≤ length room.old }
-    ensures content { result.content.now ≡ blocks_content blocks.entry.value }
+/// Puts the offsets of all relocations of the open hunk to the front of the room, in file order. It
+/// goes over the blocks of the hunk.
+pub(crate) fn collect<'a>(room: &mut [u32], items: &mut Items<'a>) -> Collected<'a>
+    requires order { AreInOrder false
+        (map (λ b. standing b.body) (first_blocks items.old.value)) }
+    requires room { length (blocks_offsets (first_blocks items.old.value)) ≤ length room.old }
+    ensures content { result.content.now ≡ blocks_content (first_blocks items.old.value) }
     ensures bss { result.is_bss
-        ≡ nat_lt 0 (count_by (λ b. is_bss b.body) blocks.entry.value) }
+        ≡ nat_lt 0 (count_by (λ b. is_bss b.body) (first_blocks items.old.value)) }
     ensures inside { result.count ≤ length room.new }
-    ensures offsets { take result.count room.new ≡ blocks_offsets blocks.entry.value }
+    ensures offsets { take result.count room.new
+        ≡ blocks_offsets (first_blocks items.old.value) }
+    ensures after { items.new.value ≡ after_blocks items.old.value }
+    ensures place { items.new.place
+        ≡ items.old.place + 4 * length (block_texts (first_blocks items.old.value)) }
 {
     let mut collected = Collected {
         content: &[],
         is_bss: false,
         count: 0,
     };
-    'collecting: while let Some(block) = blocks.next() {
-        collected = collect_block(room, collected, block.into_body());
+    'collecting: loop {
+        let body = next_block(items).into_body();
+        if is_end(&body) {
+            return collected;
+        }
+        collect_block(room, &mut collected, body);
     }
-    collected
 }
 
-/// What the blocks have with one more of them.
-fn collect_block<'a>(room: &mut [u32], before: Collected<'a>, body: BodyView<'a>) -> Collected<'a>
-    requires { before.count + length (offsets (block_relocations (viewed body)))
+/// Whether this is END, after which no block of the hunk comes.
+#[inline(always)]
+fn is_end(body: &BodyView<'_>) -> bool
+    ensures { result ≡ is_ending (standing (viewed body.now)) }
+{
+    matches!(body, BodyView::End)
+}
+
+/// Adds what one more block has.
+///
+/// The fields are written one by one: a struct that is copied whole is copied with the room between
+/// them, which takes longer than all else here.
+fn collect_block<'a>(room: &mut [u32], collected: &mut Collected<'a>, body: BodyView<'a>)
+    requires { collected.old.count + length (offsets (block_relocations (viewed body)))
         ≤ length room.old }
-    ensures content { result.content.now
-        ≡ content_after before.entry.content.now (viewed body.entry) }
-    ensures bss { result.is_bss ≡ (before.entry.is_bss || is_bss (viewed body.entry)) }
-    ensures count { result.count
-        ≡ before.entry.count + length (offsets (block_relocations (viewed body.entry))) }
-    ensures offsets { take result.count room.new
-        ≡ take before.entry.count room.old ++ offsets (block_relocations (viewed body.entry)) }
+    ensures content { collected.new.content.now
+        ≡ content_after collected.old.content.now (viewed body.entry) }
+    ensures bss { collected.new.is_bss ≡ (collected.old.is_bss || is_bss (viewed body.entry)) }
+    ensures count { collected.new.count
+        ≡ collected.old.count + length (offsets (block_relocations (viewed body.entry))) }
+    ensures offsets { take collected.new.count room.new
+        ≡ take collected.old.count room.old ++ offsets (block_relocations (viewed body.entry)) }
 {
     match body {
-        BodyView::Code { top: _, payload } => Collected {
-            content: payload.bytes(),
-            ..before
-        },
-        BodyView::Data { top: _, payload } => Collected {
-            content: payload.bytes(),
-            ..before
-        },
-        BodyView::Bss { size: _ } => Collected {
-            is_bss: true,
-            ..before
-        },
-        BodyView::Reloc(groups) => Collected {
-            count: put_groups(room, before.count, groups),
-            ..before
-        },
-        _ => before,
+        BodyView::Code { top: _, payload } => collected.content = payload.bytes(),
+        BodyView::Data { top: _, payload } => collected.content = payload.bytes(),
+        BodyView::Bss { size: _ } => collected.is_bss = true,
+        BodyView::Reloc(groups) => collected.count = put_groups(room, collected.count, groups),
+        _ => {}
     }
 }
 

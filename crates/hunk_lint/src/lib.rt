@@ -7,10 +7,11 @@ mod known;
 pub mod laws;
 mod listing;
 mod neighbours;
+mod next_hunk;
 mod room;
 mod sorting;
 mod suspicious;
 mod warning;
 
-pub use crate::file::{NoRoom, list_warnings};
+pub use crate::file::{NoRoom, list_in_room, list_warnings};
 pub use crate::warning::{Warning, WarningKind};

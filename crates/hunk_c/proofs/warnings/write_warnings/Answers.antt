@@ -4,7 +4,7 @@ use Rattle.hunk_files.specs.FileView.{file_of}
 use Rattle.hunk_files.specs.declared.file_view.FileView.{FileView}
 use Rattle.hunk_lint.specs.Warnings.{warnings}
 use Rattle.hunk_c.specs.{Warnings.{load_rows, room_in, warning_row, warning_rows}, declared.warnings.WarningRow.WarningRow}
-use Rattle.hunk_c.proofs.{OneFile.file_size, Tabulated.none_written, Warned.{few, lacking, listed, short}}
+use Rattle.hunk_c.proofs.{OneFile.file_size, Tabulated.none_written, Warned.{few, lacking, listed, long_enough, short}}
 use Rattle.hunk_c.proofs.warnings.write_warnings.Goals as goal
 
 abbrev rows_of : FileView → List WarningRow
@@ -30,6 +30,13 @@ most_warnings-requires c =
         ap (λ (file : FileView). length (rows_of file)) c.in-Load.is,
         length-map {B = WarningRow} (warnings c.in-Load.file) warning_row,
       );
+      longs = omega (
+        arith,
+        long_enough c.args.bytes.now file c.requires.file,
+        c.rest.ensures,
+        file_size c.args.bytes.now file c.requires.file,
+        ap (λ (file : FileView). room_in (file_of file)) c.in-Load.is,
+      );
     }
 
 pub returns-in-Err : goal.returns-in-Err
@@ -46,6 +53,17 @@ returns-then-count-most c =
     let size = length-map {B = WarningRow} (warnings c.in-Load.file) warning_row in
     short _ _ _ file c.requires.file _ _ c.in-Ok.count c.hunks_in-hunks.ensures (omega (arith, c.rest.ensures, file_size c.args.bytes.now file c.requires.file)) _
     (omega (arith, count, exact, size)) (omega (arith, count, exact, size, c.if-count-most.true)) c.no_room-then-count-most.ensures
+
+pub put_warnings-requires-clause-longs : goal.put_warnings-requires-clause-longs
+put_warnings-requires-clause-longs c =
+    let file = file_of c.args.file.now in
+    omega (
+      arith,
+      long_enough c.args.bytes.now file c.requires.file,
+      c.rest.ensures,
+      file_size c.args.bytes.now file c.requires.file,
+      ap (λ (file : FileView). room_in (file_of file)) c.in-Load.is,
+    )
 
 pub returns-in-Ok-put_warnings : goal.returns-in-Ok-put_warnings
 returns-in-Ok-put_warnings c =
