@@ -23,6 +23,7 @@ installs() {
   (cd "$project" && npm install --offline --no-audit --no-fund "$work"/packed/*.tgz) > "$work/log" 2>&1 ||
     lack "npm install: $(tail -n 1 "$work/log")"
   cp bindings/javascript/examples/* "$calls"/* "$project"
+  python3 "$here/builds.py" "$suite/build.tsv" > "$work/builds" || lack 'tests/targets/builds.py prints no lists'
 }
 # runs OPTION..: the examples, in node with these options, and what the package promises
 runs() {
@@ -39,7 +40,7 @@ $symbol 56 4 END" node "$@" blocks.js "$symbol"
   prints "tests/targets/package/inputs.js in node $*" 'as promised' node "$@" inputs.js "$symbol"
   prints "tests/targets/package/wrong.js in node $*" 'as promised' node "$@" wrong.js "$symbol"
   prints "tests/targets/package/fuzz.js in node $*" 'as promised' \
-    node "$@" fuzz.js "$suite/load.tsv" "$suite/objects.tsv" "$suite/wide.tsv" "$suite/warnings.tsv"
+    node "$@" fuzz.js "$work/builds" "$suite/load.tsv" "$suite/objects.tsv" "$suite/wide.tsv" "$suite/warnings.tsv"
 }
 # types: that a program compiles, with no types of a browser or of node, by both ways in which packages are found
 types() {

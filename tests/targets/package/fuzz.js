@@ -1,9 +1,10 @@
 // Random and damaged files in each call of the package, handed over in every way while the module's memory has to grow: node
-// fuzz.js TABLE.., tables of the conformance suite. An answer has to be the same in each way; what is held has to be right
-// afterwards; all that was taken has to be given back, also where a call throws. Each run has the same files. It prints what is
-// not so, and ends with status 1; else `as promised`.
+// fuzz.js BUILDS TABLE.., what builds.py beside this folder prints, and tables of the conformance suite. An answer has to be the
+// same in each way, and of `parts` and `build` what BUILDS says; what is held has to be right afterwards; all that was taken has to
+// be given back, also where a call throws. Each run has the same files. It prints what is not so, and ends with status 1; else `as
+// promised`.
 import { readFileSync } from "node:fs";
-import { Hunk, HunkError, nameOf } from "hunk-files";
+import { BuildError, Hunk, HunkError, nameOf } from "hunk-files";
 import { fill, finish, free, hold, isFreeFrom, modules, refuses, thrown } from "./held.js";
 
 const SEED = 75;
@@ -195,6 +196,67 @@ function holdKept(what, hunk, file, { input, view, lists, text, end }) {
   hold(`${what}: nor is it copied`, refuses(TypeError, () => hunk.put(view)));
 }
 
+// ---- What is listed and built by a model.
+
+const hex = (bytes) => Buffer.from(bytes).toString("hex");
+const unhex = (digits) => Buffer.from(digits, "hex");
+
+/** How the content of a part is handed over: its bytes, which stand from a byte of an Input on. */
+const CONTENTS = {
+  "a Uint8Array": (bytes) => Uint8Array.from(bytes),
+  "a Buffer": (bytes) => bytes,
+  "a text": (bytes) => bytes.toString("latin1"),
+  "a view": (bytes, at, input) => input.bytes.subarray(at, at + bytes.length),
+};
+
+/** The parts of a list as `build` takes them. */
+function partsOf(list, hand, input) {
+  let at = 0;
+  return list.map(([what, word, value, digits, offsets]) => {
+    const bytes = unhex(digits);
+    at += bytes.length;
+    return { what, word, value, content: hand(bytes, at - bytes.length, input), offsets };
+  });
+}
+
+/** What is built of parts, in the words of BUILDS. */
+function built(hunk, parts) {
+  try {
+    return [0, hex(hunk.build(parts))];
+  } catch (error) {
+    return error instanceof BuildError ? [error.number, error.place, error.row] : [`threw ${error}`];
+  }
+}
+
+/** The rows of a file, without what is reserved. */
+function rowsOf(hunk, bytes) {
+  const row = (it) => [it.what, it.word, it.value, it.content, it.contentBytes, it.offsets, it.offsetCount];
+  return Array.from(hunk.parts(bytes).rows, row);
+}
+
+/** A list, where nothing is free in the memory. */
+function holdList(what, hunk, { parts, answer }) {
+  const { from } = free(hunk);
+  for (const [way, hand] of Object.entries(CONTENTS)) {
+    const input = hunk.put(unhex(parts.map((it) => it[3]).join("")));
+    const filling = fill(hunk);
+    const told = built(hunk, partsOf(parts, hand, input));
+    filling.free();
+    input.free();
+    hold(`${what} of ${way}: ${told}, and not ${answer}`, told.join() === answer.join());
+    hold(`${what} of ${way}: all is given back`, isFreeFrom(hunk, from));
+  }
+}
+
+async function holdBuilds(what, module, { file, rows, lists }) {
+  const hunk = await Hunk.open(module);
+  if (rows) {
+    const listed = JSON.stringify(rowsOf(hunk, unhex(file)));
+    hold(`${what}, ${file}: its parts are ${listed}`, listed === JSON.stringify(rows));
+  }
+  lists.forEach((list, i) => holdList(`${what}, list ${i} (${JSON.stringify(list.parts)})`, hunk, list));
+}
+
 // ---- The tests.
 
 async function holdFile(what, module, calm, file) {
@@ -245,8 +307,12 @@ function holdThrows(what, hunk) {
   hold(`${what}: all is given back after that`, isFreeFrom(hunk, from));
 }
 
-const texts = textsOf(process.argv.slice(2));
+const [table, ...tables] = process.argv.slice(2);
+const builds = readFileSync(table, "utf8").trim().split("\n").map((line) => JSON.parse(line));
+const answers = builds.flatMap((it) => it.lists).map((it) => it.answer[0]);
+const texts = textsOf(tables);
 hold("there are texts", texts.length > 100);
+hold("there are files and refusals", answers.filter((it) => it === 0).length > 100 && new Set(answers).size > 10);
 for (const [name, module] of await modules()) {
   const calm = await Hunk.open(module);
   const roll = dice(SEED);
@@ -255,5 +321,6 @@ for (const [name, module] of await modules()) {
     await holdFile(`${name}, file ${run} (${Buffer.from(file).toString("hex")})`, module, calm, file);
   }
   holdThrows(name, calm);
+  for (const [i, it] of builds.entries()) await holdBuilds(`${name}, line ${i}`, module, it);
 }
 finish();
