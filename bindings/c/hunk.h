@@ -504,7 +504,7 @@ struct hunk_part {
     uint32_t value;         /* HUNK: the attributes; SYMBOL, ENTRY: the value, or the bytes of a
                              * common block; CODE, DATA: bits 30 and 31 of the size word; BSS: the
                              * size word */
-    uint32_t reserved;      /* 0 */
+    uint32_t reserved;      /* 0; hunk_build does not read it */
     uint64_t content;       /* the byte at which its content, its name or its data begins */
     uint64_t content_bytes; /* and how many: a name has all of its longwords */
     uint64_t offsets;       /* the byte at which its offsets begin, four bytes each */
@@ -519,7 +519,9 @@ struct hunk_answer hunk_parts(const uint8_t *bytes, uint64_t bytes_len, struct h
 
 /* Writes the file that the rows spell, of either kind, as the first row says, to the text.
  *
- *   rows   the parts, in the order of hunk_parts; a field that their kind has no use for is 0
+ *   rows   the parts, in the order of hunk_parts. A row is HUNK_STRANGE where a field is not 0 that
+ *          its kind has no use for, but for places as above. `reserved` is not read: give 0 there,
+ *          as a later version may give it a meaning
  *   bytes  what content and offsets are bytes of: a file that was read, for instance, with what is
  *          new behind it. Rows may point at the same bytes. After a content zero bytes are written,
  *          up to a whole longword
