@@ -1,5 +1,5 @@
 -- What calls answer, over all of them.
-use Rattle.std.proofs.Common.{◌≡◌, ◌≤◌, ℕ, List, length, IsTrue, ap, refl, sym, subst, arith, inl, inr}
+use Rattle.std.proofs.Common.{◌≡◌, ◌≤◌, ℕ, List, length, IsTrue, Result, ap, refl, sym, subst, arith, inl, inr}
 use Rattle.hunk_words.specs.{Meanings.meaning_of, Reasons.{name_of, number_of}}
 use Rattle.hunk_words.specs.declared.fault.Fault.{Fault}
 use Rattle.hunk_words.specs.declared.reason.Reason.{Reason}
@@ -14,9 +14,16 @@ use Rattle.hunk_grammar.specs.declared.file_kind.Sniff.{Sniff}
 use Rattle.hunk_grammar.specs.declared.file_kind.Sniff.TheVariants as sniffs
 use Rattle.hunk_grammar.specs.declared.position.Position.{Position}
 use Rattle.hunk_grammar.specs.declared.position.Position.TheVariants as positions
+use Rattle.hunk_parts.specs.Builds as builds
+use Rattle.hunk_parts.specs.Builds.{Builds}
+use Rattle.hunk_parts.specs.declared.part_row.PartRow.{PartRow}
+use Rattle.hunk_parts.specs.declared.row_fault.{BuiltSize.BuiltSize, NotBuilt.NotBuilt, RowRefusal.RowRefusal}
+use Rattle.hunk_parts.specs.declared.row_fault.RowRefusal.TheVariants as why
+use Rattle.hunk_parts.proofs.RowReasons.{IsOfRows, fault_of_rows, is_of_text}
 use Rattle.hunk_scatter.specs.declared.stream.Standing.{Standing}
 use Rattle.hunk_scatter.specs.{HeaderSizes.RefusesHeader, LoaderReasons.is_of_body, Placing.Placing}
 use Rattle.hunk_c.specs.Answers.{is_answered, strange}
+use Rattle.hunk_c.specs.Building.{Answers, built_answer, refusal_number}
 use Rattle.hunk_c.specs.Loaders.{TellsAgain, TellsRefusal, TellsStrange, MayStand, MayStandAt, no_loader, loader_at, unrefused}
 use Rattle.hunk_c.specs.Loads as loads
 use Rattle.hunk_c.specs.Loads.{Loads, IsNotLoaded}
@@ -64,6 +71,17 @@ of_body reasons.FileLimit h = absurd cc
 of_body reasons.Read h = absurd cc
 of_body reasons.OutOfMemory h = absurd cc
 of_body _ h = refl
+
+of_text : (r : Reason) → IsTrue (is_of_text r) → IsTrue (is_answered (number_of r))
+of_text reasons.Advisory h = absurd cc
+of_text reasons.FileLimit h = absurd cc
+of_text reasons.Read h = absurd cc
+of_text reasons.OutOfMemory h = absurd cc
+of_text _ h = refl
+
+of_rows : (r : RowRefusal) → IsOfRows r → IsTrue (is_answered (refusal_number r))
+of_rows why.Strange h = refl
+of_rows (why.Refused reason) h = of_text reason h
 
 of_load : (bytes : List ℕ) (at : ℕ) (r : Reason) → HasFault bytes at r → IsTrue (is_answered (number_of r))
 of_load bytes at r (inl h) = of_word r (refusal_of_word bytes at r h)
@@ -147,6 +165,22 @@ front_told bytes old new a (HasNone none same e) = told_by a _ e refl
 pub words_told : (words old new : List ℕ) (a : Answer) → PutsText words old new a → Told a
 words_told words old new a (HasText fits n e) = told_by a _ e refl
 words_told words old new a (HasNoText less n e) = told_by a _ e refl
+
+-- ---- building
+
+abbrev BuildTold : Result BuiltSize NotBuilt → Type 0
+BuildTold r = Told (built_answer r)
+
+module _ (bytes : List ℕ) (rows : List PartRow) (old new : List ℕ) where
+  result_told : (r : Result BuiltSize NotBuilt) → Builds bytes rows old new r → BuildTold r
+  result_told r (builds.IsBuilt file is fits same e) = subst BuildTold (sym e) refl
+  result_told r (builds.LacksRoom file is less same e) = subst BuildTold (sym e) refl
+  result_told r (builds.IsRefused f first none same e) =
+      let told : IsTrue (is_answered (refusal_number f.refusal)) = of_rows f.refusal (fault_of_rows bytes rows f first) in
+      subst BuildTold (sym e) told
+
+  pub build_told : (a : Answer) → Answers bytes rows old new a → Told a
+  build_told a h = told_by a _ h.is (result_told h.result h.builds)
 
 -- ---- words
 

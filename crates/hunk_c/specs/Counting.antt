@@ -1,4 +1,5 @@
--- What is counted part by part, as far as 64 bits go.
+-- What is counted part by part, as far as 64 bits go. The laws that a counter has to give stand
+-- here, too, as code can't cite what is in proofs/.
 use Rattle.std.specs.Prelude.{◌≡◌, ◌+◌, ℕ, List, [], ◌++◌, length}
 use Rattle.std.proofs.Common.{length-append, ap, ◌∙◌, arith}
 use Rattle.hunk_words.specs.Carriers.{saturated}

@@ -5,8 +5,10 @@ ghost use Rattle.hunk_words.specs.declared.fault.Fault.{Fault};
 ghost use Rattle.hunk_files.specs.HunkFile.{IsFileOf, file_bytes};
 ghost use Rattle.hunk_files.specs.declared.hunk_file.HunkFile.{HunkFile};
 ghost use Rattle.hunk_files.specs.declared.row.Row.{Row};
+ghost use Rattle.hunk_parts.specs.declared.part_row.PartRow.{PartRow};
 ghost use Rattle.hunk_scatter.specs.Placing.{Placing};
 ghost use Rattle.hunk_c.specs.Answers.{AreAnswered, refused, strange};
+ghost use Rattle.hunk_c.specs.Building.{Answers};
 ghost use Rattle.hunk_c.specs.Checks.{Checks};
 ghost use Rattle.hunk_c.specs.Fronts.{Fronts, IsClosed};
 ghost use Rattle.hunk_c.specs.Loaders.{HasRefusedPiece, Stands, no_loader, refusing};
@@ -43,6 +45,8 @@ pub fn answered_numbers()
         → AreAnswered (Checks bytes old new) }
     ensures warnings { (bytes : List ℕ) (room : ℕ) (old new : List WarningRow)
         → AreAnswered (Warns bytes room old new) }
+    ensures build { (bytes : List ℕ) (rows : List PartRow) (old new : List ℕ)
+        → AreAnswered (Answers bytes rows old new) }
     ensures strip { (bytes old new : List ℕ) → AreAnswered (Strips bytes old new) }
     ensures plain { (bytes old new : List ℕ) → AreAnswered (Plains bytes old new) }
     ensures front { (bytes old new : List ℕ) → AreAnswered (Fronts bytes old new) }

@@ -10,6 +10,7 @@ pub mod LongBytes
 pub mod OtherParts
 pub mod Payloads
 pub mod PointedBytes
+pub mod RowReasons
 pub mod RowSizes
 pub mod RowTexts
 pub mod SeenParts

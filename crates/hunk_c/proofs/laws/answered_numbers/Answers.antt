@@ -1,4 +1,6 @@
-use Rattle.hunk_c.proofs.AnsweredNumbers.{begin_told, end_told, feed_told, front_told, list_told, load_at_told, load_told, plain_told, table_told, want_told, warnings_told, words_told}
+use Rattle.hunk_c.proofs.AnsweredNumbers.{begin_told, build_told, end_told, feed_told, front_told, list_told}
+use Rattle.hunk_c.proofs.AnsweredNumbers.{load_at_told, load_told, plain_told, table_told, want_told, warnings_told}
+use Rattle.hunk_c.proofs.AnsweredNumbers.{words_told}
 use Rattle.hunk_c.specs.{Checks.finding_rows, Strips.stripped_bytes}
 use Rattle.hunk_c.proofs.laws.answered_numbers.Goals as goal
 
@@ -13,6 +15,7 @@ returns c = record {
   want = want_told;
   check = list_told finding_rows (λ n. n);
   warnings = warnings_told;
+  build = build_told;
   strip = list_told stripped_bytes (λ n. n);
   plain = plain_told;
   front = front_told;
