@@ -60,6 +60,11 @@ static struct hunk_answer call_parts(void)
     return answered(hand_parts(taken.file, taken.file_len, taken.items, most_items()));
 }
 
+static struct hunk_answer call_build(void)
+{
+    return answered(hand_build(taken.parts, taken.parts_len, taken.file, taken.file_len, taken.text, taken.text_len));
+}
+
 static struct hunk_answer call_warnings(void)
 {
     return answered(
@@ -79,5 +84,6 @@ maker *const PLAIN_CALLS[CALLS] = {
     [ENTRIES] = call_entries,
     [REFERENCES] = call_references,
     [PARTS] = call_parts,
+    [BUILD] = call_build,
     [WARNINGS] = call_warnings,
 };

@@ -47,6 +47,9 @@ struct hand_answer hand_check(const uint8_t *b, size_t len, struct hunk_finding 
 struct hand_answer hand_items(enum hand_table table, const uint8_t *b, size_t len, void *rows,
                               size_t n);
 struct hand_answer hand_parts(const uint8_t *b, size_t len, struct hunk_part *rows, size_t n);
+/* Where the rows are refused, or there is too little room, its text stays as it was. */
+struct hand_answer hand_build(const struct hunk_part *rows, size_t rows_len, const uint8_t *bytes,
+                              size_t bytes_len, uint8_t *text, size_t text_len);
 /* The room is that of hunk_warnings. */
 struct hand_answer hand_warnings(const uint8_t *b, size_t len, uint32_t *room, size_t room_len,
                                  struct hunk_warning *rows, size_t n);

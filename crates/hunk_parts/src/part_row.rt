@@ -32,7 +32,7 @@ pub struct PartRow {
     /// The attributes of a hunk, or the value of a symbol or an entry. Of CODE and DATA it is bits
     /// 30 and 31 of the size word, of BSS the whole size word.
     pub value: u32,
-    /// 0.
+    /// 0. `build` does not read it.
     pub reserved: u32,
     /// The byte at which its content, its name or its data begins.
     pub content: u64,
