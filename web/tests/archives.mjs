@@ -39,7 +39,8 @@ async function compareSums(page, hold, work) {
     const found = firsts.find(([, map], which) => sums[i][which] && map.has(sums[i][which]));
     const first = found ? found[1].get(sums[i][firsts.indexOf(found)]) : "";
     const wanted = [...sums[i], found?.[0] ?? "", first].join();
-    hold(`${name}, its sums`, wanted, [line["file sum"], line["program sum"], line["memory sum"], line.same, line.first].join());
+    const said = [line["file sum"], line["program sum"], line["memory sum"], line.same, line.first].join();
+    hold(`${name}, its sums`, wanted, said);
     firsts.forEach(([, map], which) => sums[i][which] && !map.has(sums[i][which]) && map.set(sums[i][which], name));
   }
 }
@@ -57,17 +58,21 @@ const FOREIGN = {
 
 async function compareKinds(page, hold) {
   await page.drop(Object.entries(FOREIGN).map(([name, [digits]]) => [name, digits]));
-  const cells = `return [...document.querySelectorAll("#many-list [data-row]")].map((it) => it.children[10].textContent).join("|")`;
+  const cells = `return [...document.querySelectorAll("#many-list [data-row]")]
+    .map((it) => it.children[10].textContent).join("|")`;
   hold("what files are", "LhA archive|empty||load file, WHDLoad slave|", await page.in(cells));
   const one = (await linesOf(page)).at(-1);
-  hold("the sums of docs/SUMS.md", Array(3).fill(ONE_SUM).join(), [one["file sum"], one["program sum"], one["memory sum"]].join());
+  const sums = [one["file sum"], one["program sum"], one["memory sum"]].join();
+  hold("the sums of docs/SUMS.md", Array(3).fill(ONE_SUM).join(), sums);
 }
 
 /** Object files with EXT blocks: `_main` needs `_f` and `_g`; the second defines `_f`, and needs `_main` and `_h`;
  * `_common` is one of both, and SYMB defines nothing. */
 const OBJECTS = [
-  ["main.o", longs("3e7 0 3e9 1 4e714e71 3ef 1000002 '_mai 6e000000 0 81000001 '_f.. 1 0 81000001 '_g.. 1 0 82000002 '_com 6d6f6e00 4 0 0 3f2")],
-  ["f.o", longs("3e7 0 3e9 1 4e714e71 3ef 1000001 '_f.. 0 81000002 '_mai 6e000000 1 0 81000001 '_h.. 1 0 1 '_h.. 0 0 3f2")],
+  ["main.o", longs("3e7 0 3e9 1 4e714e71 3ef 1000002 '_mai 6e000000 0 81000001 '_f.. 1 0 81000001 '_g.. 1 0 " +
+    "82000002 '_com 6d6f6e00 4 0 0 3f2")],
+  ["f.o", longs("3e7 0 3e9 1 4e714e71 3ef 1000001 '_f.. 0 81000002 '_mai 6e000000 1 0 81000001 '_h.. 1 0 " +
+    "1 '_h.. 0 0 3f2")],
   ["g.o", longs("3e7 0 3e9 1 4e714e71 3ef 81000001 '_h.. 1 0 81000002 '_com 6d6f6e00 1 0 0 3f2")],
 ];
 

@@ -97,7 +97,8 @@ class Browser {
   async draw(from, to) {
     const move = ([x, y]) => ({ type: "pointerMove", x: Math.round(x), y: Math.round(y), duration: 20 });
     const middle = [(from[0] + to[0]) / 2, (from[1] + to[1]) / 2];
-    const actions = [move(from), { type: "pointerDown", button: 0 }, move(middle), move(to), { type: "pointerUp", button: 0 }];
+    const [down, up] = ["pointerDown", "pointerUp"].map((type) => ({ type, button: 0 }));
+    const actions = [move(from), down, move(middle), move(to), up];
     const mouse = { type: "pointer", id: "mouse", parameters: { pointerType: "mouse" }, actions };
     await this.inTab("input.performActions", { actions: [mouse] });
   }
@@ -121,8 +122,10 @@ export class Firefox extends Browser {
   static async open(folder) {
     const profile = `${folder}/firefox`;
     mkdirSync(profile, { recursive: true });
-    const words = ["--headless", "--remote-debugging-port", "0", "--remote-allow-system-access", "--no-remote", "--profile", profile];
-    const run = spawn("firefox-esr", words, { stdio: ["ignore", "ignore", "pipe"], env: { ...process.env, HOME: folder } });
+    const driven = ["--remote-debugging-port", "0", "--remote-allow-system-access"];
+    const words = ["--headless", ...driven, "--no-remote", "--profile", profile];
+    const env = { ...process.env, HOME: folder };
+    const run = spawn("firefox-esr", words, { stdio: ["ignore", "ignore", "pipe"], env });
     const bidi = await Bidi.open(`${await said(run.stderr, /WebDriver BiDi listening on (ws:\S+)/)}/session`);
     await bidi.send("session.new", { capabilities: {} });
     const browser = await new Firefox(run, bidi).begin();
@@ -141,7 +144,8 @@ export class Firefox extends Browser {
 
   /** Sets a number among the preferences, or with null takes it back. */
   #prefer(name, number) {
-    return this.#inBrowser(`Services.prefs.${number === null ? `clearUserPref("${name}")` : `setIntPref("${name}", ${number})`}`);
+    const call = number === null ? `clearUserPref("${name}")` : `setIntPref("${name}", ${number})`;
+    return this.#inBrowser(`Services.prefs.${call}`);
   }
 
   dark(is) {
@@ -186,7 +190,8 @@ export class Chromium extends Browser {
 
   async size(width, height) {
     this.sized = { width, height };
-    await this.#own("Emulation.setDeviceMetricsOverride", { width, height, deviceScaleFactor: 1, mobile: this.isTouched });
+    const metrics = { width, height, deviceScaleFactor: 1, mobile: this.isTouched };
+    await this.#own("Emulation.setDeviceMetricsOverride", metrics);
   }
 
   /** What a page takes the screen for. */
@@ -222,6 +227,8 @@ export class Chromium extends Browser {
   /** Drops files and folders as a desktop does. */
   async dropPaths(files) {
     const data = { items: [], files, dragOperationsMask: 1 };
-    for (const type of ["dragEnter", "dragOver", "drop"]) await this.#own("Input.dispatchDragEvent", { type, x: 200, y: 70, data });
+    for (const type of ["dragEnter", "dragOver", "drop"]) {
+      await this.#own("Input.dispatchDragEvent", { type, x: 200, y: 70, data });
+    }
   }
 }

@@ -19,7 +19,12 @@ rest: 1 byte more in B
 `.split("\n").sort().join("\n");
 
 const text = async (page) => Buffer.from(await page.saved("compare-save"), "hex").toString();
-const shown = (page, id) => page.in(`const it = document.getElementById(values[0]); return it.checkVisibility() ? it.textContent : "hidden"`, id);
+const shown = (page, id) =>
+  page.in(
+    `const it = document.getElementById(values[0]);
+     return it.checkVisibility() ? it.textContent : "hidden"`,
+    id,
+  );
 
 /** Shows a table of two files, and these beside each other. */
 async function compare(page, files) {
@@ -30,14 +35,19 @@ async function compare(page, files) {
 async function compareByHand(page, hold) {
   await compare(page, [["one", LOAD], ["other", OTHER]]);
   hold("what differs", LINES, (await text(page)).split("\n").sort().join("\n"));
-  hold("in what they are the same", "file: different, program: different, memory: different", await shown(page, "compare-same"));
-  const rows = `return [...document.querySelectorAll("#compare-list [data-row]")].map((it) => [...it.children].map((cell) => cell.textContent).join("|"))`;
+  const same = "file: different, program: different, memory: different";
+  hold("in what they are the same", same, await shown(page, "compare-same"));
+  const rows = `return [...document.querySelectorAll("#compare-list [data-row]")]
+    .map((it) => [...it.children].map((cell) => cell.textContent).join("|"))`;
   const found = await page.in(rows);
-  hold("the content beside each other", "0|content: 1 byte differs, at 0x00000008|4e 71 4e 71 00 00 00 00|4f 71 4e 71 00 00 00 00", found[0]);
+  const beside = "0|content: 1 byte differs, at 0x00000008|4e 71 4e 71 00 00 00 00|4f 71 4e 71 00 00 00 00";
+  hold("the content beside each other", beside, found[0]);
   hold("a name of B alone", true, found.includes("0|symbols||0x00000008 sub_one."));
-  const picked = `return ["a", "b"].map((it) => [...document.querySelectorAll("#compare-" + it + " .picked")].map((cell) => cell.textContent).join("")).join()`;
+  const picked = `const cells = (it) => [...document.querySelectorAll("#compare-" + it + " .picked")];
+    return ["a", "b"].map((it) => cells(it).map((cell) => cell.textContent).join("")).join()`;
   hold("its bytes in both", "4e714e7100000000,4f714e7100000000", await page.in(picked));
-  const row = `[...document.querySelectorAll("#compare-list [data-row]")].find((it) => /sub_one/.test(it.textContent)).click();`;
+  const row = `[...document.querySelectorAll("#compare-list [data-row]")]
+    .find((it) => /sub_one/.test(it.textContent)).click();`;
   hold("the bytes of a name of B alone", true, /^,.*7375625f6f6e652e/.test(await page.in(row + picked)));
   hold("the file that was shown is not shown now", "hidden", await shown(page, "verdict"));
 }
@@ -46,12 +56,15 @@ async function compareOthers(page, hold) {
   await compare(page, [["one", LOAD], ["same", LOAD]]);
   hold("the same bytes", "Nothing differs: A and B are the same, byte for byte.", await shown(page, "compare-told"));
   await compare(page, [["one", LOAD], ["refused", LOAD.slice(0, 64)]]);
-  hold("one that is refused", "Nothing is compared: B is refused, or is more than this page lists.", await shown(page, "compare-told"));
+  const refused = "Nothing is compared: B is refused, or is more than this page lists.";
+  hold("one that is refused", refused, await shown(page, "compare-told"));
   await page.drop([["one", LOAD], ["two", LOAD], ["three", OTHER]]);
   await page.in(`document.getElementById("compare-two").click()`);
   hold("none of three is chosen", true, (await shown(page, "many-summary")).startsWith("Choose two rows"));
   const keys = `const grid = document.getElementById("many-list");
-    for (const shiftKey of [false, true]) grid.dispatchEvent(new KeyboardEvent("keydown", { key: "ArrowDown", shiftKey, bubbles: true }));
+    for (const shiftKey of [false, true]) {
+      grid.dispatchEvent(new KeyboardEvent("keydown", { key: "ArrowDown", shiftKey, bubbles: true }));
+    }
     document.getElementById("compare-two").click();`;
   await page.shows(() => page.in(keys));
   const names = `return [...document.querySelectorAll("#compare strong")].map((it) => it.textContent).join()`;
@@ -65,10 +78,12 @@ async function compareOthers(page, hold) {
 
 /** Nothing lies over something else, and nothing is wider than the window. */
 async function compareLayout(page, hold) {
-  const tops = `const [table, compared] = ["many", "compare"].map((id) => document.getElementById(id).getBoundingClientRect());
+  const tops = `const box = (id) => document.getElementById(id).getBoundingClientRect();
+    const [table, compared] = [box("many"), box("compare")];
     const last = document.getElementById("compare-b").getBoundingClientRect();
     const words = document.getElementById("words").getBoundingClientRect();
-    return [compared.top >= table.bottom, words.top >= last.bottom, document.documentElement.scrollWidth <= innerWidth].join()`;
+    const isWithin = document.documentElement.scrollWidth <= innerWidth;
+    return [compared.top >= table.bottom, words.top >= last.bottom, isWithin].join()`;
   for (const width of [1280, 390]) {
     await page.browser.size(width, 900);
     await compare(page, [["one", LOAD], ["other", OTHER]]);
@@ -87,7 +102,9 @@ async function comparePicked(page, hold, work) {
 /** The accepted texts of the suite. */
 const TEXTS = [["load", 2], ["objects", 2], ["warnings", 1]].flatMap(([table, column]) =>
   readFileSync(`${root}vectors/${table}.tsv`, "utf8").split("\n").filter((line) => line && !line.startsWith("#"))
-    .map((line) => line.split("\t")).filter((row) => table === "warnings" || row[column + 1] === "accepted").map((row) => [row[column - 1], row[column]]));
+    .map((line) => line.split("\t"))
+    .filter((row) => table === "warnings" || row[column + 1] === "accepted")
+    .map((row) => [row[column - 1], row[column]]));
 
 /** Every third text beside the one behind it, as the command has it. */
 async function compareCommand(page, hold, work) {
@@ -98,7 +115,8 @@ async function compareCommand(page, hold, work) {
     await compare(page, files);
     const name = files.map(([it]) => it).join(" and ");
     hold(`${name}, what differs`, called("diff", "--items", "--wide", ...paths).out.toString(), await text(page));
-    hold(`${name}, the same`, called("same", ...paths).out.toString().trim().replaceAll("\n", ", "), await shown(page, "compare-same"));
+    const same = called("same", ...paths).out.toString().trim().replaceAll("\n", ", ");
+    hold(`${name}, the same`, same, await shown(page, "compare-same"));
   }
 }
 

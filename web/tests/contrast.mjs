@@ -33,11 +33,15 @@ const COLOURS = `
 const WORST = `${COLOURS}
   const found = new Set([...document.querySelectorAll("input:not([type=file]), select")]);
   const walker = document.createTreeWalker(document.body, NodeFilter.SHOW_TEXT);
-  for (let node = walker.nextNode(); node; node = walker.nextNode()) if (node.data.trim()) found.add(node.parentElement);
-  const texts = [...found].filter((it) => it instanceof HTMLElement && it.checkVisibility() && it.getClientRects().length > 0);
+  for (let node = walker.nextNode(); node; node = walker.nextNode()) {
+    if (node.data.trim()) found.add(node.parentElement);
+  }
+  const isSeen = (it) => it instanceof HTMLElement && it.checkVisibility() && it.getClientRects().length > 0;
+  const texts = [...found].filter(isSeen);
   const all = texts.map((it) => [contrast(it), it]).sort(([one], [other]) => one - other);
   const [worst, element] = all[0];
-  return { texts: texts.length, worst, of: element.tagName + "." + element.className + " " + element.textContent.slice(0, 40) };`;
+  const of = element.tagName + "." + element.className + " " + element.textContent.slice(0, 40);
+  return { texts: texts.length, worst, of };`;
 
 const TINTS = `${COLOURS}
   const cells = [...document.querySelectorAll(".hex b[style]")].map((it) => light(behind(it)));

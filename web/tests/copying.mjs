@@ -27,14 +27,18 @@ async function tryRows(page, hold) {
   await page.hex(SUM);
   const rows = (...keys) => page.in(`${COPIED} document.getElementById("tab-blocks").click();
     press("${GRID}", ...values); return copied("${GRID}")`, ...keys);
-  const lines = ["0000001c\t0\tCODE\t56\t48 bytes of content\n", "00000054\t0\tRELOC32\t32\t2 items\n", "00000074\t0\tEND\t4\t\n"];
+  const lines = [
+    "0000001c\t0\tCODE\t56\t48 bytes of content\n", "00000054\t0\tRELOC32\t32\t2 items\n",
+    "00000074\t0\tEND\t4\t\n",
+  ];
   hold("a row, copied", lines[0], await rows("Home"));
   hold("three rows, copied", lines.join(""), await rows("Home", "Shift+ArrowDown", "Shift+ArrowDown"));
   hold("rows upwards, copied", lines.slice(1).join(""), await rows("ArrowDown", "ArrowDown", "Shift+ArrowUp"));
   hold("all rows, copied", 5, (await rows("Ctrl+a")).split("\n").length - 1);
   const button = await page.in(
     `let text = "nothing";
-     Object.defineProperty(navigator, "clipboard", { value: { writeText: async (it) => { text = it; } }, configurable: true });
+     const writeText = async (it) => { text = it; };
+     Object.defineProperty(navigator, "clipboard", { value: { writeText }, configurable: true });
      document.getElementById("copy-list").click();
      await new Promise((done) => setTimeout(done, 50));
      return text.split("\\n").slice(0, 2).join("\\n") + " / " + document.getElementById("copied-list").textContent`,
@@ -51,7 +55,8 @@ async function tryBytes(page, hold) {
   hold("bytes of the memory, copied", "00 02 10 20\n", memory);
   hold("bytes of two lines", 2, (await bytes("file", "Home", "Shift+ArrowDown")).split("\n").length - 1);
   hold("all bytes, copied", SUM.toLowerCase(), (await bytes("file", "Ctrl+a")).replace(/\s/g, ""));
-  await page.in(`document.getElementById("tab-relocations").click(); document.querySelector("#list-panel [data-row]").click()`);
+  await page.in(`document.getElementById("tab-relocations").click();
+    document.querySelector("#list-panel [data-row]").click()`);
   hold("the bytes of a row, copied", "00 00 00 02\n", await bytes("file"));
 }
 

@@ -77,7 +77,8 @@ const SUM_FILE = [
   [0x68, "00000068 | hunk 0, RELOC32: target | 00000001 | hunk 1 | → hunk 1 + 00000000 = 00021030"],
   [
     0x6f,
-    "0000006c | hunk 0, RELOC32: offset 1 of 1 | 00000008 | the base of hunk 1 is added there | → hunk 0 + 00000008 = 00021008",
+    "0000006c | hunk 0, RELOC32: offset 1 of 1 | 00000008 | the base of hunk 1 is added there" +
+      " | → hunk 0 + 00000008 = 00021008",
   ],
   [0x70, "00000070 | hunk 0, RELOC32: end | 00000000 | no more follow in this block"],
   [0x7c, "0000007c | hunk 1, BSS: size | 00000003 | 3 longwords, 12 bytes"],
@@ -103,7 +104,10 @@ const SYMBOLS_FILE = [
   [0x44, "00000044 | hunk 0, SYMBOL: name | 676f0000 | go"],
   [0x48, "00000048 | hunk 0, SYMBOL: value | 00000004 | offset in its hunk | → hunk 0 + 00000004 = 00021004"],
   [0x4c, "0000004c | hunk 0, SYMBOL: symbol | 00000001 | 1 longword of name: end"],
-  [0x54, "00000054 | hunk 0, SYMBOL: value | 00000008 | offset in its hunk | → hunk 0 + 00000008 = 00021008, outside of it"],
+  [
+    0x54,
+    "00000054 | hunk 0, SYMBOL: value | 00000008 | offset in its hunk | → hunk 0 + 00000008 = 00021008, outside of it",
+  ],
 ];
 
 const OBJECT_FILE = [
@@ -112,7 +116,10 @@ const OBJECT_FILE = [
   [0x14, "00000014 | unit 0, hunk 0, CODE: content at offset 00000000 | 4eb9"],
   [0x17, "00000016 | unit 0, hunk 0, CODE: content at offset 00000002 | 00000000 | REF32 _f"],
   [0x1a, "0000001a | unit 0, hunk 0, CODE: content at offset 00000006 | 4ef9"],
-  [0x1c, "0000001c | unit 0, hunk 0, CODE: content at offset 00000008 | 00000004 | RELOC32 to hunk 1 | → hunk 1 + 00000004"],
+  [
+    0x1c,
+    "0000001c | unit 0, hunk 0, CODE: content at offset 00000008 | 00000004 | RELOC32 to hunk 1 | → hunk 1 + 00000004",
+  ],
   [0x38, "00000038 | unit 0, hunk 0, EXT: REF32 entry | 81000001 | 1 longword of name: _f"],
   [0x40, "00000040 | unit 0, hunk 0, EXT: count | 00000001 | 1 offset"],
   [0x44, "00000044 | unit 0, hunk 0, EXT: offset 1 of 1 | 00000002 | refers to the name there | → hunk 0 + 00000002"],
@@ -198,7 +205,8 @@ export async function compareCursor(page, hold) {
   await page.hex(`${SUM.slice(0, 0x58 * 2)}00000001 00000002`.replace(" ", ""));
   const refused = "0000005c | refused here, BadTarget | 00000002";
   hold("what is told of a refused file", refused, await page.in(`${LINE} return line("file")`));
-  hold("another longword of it", "00000058 | in the block that is refused | 00000001", await pointed(page, "file", 0x5b));
+  const another = "00000058 | in the block that is refused | 00000001";
+  hold("another longword of it", another, await pointed(page, "file", 0x5b));
   await page.hex(`000003e70000001a${"61".repeat(104)}`);
   hold("a long name", `00000008 | UNIT 0: name | ${"a".repeat(100)}…`, await pointed(page, "file", 8));
   await page.hex(`${SUM}00`);

@@ -22,12 +22,14 @@ const HEIGHTS = `
   const height = canvas.height - 45;
   const { data } = canvas.getContext("2d").getImageData(0, 0, canvas.width, height);
   const isDrawn = (x, y) => data[4 * (y * canvas.width + x) + 3] > values[0];
-  const columns = [...Array(canvas.width).keys()].map((x) => [...Array(height).keys()].filter((y) => isDrawn(x, y)).length / height);`;
+  const rows = [...Array(height).keys()];
+  const columns = [...Array(canvas.width).keys()].map((x) => rows.filter((y) => isDrawn(x, y)).length / height);`;
 
 const POINT = `
   const picture = document.getElementById("map-picture");
   const { left, top, width } = picture.getBoundingClientRect();
-  picture.dispatchEvent(new PointerEvent("pointermove", { bubbles: true, clientX: left + values[1] * width, clientY: top + 110 }));`;
+  const at = { clientX: left + values[1] * width, clientY: top + 110 };
+  picture.dispatchEvent(new PointerEvent("pointermove", { bubbles: true, ...at }));`;
 
 const SHARE = `return columns.reduce((sum, it) => sum + it, 0) / columns.length`;
 

@@ -10,6 +10,7 @@ const WRONG = `console.error("told");
 export async function compareFaults(page, hold) {
   hold("errors before", "", (await page.browser.faults()).join());
   await page.in(WRONG);
-  const found = (await page.browser.faults()).map((it) => it.replace(/^Uncaught (\(in promise\) )?/, "").replace("Error: ", ""));
+  const bare = (it) => it.replace(/^Uncaught (\(in promise\) )?/, "").replace("Error: ", "");
+  const found = (await page.browser.faults()).map(bare);
   hold("errors that are seen", "rejected,thrown,told", found.sort().join());
 }

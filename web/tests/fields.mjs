@@ -4,7 +4,8 @@ import { LOAD, TEXT, VERDICT, type } from "./many.mjs";
 
 async function tryBase(page, hold) {
   const field = `const field = document.getElementById("base");
-    return [field.getAttribute("aria-invalid"), document.getElementById(field.getAttribute("aria-describedby")).textContent,
+    const note = document.getElementById(field.getAttribute("aria-describedby"));
+    return [field.getAttribute("aria-invalid"), note.textContent,
       document.querySelector("#memory-hex .at").textContent,
       document.querySelector("#list-panel [data-row]").children[3].textContent].join()`;
   const wrong = "true,No address of up to 8 hexadecimal digits.";
@@ -28,7 +29,10 @@ async function tryBase(page, hold) {
 const BOTH = "00000004,0000000c";
 /** What is typed above a list, and what is left of it: the column that tells the rows apart, the last of symbols. */
 const FOUND = {
-  symbols: [-1, { "": "main,add_one.,Tabl", ADD: "add_one.", 8: "add_one.", "0x21014": "Tabl", $4: "Tabl", 21000: "main", z: "" }],
+  symbols: [
+    -1,
+    { "": "main,add_one.,Tabl", ADD: "add_one.", 8: "add_one.", "0x21014": "Tabl", $4: "Tabl", 21000: "main", z: "" },
+  ],
   relocations: [2, { "": BOTH, c: "0000000c", "0x4": "00000004", "2100c": "0000000c", RELOC32: BOTH, 8: "" }],
 };
 
@@ -70,19 +74,23 @@ async function tryLink(page, hold) {
   await page.open("#example=two-hunks&base=00021000");
   await type(page, "#base", "30000", "change");
   hold("an address with another base", "#example=two-hunks&base=00030000", await page.in("return location.hash"));
-  hold("the link of an example", `${here}#example=two-hunks&base=00030000,Copied.,`, (await page.in(COPY, false)).join());
+  const copied = `${here}#example=two-hunks&base=00030000,Copied.,`;
+  hold("the link of an example", copied, (await page.in(COPY, false)).join());
   await page.drop([["load", LOAD]]);
   hold("the address of a file", here, await page.in("return location.href"));
   const link = `${here}#hex=${LOAD}&base=00030000`;
   hold("its link", `${link},Copied. The file itself is in the link.,`, (await page.in(COPY, false)).join());
   await page.drop([["load", LOAD]]);
-  hold("what is said of it, of the next file", "", await page.in(`return document.getElementById("copied").textContent`));
+  const told = await page.in(`return document.getElementById("copied").textContent`);
+  hold("what is said of it, of the next file", "", told);
   const refused = await page.in(COPY, true);
-  hold("a link that can't be copied", `nothing,This browser lets nothing be copied. The link is here:,${link}`, refused.join());
+  const inField = `nothing,This browser lets nothing be copied. The link is here:,${link}`;
+  hold("a link that can't be copied", inField, refused.join());
   await page.drop([["text", TEXT], ["load", LOAD]]);
   hold("the address of many files", here, await page.in("return location.href"));
   await page.drop([["large", LOAD + "00".repeat(4097 - LOAD.length / 2)]]);
-  hold("the link of 4,097 bytes", "nothing,A link takes a file of 4,096 bytes at most.,", (await page.in(COPY, false)).join());
+  const tooLarge = "nothing,A link takes a file of 4,096 bytes at most.,";
+  hold("the link of 4,097 bytes", tooLarge, (await page.in(COPY, false)).join());
   await page.open(link.slice(here.length));
   hold("a link that is opened", "A load file: 2 hunks, 24 bytes in memory.", await page.in(VERDICT));
   hold("its address", link, await page.in("return location.href"));

@@ -16,15 +16,23 @@ const FIND = `
 /** In the file 4e75 stands at 40 and 4e71 at 42, and END at 74 and 80; in the memory the code begins at 21000, and in
  * the file at 24. */
 const FINDS = {
-  memory: { 21008: "21008-2100b", $21030: "21030-21033", "4e 71": "2101e-2101f", '"Nu"': "2101c-2101d", "4e75": "2101c-2101d" },
+  memory: {
+    21008: "21008-2100b", $21030: "21030-21033", "4e 71": "2101e-2101f", '"Nu"': "2101c-2101d", "4e75": "2101c-2101d",
+  },
   file: { "0x1c": "1c-1f", "4e 71": "42-43", '"NuNq"': "40-43", "4e 75": "40-41", "ff ff ff": "It is not there." },
 };
 
 export async function compareFinding(page, hold) {
   await page.hex(SUM);
   for (const [view, finds] of Object.entries(FINDS)) {
-    await page.in(`document.getElementById(values[0] + "-hex").dispatchEvent(new KeyboardEvent("keydown", { key: "Home", bubbles: true }))`, view);
-    for (const [said, wanted] of Object.entries(finds)) hold(`${said} in the ${view}`, wanted, await page.in(FIND, view, said));
+    await page.in(
+      `const box = document.getElementById(values[0] + "-hex");
+       box.dispatchEvent(new KeyboardEvent("keydown", { key: "Home", bubbles: true }))`,
+      view,
+    );
+    for (const [said, wanted] of Object.entries(finds)) {
+      hold(`${said} in the ${view}`, wanted, await page.in(FIND, view, said));
+    }
   }
   hold("the next END", "74-77", await page.in(FIND, "file", "00 00 03 f2"));
   hold("the one behind it", "80-83", await page.in(FIND, "file", "00 00 03 f2"));

@@ -17,7 +17,8 @@ const PRESS = `
     document.getElementById("tab-" + list).click();
     document.querySelectorAll("#list-panel [data-row]")[i].click();
   };
-  const keyed = (id, key) => document.getElementById(id).dispatchEvent(new KeyboardEvent("keydown", { key, bubbles: true }));
+  const keyed = (id, key) =>
+    document.getElementById(id).dispatchEvent(new KeyboardEvent("keydown", { key, bubbles: true }));
   const found = (id, text) => {
     document.getElementById("find-" + id).value = text;
     keyed("find-" + id, "Enter");
@@ -29,7 +30,8 @@ const run = (page, acts, ...values) => page.in(`${PLACE} ${PRESS} ${acts}`, ...v
 
 async function tryWays(page, hold) {
   await page.hex(SUM);
-  hold("before a jump", "21000,0,0,true,true", await run(page, `return [place(), back().disabled, forward().disabled].join()`));
+  const buttons = `return [place(), back().disabled, forward().disabled].join()`;
+  hold("before a jump", "21000,0,0,true,true", await run(page, buttons));
   const length = await page.in("return history.length");
   const places = `const found_ = [place()];
     row("relocations", 1); found_.push(place());
@@ -70,7 +72,8 @@ async function tryMoved(page, hold) {
 /** The link that is copied, behind the address, and what is said of it. */
 const COPY = `
   let copied = "nothing";
-  Object.defineProperty(navigator, "clipboard", { value: { writeText: async (text) => (copied = text) }, configurable: true });
+  const writeText = async (text) => (copied = text);
+  Object.defineProperty(navigator, "clipboard", { value: { writeText }, configurable: true });
   document.getElementById("copy-link").click();
   await new Promise((done) => setTimeout(done, 50));
   return [copied.replace(/.*#/s, ""), document.getElementById("copied").textContent]`;
@@ -91,12 +94,14 @@ async function tryLinks(page, hold) {
   await page.open("#example=sum&at=ffff");
   hold("a byte that is not there", "The link leads to a byte that is not there: ffff.", await page.in(TOLD));
   await page.open("#at=24");
-  hold("a link to a byte alone", "The link leads to byte 24 of a file: drop it, and it is shown there.", await page.in(TOLD));
+  const alone = "The link leads to byte 24 of a file: drop it, and it is shown there.";
+  hold("a link to a byte alone", alone, await page.in(TOLD));
   await page.drop([["large", PROGRAM.padEnd(9000, "00")]]);
   hold("the file that is dropped then", "21000,24,4", await run(page, "return place()"));
   await run(page, `row("blocks", 3)`);
   const [short, told] = await run(page, COPY);
-  hold("the link of a large file", true, /^at=[0-9a-f]+$/.test(short) && told.startsWith("Copied. It leads to the byte"));
+  const isOfByte = /^at=[0-9a-f]+$/.test(short) && told.startsWith("Copied. It leads to the byte");
+  hold("the link of a large file", true, isOfByte);
   await page.shows(() => page.in(`location.hash = "#at=30"`));
   const shown = `return at("file", "caret")[0] + "," + document.title.split(" ")[0]`;
   hold("an address to a byte of the file that is shown", "30,large", await run(page, shown));

@@ -21,7 +21,8 @@ const SEEN = `
 const CARETS = `
   const caret = (id) => {
     const cell = document.querySelector("#" + id + "-hex .caret");
-    return (parseInt(cell.parentNode.firstChild.textContent, 16) + [...cell.parentNode.children].indexOf(cell) - 1).toString(16);
+    const line = cell.parentNode;
+    return (parseInt(line.firstChild.textContent, 16) + [...line.children].indexOf(cell) - 1).toString(16);
   };
   return [caret("memory"), caret("file")].join()`;
 
@@ -52,8 +53,10 @@ async function way(page, key, last) {
   return [found.join(" "), unseen.join(" ")];
 }
 
-const OPENING = `pick pick-folder example #example=sum #example=code-and-ext #example=offset-outside pick-other copy-link tab-hunks
-  grid of list-panel copy-list save-list save-stripped save-linkable map-picture save-map base save-memory save-records save-program
+const OPENING = `pick pick-folder example #example=sum #example=code-and-ext #example=offset-outside
+  pick-other copy-link tab-hunks
+  grid of list-panel copy-list save-list save-stripped save-linkable map-picture save-map
+  base save-memory save-records save-program
   find-memory copy-memory memory-picture memory-hex
   button of memory-item find-file copy-file file-picture file-hex`.replace(/\s+/g, " ");
 
@@ -96,7 +99,8 @@ async function comparePictures(page, hold) {
   await page.open();
   await reach(page, "map-picture");
   const tip = `return document.activeElement.parentNode.querySelector(".picture-tip").textContent`;
-  hold("the label of the map", "hunk 0, CODE, 48 bytes, any memory, 2 relocations: 1 to hunk 0, 1 to hunk 1", await page.in(tip));
+  const first = "hunk 0, CODE, 48 bytes, any memory, 2 relocations: 1 to hunk 0, 1 to hunk 1";
+  hold("the label of the map", first, await page.in(tip));
   await press(page, "ArrowRight", "Enter");
   hold("Enter at the second hunk", "21030,78", await page.in(CARETS));
   await reach(page, "memory-picture");
@@ -137,19 +141,22 @@ async function compareExamples(page, hold) {
   hold("the focus behind it", "#example=code-and-ext", await focused(page));
   await reach(page, "example", "Shift+Tab");
   await page.shows(() => press(page, "ArrowDown"));
-  hold("the next of the list by an arrow key", true, (await page.in("return document.title")) !== "code-and-ext - hunk files");
+  const title = await page.in("return document.title");
+  hold("the next of the list by an arrow key", true, title !== "code-and-ext - hunk files");
   hold("the focus in the list", "example", await focused(page));
 }
 
 /** Lists that are scrolled, and a table of files. */
 async function compareLong(page, hold) {
   await page.open();
-  await page.drop([["sum", SUM], ["program", PROGRAM], ...Array.from({ length: 40 }, (_, i) => [`text ${i}`, "54657874"])]);
+  const texts = Array.from({ length: 40 }, (_, i) => [`text ${i}`, "54657874"]);
+  await page.drop([["sum", SUM], ["program", PROGRAM], ...texts]);
   await page.in("document.activeElement.blur()");
   const heads = Array(11).fill("columnheader of many-list").join(" ");
   const classes = "button of many-classes button of many-classes button of many-classes";
   const [there] = await way(page, "Tab", "many-list");
-  hold("what Tab leads to in a table", `pick pick-folder example ${classes} many-filter save-csv compare-two many-list`, there);
+  const table = `pick pick-folder example ${classes} many-filter save-csv compare-two many-list`;
+  hold("what Tab leads to in a table", table, there);
   await press(page, "ArrowDown");
   await page.shows(() => press(page, "Enter"));
   hold("the file that Enter opens", "program - hunk files", await page.in("return document.title"));
@@ -160,7 +167,8 @@ async function compareLong(page, hold) {
   await press(page, "ArrowLeft");
   const [list] = await way(page, "Tab", "map-picture");
   const five = Array(5).fill("columnheader of list-panel").join(" ");
-  const behind = `input of list-panel select of list-panel grid of list-panel ${five} copy-list save-list save-stripped save-linkable map-picture`;
+  const ofList = `input of list-panel select of list-panel grid of list-panel ${five}`;
+  const behind = `${ofList} copy-list save-list save-stripped save-linkable map-picture`;
   hold("what follows a list that scrolls", behind, list);
   await reach(page, "grid of list-panel", "Shift+Tab");
   await press(page, "End", "Enter");

@@ -16,5 +16,6 @@ const KEYS = {
 export function actionsOf(name) {
   const values = name.split("+").map((key) => KEYS[key]);
   const act = (type) => (value) => ({ type, value });
-  return [{ type: "key", id: "keyboard", actions: [...values.map(act("keyDown")), ...values.reverse().map(act("keyUp"))] }];
+  const actions = [...values.map(act("keyDown")), ...values.reverse().map(act("keyUp"))];
+  return [{ type: "key", id: "keyboard", actions }];
 }

@@ -10,12 +10,16 @@ export async function tryLarge(page, hold, work) {
     const path = `${work}/large-${kind}`;
     execFileSync("python3", [`${root}bench/make.py`, kind, size, path]);
     await page.shows(() => page.browser.upload("#pick", [path]));
-    const [first, time] = await page.in(`return [document.getElementById("verdict").textContent, document.getElementById("time").textContent]`);
+    const told = `return ["verdict", "time"].map((id) => document.getElementById(id).textContent)`;
+    const [first, time] = await page.in(told);
     const rows = await page.in(`return document.querySelectorAll("[data-row], .line").length`);
     hold(`${kind}, rows that are rendered, fewer than 120`, true, rows < 120);
     console.log(`${page.browser.name}: ${first} ${time}`);
     const wanted = (Math.ceil(statSync(path).size / 16) * 16 - 16).toString(16).padStart(8, "0");
-    const ways = { "the key End": `box.dispatchEvent(new KeyboardEvent("keydown", { key: "End" }))`, scrolling: "box.scrollTop = 1e9" };
+    const ways = {
+      "the key End": `box.dispatchEvent(new KeyboardEvent("keydown", { key: "End" }))`,
+      scrolling: "box.scrollTop = 1e9",
+    };
     for (const [name, way] of Object.entries(ways)) {
       const last = await page.in(
         `const box = document.getElementById("file-hex");

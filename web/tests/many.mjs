@@ -6,11 +6,13 @@ import { createServer } from "node:http";
 
 /** The digits of longwords; words of four characters are given in quotes. */
 export const longs = (text) =>
-  text.split(/\s+/).map((it) => (it[0] === "'" ? Buffer.from(it.slice(1)).toString("hex") : it.padStart(8, "0"))).join("");
+  text.split(/\s+/)
+    .map((it) => (it[0] === "'" ? Buffer.from(it.slice(1)).toString("hex") : it.padStart(8, "0"))).join("");
 
 /** The three sums of digits, with commas between them. */
 const sums = (...digits) =>
-  [0, 1, 2].map((i) => (digits[i] ? createHash("sha256").update(Buffer.from(digits[i], "hex")).digest("hex") : "")).join(",");
+  [0, 1, 2].map((i) => (digits[i] ? createHash("sha256").update(Buffer.from(digits[i], "hex")).digest("hex") : ""))
+    .join(",");
 
 /** 164 bytes: 16 of code at 21000 with two relocated longs, at 4 and c, and 8 of data; 3 symbols, the last at byte
  * 90. */
@@ -47,7 +49,8 @@ over,40,not supported,refused,load file,,,,,,36,Overlay,11,,${sums(OVERLAY)},,,
 `;
 const CSV = `${HEAD}\n${LINES}`.replaceAll("\n", "\r\n");
 
-const NAMES = `return [...document.querySelectorAll("#many-list [data-row] > :first-child")].map((it) => it.textContent).join()`;
+const NAMES = `return [...document.querySelectorAll("#many-list [data-row] > :first-child")]
+  .map((it) => it.textContent).join()`;
 const NOTE = `return document.getElementById("many-note").textContent`;
 const PARTIAL = `return document.getElementById("many-partial").textContent !== ""`;
 export const VERDICT = `return document.getElementById("verdict").textContent`;
@@ -68,14 +71,16 @@ async function tryTable(page, hold) {
   hold("the table, saved", CSV, await textOf(page, "save-csv"));
   const buttons = `return [...document.querySelectorAll("#many-classes button")].filter((it) => it.checkVisibility())
     .map((it) => it.textContent).join()`;
-  hold("the classes", "8 all,2 load,1 object,1 findings,1 wide,1 no hunk file,1 not supported,1 damaged", await page.in(buttons));
+  const classes = "8 all,2 load,1 object,1 findings,1 wide,1 no hunk file,1 not supported,1 damaged";
+  hold("the classes", classes, await page.in(buttons));
   await page.in(`document.querySelector("#many-classes [name=load]").click()`);
   hold("the files of a class", 'load,b, "Two"', await page.in(NAMES));
   await type(page, "#many-filter", "tWO");
   hold("those with a text in the name, in capitals or not", 'b, "Two"', await page.in(NAMES));
   const saved = CSV.split("\r\n");
   hold("those, saved", [saved[0], saved[2], ""].join("\r\n"), await textOf(page, "save-csv"));
-  hold("how many those are", "1 of 8 files", await page.in(`return document.getElementById("many-summary").textContent`));
+  const count = await page.in(`return document.getElementById("many-summary").textContent`);
+  hold("how many those are", "1 of 8 files", count);
   await page.in(`document.querySelector("#many-classes [name='']").click()`);
   await type(page, "#many-filter", "");
   const sort = `document.querySelectorAll("#many-list [role=columnheader]")[6].click();`;
@@ -120,13 +125,15 @@ async function tryLayout(page, hold) {
   hold("texts that are cut", 0, await page.in(cut));
   const height = `const { bottom } = document.getElementById("many-list").getBoundingClientRect();
     const { top } = document.querySelector("footer").getBoundingClientRect();
-    return [top - bottom < 80, bottom > innerHeight - 120, document.documentElement.scrollHeight <= innerHeight].join()`;
+    const isWithin = document.documentElement.scrollHeight <= innerHeight;
+    return [top - bottom < 80, bottom > innerHeight - 120, isWithin].join()`;
   hold("the table fills the height", "true,true,true", await page.in(height));
   await page.browser.size(390, 844);
   hold("the table on a phone", true, await page.in("return document.documentElement.scrollWidth <= innerWidth"));
   await page.browser.size(1280, 900);
   await page.shows(() => page.in(`[...document.querySelectorAll("#many-list [data-row]")].at(-3).click()`));
-  const seen = `const { top, bottom } = document.querySelector("#many-list [aria-selected=true]").getBoundingClientRect();
+  const seen = `const row = document.querySelector("#many-list [aria-selected=true]");
+    const { top, bottom } = row.getBoundingClientRect();
     const box = document.querySelector("#many-list .body").getBoundingClientRect();
     return top >= box.top - 1 && bottom <= box.bottom + 1 && box.height < 300`;
   hold("the file that was picked is seen in the table", true, await page.in(seen));
@@ -172,7 +179,8 @@ async function tryUnread(page, hold) {
   const lines = (await textOf(page, "save-csv")).split("\r\n");
   hold("its line", "box/lost,,not judged,unread,,,,,,,,Read,30,,,,,,,", lines.find((it) => it.startsWith("box/lost")));
   hold("that names may be left out", false, await page.in(PARTIAL));
-  const pick = `[...document.querySelectorAll("#many-list [data-row]")].find((it) => /lost/.test(it.textContent)).click()`;
+  const pick = `[...document.querySelectorAll("#many-list [data-row]")]
+    .find((it) => /lost/.test(it.textContent)).click()`;
   await page.shows(() => page.in(pick));
   hold("a file that can't be read", "1 could not be read: box/lost (no longer there).", await page.in(VERDICT));
 }
@@ -199,7 +207,8 @@ async function tryNoMemory(page, hold) {
 /** Files that are picked; one of them is deleted before it is read. */
 async function tryVanished(page, hold, work) {
   const paths = ["stays", "goes"].map((name) => `${work}/${name}`);
-  const HELD = `addEventListener("change", (event) => event.stopImmediatePropagation(), { capture: true, once: true });`;
+  const HELD = `const stop = (event) => event.stopImmediatePropagation();
+    addEventListener("change", stop, { capture: true, once: true });`;
   const release = `document.getElementById("pick").dispatchEvent(new Event("change", { bubbles: true }))`;
   for (const some of [paths, paths.slice(1)]) {
     for (const path of paths) writeFileSync(path, Buffer.from(LOAD, "hex"));
@@ -209,7 +218,8 @@ async function tryVanished(page, hold, work) {
     rmSync(paths[1]);
     await page.shows(() => page.in(release));
     const told = await page.in(some.length > 1 ? NOTE : VERDICT);
-    hold("a file that has vanished", true, /^1 could not be read: goes \((no longer there|changed since, or .*)\)\.$/.test(told));
+    const isTold = /^1 could not be read: goes \((no longer there|changed since, or .*)\)\.$/.test(told);
+    hold("a file that has vanished", true, isTold);
   }
   const shown = `return document.querySelector(".columns").checkVisibility()`;
   hold("what is shown of it", false, await page.in(shown));

@@ -50,7 +50,9 @@ class Opening {
   }
 
   current() {
-    return this.page.in(`return [...document.querySelectorAll("#examples [aria-current]")].map((it) => it.hash).join()`);
+    return this.page.in(
+      `return [...document.querySelectorAll("#examples [aria-current]")].map((it) => it.hash).join()`,
+    );
   }
 
   async first() {
@@ -92,7 +94,8 @@ class Opening {
       ["sum", "A load file: 2 hunks, 60 bytes in memory."],
     ];
     for (const [name, wanted] of cards) {
-      await page.shows(() => page.in(`document.querySelector('#examples a[href="#example=' + values[0] + '"]').click()`, name));
+      const click = `document.querySelector('#examples a[href="#example=' + values[0] + '"]').click()`;
+      await page.shows(() => page.in(click, name));
       hold(`the example ${name}`, wanted, await this.verdict());
       hold(`the example ${name}, its title`, `${name} - hunk files`, await this.title());
       hold(`the example ${name}, marked`, `#example=${name}`, await this.current());
@@ -136,7 +139,8 @@ class Opening {
     const look = async (name) => {
       const { texts, worst, of } = await contrastOf(page);
       hold(`${name}, ${scheme}: texts that were looked at, more than 30`, true, texts > 30);
-      hold(`${name}, ${scheme}: contrast`, "4.5 and more", worst < 4.5 ? `${worst.toFixed(2)} of ${of}` : "4.5 and more");
+      const enough = "4.5 and more";
+      hold(`${name}, ${scheme}: contrast`, enough, worst < 4.5 ? `${worst.toFixed(2)} of ${of}` : enough);
     };
     for (const [name, hash] of Object.entries(STATES)) {
       await page.open(hash);
@@ -216,7 +220,8 @@ const LOW = `
 
 /** The title of a cell that the pointer has come to, as it is and when it is cut. */
 const CUT = `
-  const cell = [...document.querySelectorAll("[role=rowheader], [role=gridcell]")].find((it) => it.textContent === "a name");
+  const cells = [...document.querySelectorAll("[role=rowheader], [role=gridcell]")];
+  const cell = cells.find((it) => it.textContent === "a name");
   const told = (width) => {
     cell.style.width = width;
     cell.dispatchEvent(new PointerEvent("pointerover", { bubbles: true }));

@@ -61,7 +61,8 @@ export class Page {
            const bytes = Uint8Array.from(digits.match(/../g) ?? [], (it) => parseInt(it, 16));
            transfer.items.add(new File([bytes], name));
          }
-         document.body.dispatchEvent(new DragEvent("drop", { dataTransfer: transfer, bubbles: true, cancelable: true }));`,
+         const init = { dataTransfer: transfer, bubbles: true, cancelable: true };
+         document.body.dispatchEvent(new DragEvent("drop", init));`,
         files,
       ),
     );

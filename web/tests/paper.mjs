@@ -66,7 +66,8 @@ async function tryForced(page, hold) {
   await page.open();
   hold("that the system has all colours", true, await page.in(`return matchMedia("(forced-colors: active)").matches`));
   await page.drop([["program", PROGRAM]]);
-  hold("what is picked, chosen, relocated, named, and marked", "true,true,solid,solid,none,solid", await page.in(FORCED));
+  const wanted = "true,true,solid,solid,none,solid";
+  hold("what is picked, chosen, relocated, named, and marked", wanted, await page.in(FORCED));
   await page.open("#example=offset-outside");
   const refused = `return getComputedStyle([...document.querySelectorAll("#file-hex .refused")].at(-1)).outlineStyle`;
   hold("the fault", "solid", await page.in(refused));

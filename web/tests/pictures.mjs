@@ -37,7 +37,8 @@ const PICTURE = `const canvas = document.getElementById(values[0] + "-picture");
 /** Where the carets of the views stand. */
 const CARETS = `const caret = (id) => {
     const cell = document.querySelector("#" + id + "-hex .caret");
-    return (parseInt(cell.parentNode.firstChild.textContent, 16) + [...cell.parentNode.children].indexOf(cell) - 1).toString(16);
+    const line = cell.parentNode;
+    return (parseInt(line.firstChild.textContent, 16) + [...line.children].indexOf(cell) - 1).toString(16);
   };`;
 
 /** What a picture says of each of its parts, from one end to the other by the arrow keys. */
@@ -65,7 +66,8 @@ const SUM_HUNKS = [
 async function compareSum(page, hold) {
   await page.hex(SUM);
   await holdParts(page, hold, "sum", "map", SUM_HUNKS);
-  await holdParts(page, hold, "sum", "memory", ["hunk 0, CODE, 48 bytes from 00021000", "hunk 1, BSS, 12 bytes from 00021030"]);
+  const loaded = ["hunk 0, CODE, 48 bytes from 00021000", "hunk 1, BSS, 12 bytes from 00021030"];
+  await holdParts(page, hold, "sum", "memory", loaded);
   await holdParts(page, hold, "sum", "file", [
     "HEADER, 28 bytes from 00000000",
     "CODE, hunk 0, 56 bytes from 0000001c",
@@ -74,7 +76,8 @@ async function compareSum(page, hold) {
     "BSS, hunk 1, 8 bytes from 00000078",
     "END, hunk 1, 4 bytes from 00000080",
   ]);
-  const legends = `const texts = (id) => [...document.querySelectorAll("#" + id + "-legend span")].map((it) => it.textContent);
+  const legends = `const texts = (id) =>
+      [...document.querySelectorAll("#" + id + "-legend span")].map((it) => it.textContent);
     return ["map", "file"].map(texts).join(" / ")`;
   hold("the legends", "CODE,BSS,any memory / CODE,BSS,RELOC32,HEADER, END", await page.in(legends));
 }
@@ -89,7 +92,8 @@ async function compareWays(page, hold) {
   const back = keys("End", "ArrowLeft", "ArrowLeft", "Enter");
   const left = await page.in(`${PICTURE} ${CARETS} ${back} return caret("file")`, "file");
   hold("Enter in the strip of the file", "74", left);
-  const memory = await page.in(`${PICTURE} ${CARETS} ${keys("Home", "ArrowRight", "Enter")} return caret("memory")`, "memory");
+  const second = keys("Home", "ArrowRight", "Enter");
+  const memory = await page.in(`${PICTURE} ${CARETS} ${second} return caret("memory")`, "memory");
   hold("Enter in the strip of the memory", "21030", memory);
   // 0.5 of 132 bytes is byte 66, which is in the block of 56 bytes from 28 on.
   const under = await page.in(`${PICTURE} point("pointermove", 0.5); return tip.hidden ? "" : tip.textContent`, "file");
@@ -126,7 +130,8 @@ async function compareDrawn(page, hold) {
   hold("the map, kinds of content", 2, await colours(page, 11));
   const height = `return document.getElementById("map-picture").clientHeight`;
   hold("a map without arcs", true, (await page.in(height)) < 60);
-  hold("the legend of arcs, where there are none", true, await page.in(`return document.getElementById("map-arcs").hidden`));
+  const isHidden = await page.in(`return document.getElementById("map-arcs").hidden`);
+  hold("the legend of arcs, where there are none", true, isHidden);
   await page.hex(SUM);
   hold("a map with arcs", true, (await page.in(height)) > 100);
   const arcs = `const canvas = document.getElementById("map-picture");
@@ -173,7 +178,9 @@ export async function compareMap(page, hold, work) {
   const path = `${work}/map-targets`;
   execFileSync("python3", [`${root}bench/make.py`, "targets", "2", path]);
   for (let i = 0; i < 3; i++) await page.shows(() => page.browser.upload("#pick", [path]));
-  const times = await page.in(`return performance.getEntriesByName("the map of hunks").slice(-3).map((it) => it.duration)`);
+  const times = await page.in(
+    `return performance.getEntriesByName("the map of hunks").slice(-3).map((it) => it.duration)`,
+  );
   const time = Math.min(...times);
   console.log(`${page.browser.name}: the map of 65,536 hunks ${time.toFixed(0)} ms`);
   hold("the map of 65,536 hunks, within 100 ms", true, time <= 100);
@@ -181,7 +188,8 @@ export async function compareMap(page, hold, work) {
   // Its longword is no offset of its target.
   hold("the last of 65,536 hunks", "hunk 65535, CODE, 4 bytes, any memory, 1 relocation, 1 warning", last);
   // A hunk in the middle of the picture, as all have the same bytes.
-  const under = await page.in(`${PICTURE} point("pointermove", 0.5); return canvas.getAttribute("aria-valuenow")`, "map");
+  const middle = `${PICTURE} point("pointermove", 0.5); return canvas.getAttribute("aria-valuenow")`;
+  const under = await page.in(middle, "map");
   hold("the hunk in the middle", true, Math.abs(Number(under) - 32768) < 200);
 }
 

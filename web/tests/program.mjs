@@ -6,7 +6,8 @@ const FAST = 0x80000000;
 
 /** Longwords that compiled code has often: of entering and leaving a function, of moves and branches. */
 const USUAL = [
-  0x4e55fff8, 0x48e73820, 0x246d0008, 0x7c006006, 0x200a6702, 0x4cdf041c, 0x4e5d4e75, 0x2f0a4eae, 0xff3a504f, 0x52866dec,
+  0x4e55fff8, 0x48e73820, 0x246d0008, 0x7c006006, 0x200a6702, 0x4cdf041c, 0x4e5d4e75, 0x2f0a4eae, 0xff3a504f,
+  0x52866dec,
 ];
 /** JSR and LEA of an address, of which the longword is relocated. */
 const CALL = 0x4e714eb9;
@@ -17,7 +18,9 @@ const textOf = (text) => {
   return padded.match(/[^]{4}/g).map((it) => [...it].reduce((sum, c) => sum * 256 + c.charCodeAt(0), 0));
 };
 
-const TEXTS = ["usage: stars FILE\n", "can't open dos.library\n", "no memory for a screen\n", "dos.library", "graphics.library"];
+const TEXTS = [
+  "usage: stars FILE\n", "can't open dos.library\n", "no memory for a screen\n", "dos.library", "graphics.library",
+];
 
 /** Its hunks: kind, memory, longwords, which hunks' addresses it has and how many of each, and symbols by their
  * offsets. */
@@ -67,7 +70,8 @@ function symbolsOf(symbols) {
 function program() {
   const all = HUNKS.map((hunk, i) => ({ ...hunk, made: hunk.kind === BSS ? [[], []] : contentOf(hunk, i) }));
   const sizes = all.map(({ kind, longs, made: [content] }) => (kind === BSS ? longs : content.length));
-  const header = [HEADER, 0, all.length, 0, all.length - 1, ...all.map(({ memory = 0 }, i) => (memory | sizes[i]) >>> 0)];
+  const words = all.map(({ memory = 0 }, i) => (memory | sizes[i]) >>> 0);
+  const header = [HEADER, 0, all.length, 0, all.length - 1, ...words];
   const hunks = all.flatMap(({ kind, made: [content, places], symbols }, i) =>
     [kind, sizes[i], ...content, ...relocationsOf(places), ...symbolsOf(symbols), END]);
   return [...header, ...hunks].map((it) => it.toString(16).padStart(8, "0")).join("");

@@ -25,7 +25,8 @@ const NAMED = `${OBJECT.slice(0, 2 * 32)}00000001${OBJECT.slice(2 * 36)}`;
 const UNITS = digits("000003e7 00000000 000003eb 00000001 000003f2 000003e7 00000005");
 /** CODE of 8 bytes, a short block of offset 0, and no END. */
 const WIDE = digits(`
-  000003f3 00000000 00000001 00000000 00000000 00000002 000003e9 00000002 00000000 00000000 000003fc 00010000 00000000`);
+  000003f3 00000000 00000001 00000000 00000000 00000002
+  000003e9 00000002 00000000 00000000 000003fc 00010000 00000000`);
 /** The same, but for the target: hunk 5 at byte 46. */
 const BAD_WIDE = WIDE.slice(0, 2 * 44) + "0001000500000000";
 
@@ -39,7 +40,8 @@ const BEFORE_SHORT =
 const PLAIN = `${WIDE.slice(0, 2 * 40)}${digits("000003ec 00000001 00000000 00000000 00000000 000003f2")}`;
 
 /** All digits of a view. */
-const BYTES = `return [...document.querySelectorAll("#" + values[0] + "-hex .line > :is(span, b):not(.at, .text, .names)")]
+const BYTES = `const digits = "-hex .line > :is(span, b):not(.at, .text, .names)";
+  return [...document.querySelectorAll("#" + values[0] + digits)]
   .map((it) => it.textContent).join("").trim()`;
 const TEXT = `return document.getElementById(values[0]).textContent`;
 const HIDDEN = `return values[0].filter((id) => document.getElementById(id).closest("[hidden]")).join()`;
@@ -47,7 +49,8 @@ const TABS = `return [...document.querySelectorAll("[role=tab]")].map((it) => it
 const ROWS = `document.getElementById("tab-" + values[0]).click();
   const rows = [...document.querySelectorAll("#list-panel [data-row]")];
   return rows.map((row) => [...row.children].slice(0, values[1]).map((it) => it.textContent).join(" ")).join()`;
-const MARKED = `return ["broken", "refused", "after"].map((it) => document.querySelectorAll("#file-hex ." + it).length).join()`;
+const MARKED = `const marked = (name) => document.querySelectorAll("#file-hex ." + name).length;
+  return ["broken", "refused", "after"].map(marked).join()`;
 const READINGS = `const buttons = [...document.querySelectorAll("#readings button")];
   return buttons.map((it) => it.getAttribute("aria-pressed") + " " + it.textContent).join()`;
 /** The colour of the strip at a byte. */
@@ -131,7 +134,8 @@ class Refused {
     const blocks = "0000000c 0.0 CODE,00000018 0.0 RELOC32,0000002c 0.0 EXT,00000050 0.0 END,00000054 0.1 NAME";
     await this.same("its blocks", blocks, ROWS, "blocks", 3);
     await this.show("a hunk without content", NAMED, verdict, `${fault} ${before}`);
-    const target = "00000020 | unit 0, hunk 0, RELOC32: target | 00000001 | hunk 1 | → hunk 1 + 00000000, outside of it";
+    const target =
+      "00000020 | unit 0, hunk 0, RELOC32: target | 00000001 | hunk 1 | → hunk 1 + 00000000, outside of it";
     this.hold("a hunk without content, what leads to it", target, await pointed(this.page, "file", 0x20));
     const second = "The fault is in the UNIT, which begins at byte 20 (00000014).";
     const shown = "Before it stand 20 bytes, which are shown: 1 unit, 2 blocks.";
@@ -149,7 +153,8 @@ class Refused {
     const strict = "As it is refused at byte 40, ShortReloc";
     const plain = `In its plain spelling ${accepted}`;
     const refused = SHORT.slice("Begins as a load file: ".length);
-    const shown = `${OTHERWISE}, ${accepted}. It is shown as readers of this spelling take it. As it is, it is ${refused}`;
+    const told = "It is shown as readers of this spelling take it. As it is, it is";
+    const shown = `${OTHERWISE}, ${accepted}. ${told} ${refused}`;
     await this.show("another spelling", WIDE, shown, "");
     await this.placesOfSpelling();
     await this.same("its readings", `false ${strict},true ${plain}`, READINGS);
@@ -177,7 +182,8 @@ class Refused {
     await this.same("the bytes of its relocation", "00,00", picked);
     const lines = {
       0x2d: "0000002c | hunk 0, RELOC32SHORT: count | 0001 | 1 offset for hunk 0",
-      0x30: "00000030 | hunk 0, RELOC32SHORT: offset 1 of 1 | 0000 | the base of hunk 0 is added there | → hunk 0 + 00000000 = 00021000",
+      0x30: "00000030 | hunk 0, RELOC32SHORT: offset 1 of 1 | 0000 | the base of hunk 0 is added there" +
+        " | → hunk 0 + 00000000 = 00021000",
       0x32: "00000032 | hunk 0, RELOC32SHORT: end | 0000 | no more follow in this block",
     };
     for (const [byte, wanted] of Object.entries(lines)) {
@@ -198,7 +204,8 @@ class Refused {
 
   async foreign() {
     for (const [what, file, reason, why] of FOREIGN) {
-      await this.show(what, file, `Neither a load file nor an object file: refused at byte 0 (00000000), ${reason}.`, "");
+      const verdict = `Neither a load file nor an object file: refused at byte 0 (00000000), ${reason}.`;
+      await this.show(what, file, verdict, "");
       this.hold(`${what}, why`, why, await this.why());
     }
     const fault = "The fault is where a block of hunk 0 would begin, at byte 24 (00000018).";

@@ -12,12 +12,15 @@ const focus = `dispatchEvent(new Event("focus"));`;
 const offered = (page, tenths = 60) =>
   page.in(
     `const button = document.getElementById("reload");
-     for (let i = 0; i < values[0] && !button.checkVisibility(); i++) await new Promise((done) => setTimeout(done, 100));
+     for (let i = 0; i < values[0] && !button.checkVisibility(); i++) {
+       await new Promise((done) => setTimeout(done, 100));
+     }
      return button.checkVisibility()`,
     tenths,
   );
 /** Goes one line of bytes down in the file, and tells at which byte one is. */
-const down = `document.getElementById("file-hex").dispatchEvent(new KeyboardEvent("keydown", { key: "ArrowDown", bubbles: true }));`;
+const down = `document.getElementById("file-hex")
+  .dispatchEvent(new KeyboardEvent("keydown", { key: "ArrowDown", bubbles: true }));`;
 const byte = (page) => page.in(`return document.getElementById("file-item").textContent.slice(0, 8)`);
 const start = async (page) => (await page.in(VERDICT)).slice(0, IS.length).replace(/[.;].*/, "");
 

@@ -28,7 +28,8 @@ async function tryNames(page, hold) {
   await page.drop([["program", PROGRAM]]);
   // By hand: the nine addresses of hunk 1 in hunk 0 stand at 4, 24, 44 and so on to 164, and have 0, 4, 8 and so on to
   // 20, and again; a group begins with its last. _main is at 72.
-  hold("relocations by symbols", "_main + 5c > _draw + 8,_main + 48 > _draw + 4,_main + 34 > _draw", await page.in(ways));
+  const wanted = "_main + 5c > _draw + 8,_main + 48 > _draw + 4,_main + 34 > _draw";
+  hold("relocations by symbols", wanted, await page.in(ways));
   await page.drop([["object", OBJECT]]);
   hold("relocations of an object file", "_second + 4 > _data + 2", await page.in(ways));
   await page.hex(SUM);
@@ -55,11 +56,13 @@ async function trySorted(page, hold) {
     await page.in(open(list));
     for (const name of columns) {
       const sorted = `${COLUMN} press(values[0]); return texts(values[0]).map((it) => it.padStart(4, "0"))`;
-      const padded = ["hunk", "target"].includes(name) ? sorted : sorted.replace(`.map((it) => it.padStart(4, "0"))`, "");
+      const isNumber = ["hunk", "target"].includes(name);
+      const padded = isNumber ? sorted : sorted.replace(`.map((it) => it.padStart(4, "0"))`, "");
       hold(`${list} by ${name}`, true, isRising(await page.in(padded, name)));
       hold(`${list} by ${name}, falling`, true, isRising((await page.in(padded, name)).reverse()));
       const marked = `${COLUMN}
-        return heads.map((it) => it.getAttribute("aria-sort")).filter(Boolean).join() + heads[column(values[0])].ariaSort`;
+        const orders = heads.map((it) => it.getAttribute("aria-sort")).filter(Boolean);
+        return orders.join() + heads[column(values[0])].ariaSort`;
       hold(`what ${list} are sorted by`, "descendingdescending", await page.in(marked, name));
     }
   }

@@ -24,7 +24,8 @@ const ONE = digits("000003f3 00000000 00000001 00000000 00000000 00000001 000003
 const RECORDS = "S007000048554E4BC2\nS309000210004E754E7162\nS70500021000E8\n";
 
 /** A byte of code and a relocation by a base register, which has no form in ELF. */
-const DREL = digits("000003e7 00000000 000003e9 00000001 00000000 000003f7 00000001 00000000 00000000 00000000 000003f2");
+const DREL = digits(`
+  000003e7 00000000 000003e9 00000001 00000000 000003f7 00000001 00000000 00000000 00000000 000003f2`);
 
 const text = async (page, id) => Buffer.from(await page.saved(id), "hex").toString();
 const told = (page, id) => page.in(`return document.getElementById(values[0]).textContent`, id);
@@ -66,7 +67,8 @@ async function compareForm(page, hold, what, id, path) {
   const { out, said, status } = called("convert", ...FORMS[id], path, "-");
   if (status > 0) {
     await page.in(`document.getElementById(values[0]).click()`, id);
-    hold(`${what}, ${id}`, `Not saved, as it has no such form: ${said.split(`${path}: `)[1]}.`, await told(page, TOLD[id]));
+    const why = `Not saved, as it has no such form: ${said.split(`${path}: `)[1]}.`;
+    hold(`${what}, ${id}`, why, await told(page, TOLD[id]));
   } else hold(`${what}, ${id}`, out.toString("hex"), await page.saved(id));
 }
 
@@ -111,7 +113,8 @@ export async function compareSaving(page, hold, paths) {
   hold("S-records", RECORDS, await text(page, "save-records"));
   await page.hex(DREL);
   await page.in(`document.getElementById("save-linkable").click()`);
-  const wanted = "Not saved, as it has no such form: byte 32: DREL32 has no form in ELF: it counts from a base register.";
+  const why = "byte 32: DREL32 has no form in ELF: it counts from a base register";
+  const wanted = `Not saved, as it has no such form: ${why}.`;
   hold("what has no form", wanted, await told(page, "saved"));
   await compareHidden(page, hold);
   if (hasCommand) await compareForms(page, hold, paths);

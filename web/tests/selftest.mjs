@@ -93,7 +93,8 @@ async function compareRow(page, row) {
   if (!row.answer.startsWith("accepted")) {
     const marked = await page.in(`return document.querySelectorAll("#file-hex .refused").length`);
     // Where the plain spelling is accepted, that is shown, and nothing in it is refused.
-    const isSpelled = await page.in(`return document.getElementById("verdict").textContent.startsWith("In another spelling")`);
+    const begin = `return document.getElementById("verdict").textContent.startsWith("In another spelling")`;
+    const isSpelled = await page.in(begin);
     hold(`${row.name}, the bytes that are marked`, isSpelled ? 0 : 4, marked);
     const why = await page.in(`return document.getElementById("why").textContent`);
     if (isSpelled) hold(`${row.name}, advice that was followed`, false, why.includes("--wide"));
@@ -140,7 +141,8 @@ async function compareLists(page, name, path) {
 /** Inputs of vectors/every, dropped together: the table, as it is saved. */
 async function compareMany(page) {
   const lines = readFileSync(everyPath, "utf8").split("\n");
-  const rows = lines.filter((line, i) => line && !line.startsWith("#") && i % Number(oneOf) === 0).map((line) => line.split("\t"));
+  const isTaken = (line, i) => line && !line.startsWith("#") && i % Number(oneOf) === 0;
+  const rows = lines.filter(isTaken).map((line) => line.split("\t"));
   await page.drop(rows.map((row, i) => [`input ${i}`, row[3]]));
   const text = Buffer.from(await page.saved("save-csv"), "hex").toString();
   const cells = text.split("\r\n").slice(1, -1).map((line) => line.split(","));
@@ -150,7 +152,8 @@ async function compareMany(page) {
   const counts = {};
   for (const [i, [, size, shown, answer, , ...rest]] of cells.entries()) {
     const [hunks, memory, units, findings, , place, , number] = rest;
-    const said = answer === "accepted" ? `${size} accepted ${hunks || units} ${memory || findings}` : `${size} refused ${place} ${number}`;
+    const accepted = `${size} accepted ${hunks || units} ${memory || findings}`;
+    const said = answer === "accepted" ? accepted : `${size} refused ${place} ${number}`;
     const wanted = rows[i].slice(4).join(" ");
     const kind = classOf(rows[i][3], wanted, wide);
     hold(`input ${i}`, `${rows[i][3].length / 2} ${wanted}, ${kind}`, `${said}, ${shown}`);
@@ -158,7 +161,8 @@ async function compareMany(page) {
   }
   const counted = CLASSES.filter((it) => counts[it]).map((it) => `${counts[it]} ${it}`);
   const told = await page.in(
-    `return [...document.querySelectorAll("#many-classes button:not([hidden])")].map((it) => it.textContent.replaceAll(",", "")).join(", ")`,
+    `return [...document.querySelectorAll("#many-classes button:not([hidden])")]
+       .map((it) => it.textContent.replaceAll(",", "")).join(", ")`,
   );
   hold("the counts of the table", `${rows.length} all, ${counted.join(", ")}`, told);
 }
@@ -174,10 +178,13 @@ async function compareFolder(page) {
   for (const way of ways) {
     await page.shows(way);
     const lines = Buffer.from(await page.saved("save-csv"), "hex").toString().split("\r\n").slice(1, -1);
-    hold("a folder", wanted, lines.map((line) => line.split(",")).map(([name, size, , answer]) => `${name} ${size} ${answer}`).join(", "));
+    const said = lines.map((line) => line.split(",")).map(([name, size, , answer]) => `${name} ${size} ${answer}`);
+    hold("a folder", wanted, said.join(", "));
   }
   await page.in(`document.querySelector("#many-list [role=columnheader]").click()`);
-  const names = await page.in(`return [...document.querySelectorAll("#many-list [data-row] > :first-child")].map((it) => it.textContent)`);
+  const names = await page.in(
+    `return [...document.querySelectorAll("#many-list [data-row] > :first-child")].map((it) => it.textContent)`,
+  );
   hold("a folder, sorted", "folder/below/three,folder/below/two,folder/one", names.join());
 }
 
@@ -197,7 +204,8 @@ async function compareServed(page) {
 }
 
 /** An object file with a short block, whose target is no hunk of its unit. */
-const SHORT_OBJECT = "000003e7 00000000 000003e9 00000001 00000000 000003fc 0001 0001 0000 0000 000003f2".replaceAll(" ", "");
+const SHORT_OBJECT =
+  "000003e7 00000000 000003e9 00000001 00000000 000003fc 0001 0001 0000 0000 000003f2".replaceAll(" ", "");
 
 async function compareUse(page) {
   await page.hex(SHORT_OBJECT);
@@ -208,13 +216,16 @@ async function compareUse(page) {
   hold("a file that is picked", "accepted 2 12", await page.in(SHOWN));
   const key = `const grid = document.querySelector("[role=grid][aria-activedescendant]:not(#many-list)");
     const key = (name) => grid.dispatchEvent(new KeyboardEvent("keydown", { key: name, bubbles: true }));`;
-  const active = `${key} key("End"); key("ArrowUp"); return grid.getAttribute("aria-activedescendant").replace(/.*-/, "")`;
+  const active = `${key} key("End"); key("ArrowUp");
+    return grid.getAttribute("aria-activedescendant").replace(/.*-/, "")`;
   hold("the row that keys lead to", "0", await page.in(active));
   const labels = `return [...document.querySelectorAll("[role=grid], [role=group], canvas, input, select, button")]
     .filter((it) => !it.getAttribute("aria-label") && !it.textContent.trim() && !it.closest("label")).length`;
   hold("what has no label", 0, await page.in(labels));
   const fetched = `return await fetch("http://127.0.0.1:9/").then(() => "sent", () => "refused")`;
-  const blocked = `const seen = new Promise((done) => addEventListener("securitypolicyviolation", (it) => done(it.blockedURI), { once: true }));
+  const blocked = `const seen = new Promise((done) => {
+      addEventListener("securitypolicyviolation", (it) => done(it.blockedURI), { once: true });
+    });
     fetch("http://127.0.0.1:9/").catch(() => {});
     return await Promise.race([seen, new Promise((done) => setTimeout(() => done("nothing"), 2000))])`;
   hold("a request", "refused", await page.in(fetched));

@@ -8,7 +8,8 @@ import { root } from "./texts.mjs";
 
 const hunk = await Hunk.open(readFileSync(process.argv[2]));
 const bytesOf = (digits) => Uint8Array.from(digits.match(/../g) ?? [], (it) => parseInt(it, 16));
-const rows = readFileSync(`${root}vectors/wide.tsv`, "utf8").split("\n").filter((it) => it && it[0] !== "#").map((it) => it.split("\t"));
+const lines = readFileSync(`${root}vectors/wide.tsv`, "utf8").split("\n");
+const rows = lines.filter((it) => it && it[0] !== "#").map((it) => it.split("\t"));
 let compared = 0;
 const wrong = [];
 for (const [, name, , digits, answer] of rows) {
@@ -22,7 +23,9 @@ for (const [, name, , digits, answer] of rows) {
     const [said, wanted] = [spelled.inFile(place), hunk.inputPlace(input, place)];
     if (said !== wanted) wrong.push(`${name}, byte ${place}: ${said}, and not ${wanted}`);
     // What is put in has no byte of its own in the file.
-    if (spelled.inFile(place + 4) > said && spelled.inText(said) !== place) wrong.push(`${name}, byte ${said}: back to ${spelled.inText(said)}`);
+    const isOwn = spelled.inFile(place + 4) > said;
+    const back = spelled.inText(said);
+    if (isOwn && back !== place) wrong.push(`${name}, byte ${said}: back to ${back}`);
   }
 }
 if (compared < 100) wrong.push(`compared ${compared}`);

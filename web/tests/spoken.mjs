@@ -39,29 +39,37 @@ async function trySpeech(page, hold) {
     cell.dispatchEvent(new PointerEvent("pointermove", { bubbles: true }));
     return [document.getElementById("file-item").textContent.includes("00000024"), before === spoken()].join()`;
   hold("a byte under the pointer is told, and not spoken", "true,true", await page.in(hovered));
-  const keyed = `${SPOKEN} document.getElementById("file-hex").dispatchEvent(new KeyboardEvent("keydown", { key: "ArrowDown", bubbles: true }));
+  const keyed = `${SPOKEN} const view = document.getElementById("file-hex");
+    view.dispatchEvent(new KeyboardEvent("keydown", { key: "ArrowDown", bubbles: true }));
     return spoken().includes("00000010 HEADER: last hunk")`;
   hold("a byte that keys lead to is spoken", true, await page.in(keyed));
 }
 
 const WORDS = [
-  "hunk", "load file", "object file", "unit", "longword", "block", "base", "offset", "relocation", "symbol", "external name",
-  "reference", "finding", "warning", "another spelling", "plain spelling", "stripped", "chip memory", "sum", "undefined",
+  "hunk", "load file", "object file", "unit", "longword", "block", "base", "offset", "relocation", "symbol",
+  "external name",
+  "reference", "finding", "warning", "another spelling", "plain spelling", "stripped", "chip memory", "sum",
+  "undefined",
   "HEADER", "CODE", "RELOC32SHORT",
 ];
 
 /** Heads that are plain English. */
-const PLAIN = ["bytes", "name", "files that need it", "the first", "what differs", "in A", "in B", "what is wrong", "what is suspicious"];
+const PLAIN = [
+  "bytes", "name", "files that need it", "the first", "what differs", "in A", "in B", "what is wrong",
+  "what is suspicious",
+];
 
 /** Heads, tabs, parts of legends, kinds of blocks and classes that no title explains, with each list open. */
 const UNEXPLAINED = `
   const found = [...document.querySelectorAll("[role=tab], .legend span:has(> i), #many-classes button")];
   for (const tab of document.querySelectorAll("[role=tab]")) {
     tab.click();
-    const kinds = tab.id === "tab-blocks" ? [...document.querySelectorAll("#list-panel [data-row] > :nth-child(3)")] : [];
+    const third = "#list-panel [data-row] > :nth-child(3)";
+    const kinds = tab.id === "tab-blocks" ? [...document.querySelectorAll(third)] : [];
     found.push(...document.querySelectorAll("[role=columnheader]"), ...kinds);
   }
-  return [...new Set(found.filter((it) => !it.title).map((it) => it.textContent))].filter((it) => !values[0].includes(it)).join()`;
+  const untitled = new Set(found.filter((it) => !it.title).map((it) => it.textContent));
+  return [...untitled].filter((it) => !values[0].includes(it)).join()`;
 
 /** By each list: the head of the column that names a row, where each row has one name. */
 const NAMED = `
@@ -93,7 +101,8 @@ async function tryWords(page, hold) {
   hold("what is not explained of a table", "", await page.in(UNEXPLAINED, PLAIN));
   await page.drop([["program", PROGRAM]]);
   hold("what is not explained of a program", "", await page.in(UNEXPLAINED, PLAIN));
-  const verdict = `return [...document.querySelectorAll("#verdict abbr")].map((it) => it.textContent + (it.title ? "" : "?")).join()`;
+  const verdict = `return [...document.querySelectorAll("#verdict abbr")]
+    .map((it) => it.textContent + (it.title ? "" : "?")).join()`;
   hold("the words of a verdict", "load file,hunks", await page.in(verdict));
 }
 

@@ -6,7 +6,8 @@ import { SUM, digits } from "./texts.mjs";
 
 /** CODE of 8 bytes, a short block of offset 0, and no END. */
 const WIDE = digits(`
-  000003f3 00000000 00000001 00000000 00000000 00000002 000003e9 00000002 00000000 00000000 000003fc 00010000 00000000`);
+  000003f3 00000000 00000001 00000000 00000000 00000002
+  000003e9 00000002 00000000 00000000 000003fc 00010000 00000000`);
 
 const TITLE = `return document.title.replace(" - hunk files", "")`;
 const PAUSE = `await new Promise((done) => setTimeout(done, values.at(-1)));`;
@@ -21,7 +22,8 @@ async function tryOvertaken(page, hold) {
        if (this.name === "slow") await new Promise((done) => setTimeout(done, 300));
        return read.call(this);
      };
-     const row = (name) => [...document.querySelectorAll("#many-list [data-row]")].find((it) => it.firstChild.textContent === name);
+     const rows = [...document.querySelectorAll("#many-list [data-row]")];
+     const row = (name) => rows.find((it) => it.firstChild.textContent === name);
      row("slow").click();
      row("quick").click();
      ${PAUSE}
@@ -50,7 +52,9 @@ async function tryPlaces(page, hold) {
   await page.drop([["program", PROGRAM]]);
   await page.in(`document.getElementById("tab-relocations").click();
     const grid = document.querySelector("#list-panel .grid");
-    for (const key of ["End", "ArrowUp", "Enter"]) grid.dispatchEvent(new KeyboardEvent("keydown", { key, bubbles: true }));`);
+    for (const key of ["End", "ArrowUp", "Enter"]) {
+      grid.dispatchEvent(new KeyboardEvent("keydown", { key, bubbles: true }));
+    }`);
   const before = await page.in(PLACE);
   hold("a place far down", true, /"top":true.*"memory":\[4,true\],"file":\[4,true\]/.test(before));
   for (const is of [true, false]) {
@@ -62,7 +66,8 @@ async function tryPlaces(page, hold) {
   hold("the place at another base", before, await page.in(PLACE));
   await page.open(`#hex=${WIDE}`);
   await page.shows(() => page.in(`document.querySelectorAll("#readings button")[0].click()`));
-  const reading = `return [...document.querySelectorAll("#readings button")].map((it) => it.getAttribute("aria-pressed")).join()`;
+  const reading = `return [...document.querySelectorAll("#readings button")]
+    .map((it) => it.getAttribute("aria-pressed")).join()`;
   await page.shows(() => page.browser.dark(true));
   hold("the reading in the dark", "true,false", await page.in(reading));
   await page.shows(() => page.browser.dark(false));
@@ -88,7 +93,8 @@ async function tryHistory(page, hold) {
   hold("the example before", "sum", await go("back"));
   hold("its card", "#example=sum", await page.in(`return document.querySelector("#examples [aria-current]").hash`));
   hold("forward again", "one", await go("forward"));
-  hold("its bytes", "132 bytes", await page.in(`return document.getElementById("file-name").textContent.split(", ")[1]`));
+  const bytes = `return document.getElementById("file-name").textContent.split(", ")[1]`;
+  hold("its bytes", "132 bytes", await page.in(bytes));
   await go("forward");
   await go("forward");
   hold("the table again", "false 3 files", await page.in(table));
@@ -111,7 +117,8 @@ async function tryOrder(page, hold) {
   await page.open();
   await page.drop(["z10", "B", "z2", "a", "z1"].map((name) => [name, SUM]));
   await page.in(`document.querySelector("#many-list [role=columnheader]").click()`);
-  const names = `return [...document.querySelectorAll("#many-list [data-row] > :first-child")].map((it) => it.textContent).join()`;
+  const names = `return [...document.querySelectorAll("#many-list [data-row] > :first-child")]
+    .map((it) => it.textContent).join()`;
   hold("files by their names", "a,B,z1,z2,z10", await page.in(names));
   await page.drop([["one", PROGRAM]]);
   await page.in(`document.getElementById("tab-blocks").click()`);

@@ -9,7 +9,8 @@ const PICKED = `
   const picked = (id) => {
     const found = [...document.querySelectorAll("#" + id + "-hex .picked")].map((it) => {
       const line = it.closest(".line");
-      return parseInt(line.querySelector(".at").textContent, 16) + [...line.querySelectorAll(":scope > span, :scope > b")].indexOf(it) - 1;
+      const cells = [...line.querySelectorAll(":scope > span, :scope > b")];
+      return parseInt(line.querySelector(".at").textContent, 16) + cells.indexOf(it) - 1;
     });
     return found.length === 0 ? "none" : [found[0], found.at(-1)].map((it) => it.toString(16)).join("-");
   };`;

@@ -27,7 +27,9 @@ const told = said(root.slice(0, -1));
 let failed = told ? 1 : 0;
 const edited = WRONG.map(([name]) => `page/${name}.js`);
 if (told) console.log(`types: ${told.trim()}`);
-for (const name of ["web/page", "web/jsconfig.json", "bindings/javascript"]) cpSync(root + name, `${work}/${name}`, { recursive: true });
+for (const name of ["web/page", "web/jsconfig.json", "bindings/javascript"]) {
+  cpSync(root + name, `${work}/${name}`, { recursive: true });
+}
 for (const [name, text, other] of WRONG) {
   const path = `${work}/web/page/${name}.js`;
   const whole = readFileSync(path, "utf8");

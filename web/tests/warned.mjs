@@ -8,7 +8,9 @@ const cellsOf = (name) =>
   readFileSync(root + name, "utf8").split("\n").filter((it) => it && it[0] !== "#").map((it) => it.split("\t"));
 
 /** The names of the kinds, by number, and what a developer does. */
-const KINDS = new Map(cellsOf("docs/warnings.tsv").map(([number, name, , , , developer]) => [Number(number), { name, developer }]));
+const KINDS = new Map(
+  cellsOf("docs/warnings.tsv").map(([number, name, , , , developer]) => [Number(number), { name, developer }]),
+);
 const [SYMBOL_OUTSIDE, OF_RELOCATION] = [6, 5];
 
 /** The warnings of a row of the table, as numbers. */
@@ -19,7 +21,10 @@ const warningsOf = (text) =>
   });
 
 const hex = (number) => number.toString(16).padStart(8, "0");
-const offsetText = ({ kind, offset, value }) => (kind <= OF_RELOCATION ? hex(offset) : kind === SYMBOL_OUTSIDE ? hex(value) : "");
+const offsetText = ({ kind, offset, value }) => {
+  if (kind <= OF_RELOCATION) return hex(offset);
+  return kind === SYMBOL_OUTSIDE ? hex(value) : "";
+};
 const counted = (count) => `${count} warning${count === 1 ? "" : "s"}`;
 
 /** The rows of the list: hunk, offset and the name of the kind; and where the first leads to. */
@@ -28,7 +33,8 @@ const LIST = `
   if (tab.id !== "tab-warnings") return "no warnings";
   tab.click();
   const rows = [...document.querySelectorAll("#list-panel [data-row]")];
-  return [tab.textContent, ...rows.map((row) => [...row.children].map((it) => it.textContent.split(":")[0]).join(" "))].join("\\n")`;
+  const cells = (row) => [...row.children].map((it) => it.textContent.split(":")[0]).join(" ");
+  return [tab.textContent, ...rows.map(cells)].join("\\n")`;
 
 /** The bytes of a view that are amber, as places. */
 const AMBER = `
@@ -40,7 +46,8 @@ const AMBER = `
 const TEXT = `return document.getElementById(values[0]).textContent`;
 
 /** The bytes of the longwords at these places, rising and each once. */
-const bytesAt = (places) => [...new Set(places.flatMap((it) => [0, 1, 2, 3].map((i) => it + i)))].sort((one, other) => one - other);
+const bytesAt = (places) =>
+  [...new Set(places.flatMap((it) => [0, 1, 2, 3].map((i) => it + i)))].sort((one, other) => one - other);
 
 async function compareFile(page, hold, name, digits, warnings) {
   await page.hex(digits);
@@ -62,7 +69,8 @@ async function compareFile(page, hold, name, digits, warnings) {
 /** CODE of 8 bytes, relocated at 2 and at the odd 3, which overlap; hunk 1 is a BSS of 4, to whose byte 8 the first
  * leads. */
 const BOTH = `000003f3 00000000 00000002 00000000 00000001 00000002 00000001 000003e9 00000002 41f90000 00084e75
-  000003ec 00000001 00000001 00000002 00000001 00000000 00000003 00000000 000003f2 000003eb 00000001 000003f2`.replace(/\s/g, "");
+  000003ec 00000001 00000001 00000002 00000001 00000000 00000003 00000000 000003f2
+  000003eb 00000001 000003f2`.replace(/\s/g, "");
 
 async function compareBoth(page, hold) {
   await page.hex(BOTH);
@@ -79,7 +87,8 @@ async function compareBoth(page, hold) {
     return [...data].some((it, i) => i % 4 === 0 && it > 190 && data[i + 1] > 110 && data[i + 2] < 60)`;
   hold("the edge of its bar", true, await page.in(amber));
   // The offset 3 stands at byte 52, and its longword at 21003.
-  const picked = `const row = [...document.querySelectorAll("#list-panel [data-row]")].find((it) => it.textContent.includes("OddOffset"));
+  const picked = `const rows = [...document.querySelectorAll("#list-panel [data-row]")];
+    const row = rows.find((it) => it.textContent.includes("OddOffset"));
     row.click();
     const first = (id) => {
       const it = document.querySelector("#" + id + "-hex .picked");
@@ -93,15 +102,18 @@ async function compareBoth(page, hold) {
 async function compareTable(page, hold, rows) {
   await page.open();
   await page.drop(rows.map(({ name, digits }) => [name, digits]));
-  const csv = Buffer.from(await page.saved("save-csv"), "hex").toString().split("\r\n").slice(1, -1).map((it) => it.split(","));
+  const text = Buffer.from(await page.saved("save-csv"), "hex").toString();
+  const csv = text.split("\r\n").slice(1, -1).map((it) => it.split(","));
   const said = csv.map((cells) => `${cells[0]} ${cells[9]}`).join("\n");
   hold("the warnings of many files", rows.map(({ name, warnings }) => `${name} ${warnings.length}`).join("\n"), said);
-  const heads = `return [...document.querySelectorAll("#many-list [role=columnheader]")].map((it) => it.textContent).slice(6, 8).join()`;
+  const heads = `return [...document.querySelectorAll("#many-list [role=columnheader]")]
+    .map((it) => it.textContent).slice(6, 8).join()`;
   hold("the column behind findings", "findings,warnings", await page.in(heads));
 }
 
 export async function compareWarned(page, hold) {
-  const rows = cellsOf("vectors/warnings.tsv").map(([name, digits, text]) => ({ name, digits, warnings: warningsOf(text) }));
+  const cells = cellsOf("vectors/warnings.tsv");
+  const rows = cells.map(([name, digits, text]) => ({ name, digits, warnings: warningsOf(text) }));
   hold("files with warnings, more than 10", true, rows.filter(({ warnings }) => warnings.length > 0).length > 10);
   for (const { name, digits, warnings } of rows) {
     if (digits.startsWith("000003f3") && digits.length < 8000) await compareFile(page, hold, name, digits, warnings);

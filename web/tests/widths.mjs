@@ -65,7 +65,8 @@ async function compareMany(page, hold) {
   }
   await page.browser.touch(false);
   await page.browser.size(1280, 900);
-  const there = `return [...document.querySelectorAll("#many-list [role=columnheader]")].filter((it) => it.checkVisibility()).length`;
+  const there = `return [...document.querySelectorAll("#many-list [role=columnheader]")]
+    .filter((it) => it.checkVisibility()).length`;
   const wide = await page.in(there);
   await page.browser.size(800, 900);
   await page.in("await new Promise((done) => setTimeout(done, 200))");
