@@ -21,9 +21,9 @@ const COLUMNS = [
   { field: "warnings", name: "warnings", isNumber: true, isOptional: true, leaves: 10 },
   { field: "place", name: "refused at", isNumber: true, isOptional: true, leaves: 4 },
   { field: "reason", name: "reason", isOptional: true, leaves: 11 },
-  { field: "told", name: "what it is", isOptional: true, least: 10, leaves: 6 },
+  { field: "told", name: "what it is", isRest: true, isOptional: true, least: 10, leaves: 6 },
   { field: "undefined", name: "undefined", isNumber: true, isOptional: true, leaves: 9 },
-  { field: "copy", name: "same as", isOptional: true, least: 9, leaves: 7 },
+  { field: "copy", name: "same as", isRest: true, isOptional: true, least: 9, leaves: 7 },
   { field: "sum", name: "sum", leaves: 1 },
 ];
 

@@ -21,9 +21,10 @@ document.head.append(Object.assign(document.createElement("style"), {
 const measured = (text) => Math.ceil(drawing.measureText(String(text).replace(/\d/g, "0")).width) + SLACK;
 
 export class Widths {
-  /** `columns`: {name, isNumber, isRest, least, isOptional, leaves}, of which those with `isRest` have the rest of the
-   * room. Texts are whole, or where a column says so have that many ems at least. One that is optional leaves while
-   * nothing is in it; others leave a table that is too narrow for all, those of the lowest `leaves` first. */
+  /** `columns`: {name, isNumber, isRest, least, isOptional, leaves}, of which those with `isRest` share the rest of the
+   * room by what is in them. Texts are whole, or where a column says so have that many ems at least. One that is
+   * optional leaves while nothing is in it; others leave a table that is too narrow for all, those of the lowest
+   * `leaves` first. */
   constructor(box, columns) {
     const { fontFamily } = getComputedStyle(box);
     drawing.font = `600 12px ${fontFamily}`;
@@ -31,11 +32,14 @@ export class Widths {
     this.columns = columns;
     this.heads = columns.map(({ name }) => measured(name));
     this.widths = [];
+    /** Those in which no text is cut. */
+    this.whole = [];
   }
 
   /** Begins anew, for other rows. */
   clear() {
     this.widths = this.heads.map((head, i) => (this.columns[i].isOptional ? 0 : head));
+    this.whole = [...this.widths];
   }
 
   /** Has room for rows of a table of so many. */
@@ -55,13 +59,15 @@ export class Widths {
         if ((cell.text ?? cell) === "") return;
         const width = measured(cell.text ?? cell) + (cell.chip ? CHIP : 0);
         this.widths[i] = Math.max(this.widths[i], this.heads[i], least ? Math.min(width, least * em) : width);
+        this.whole[i] = Math.max(this.whole[i], this.heads[i], width);
       });
     }
     this.#apply();
   }
 
+  /** The width of all columns in which no text is cut. */
   get sum() {
-    return this.widths.reduce((sum, width) => sum + width, 0);
+    return this.whole.reduce((sum, width) => sum + width, 0);
   }
 
   /** How wide these columns are, with what is between them and at their sides. */
@@ -97,7 +103,8 @@ export class Widths {
     const { box } = this;
     const there = this.#fitting();
     this.columns.forEach((_, i) => box.classList.toggle(`left-${i}`, !there.includes(i)));
-    const one = (i) => (this.columns[i].isRest ? `minmax(${this.widths[i]}px, 1fr)` : `${this.widths[i]}px`);
+    const { columns, whole, widths } = this;
+    const one = (i) => (columns[i].isRest ? `minmax(${widths[i]}px, ${whole[i]}fr)` : `${widths[i]}px`);
     box.style.setProperty("--columns", there.map(one).join(" "));
     box.style.setProperty("--shares", there.map((i) => `minmax(0, ${this.widths[i]}fr)`).join(" "));
     box.style.setProperty("--least", `${there.reduce((sum, i) => sum + this.widths[i], 0)}px`);

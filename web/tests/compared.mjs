@@ -84,6 +84,11 @@ async function compareLayout(page, hold) {
     const words = document.getElementById("words").getBoundingClientRect();
     const isWithin = document.documentElement.scrollWidth <= innerWidth;
     return [compared.top >= table.bottom, words.top >= last.bottom, isWithin].join()`;
+  const cut = `return [...document.querySelectorAll("#compare-list [data-row] > *")]
+    .filter((it) => it.scrollWidth > it.clientWidth).map((it) => it.textContent).join()`;
+  await page.browser.size(800, 900);
+  await compare(page, [["one", LOAD], ["other", OTHER]]);
+  hold("what differs and is cut, at 800 pixels", "", await page.in(cut));
   for (const width of [1280, 390]) {
     await page.browser.size(width, 900);
     await compare(page, [["one", LOAD], ["other", OTHER]]);

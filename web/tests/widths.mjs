@@ -2,6 +2,7 @@
 
 import { DAMAGED, PROGRAM } from "./program.mjs";
 import { digits } from "./texts.mjs";
+import { BOTH } from "./warned.mjs";
 
 const WINDOWS = [390, 800, 980, 981, 1000, 1110, 1120, 1280, 1800, 1920, 2560];
 const LISTS = ["hunks", "blocks", "symbols", "relocations"];
@@ -15,8 +16,10 @@ const OPEN = `
   const cut = cells.filter((it) => it.scrollWidth > it.clientWidth && !isRest(it));
   return [grid.scrollWidth - grid.clientWidth, ...cut.map((it) => it.textContent)].join()`;
 
-/** The column that has the rest of the room, where it may be cut. */
-const REST = { blocks: 4 };
+/** The column of a list that has the rest of the room. It may be cut on a phone, and at 1,800 pixels, where the list
+ * and both views only just fit beside each other. */
+const REST = { blocks: 4, warnings: 2 };
+const restOf = (list, width) => (width < 800 || width === 1800 ? REST[list] : undefined);
 
 /** Where each column begins, from the left of the table. */
 const COLUMNS = `
@@ -45,15 +48,16 @@ const FILES = [
   ["text", "54657874"],
 ];
 
-/** How much wider the table of many files is than its box, and the columns that are seen, and whether the others are
- * told. */
+/** How much wider the table of many files is than its box, and the columns that are seen, whether the others are told,
+ * and whether texts of many words are cut where there is room for all. */
 const MANY = `
   const grid = document.getElementById("many-list");
   const heads = [...grid.querySelectorAll("[role=columnheader]")];
   const seen = heads.filter((it) => it.checkVisibility());
   const isTold = seen.length === heads.length || /^No room for .*sum/.test(grid.querySelector(".head").title);
   const areThere = ["file", "bytes", "class"].every((it) => seen.some((head) => head.textContent === it));
-  return [grid.scrollWidth - grid.clientWidth, areThere, isTold].join()`;
+  const cut = [...grid.querySelectorAll("[data-row] > *")].filter((it) => it.scrollWidth > it.clientWidth);
+  return [grid.scrollWidth - grid.clientWidth, areThere, isTold, innerWidth < 1800 || cut.length === 0].join()`;
 
 async function compareMany(page, hold) {
   for (const width of WINDOWS) {
@@ -61,7 +65,7 @@ async function compareMany(page, hold) {
     await page.browser.touch(width === 390);
     await page.open();
     await page.drop(FILES);
-    hold(`the table of many files at ${width} pixels`, "0,true,true", await page.in(MANY));
+    hold(`the table of many files at ${width} pixels`, "0,true,true,true", await page.in(MANY));
   }
   await page.browser.touch(false);
   await page.browser.size(1280, 900);
@@ -83,15 +87,17 @@ export async function compareWidths(page, hold) {
     await page.browser.touch(width === 390);
     await page.open();
     for (const list of ["hunks", "blocks", "relocations"]) {
-      hold(`sum, ${list} at ${width} pixels`, "0", await page.in(OPEN, list, REST[list]));
+      hold(`sum, ${list} at ${width} pixels`, "0", await page.in(OPEN, list, restOf(list, width)));
     }
     await page.drop([["program", PROGRAM]]);
     for (const list of LISTS) {
-      hold(`a program, ${list} at ${width} pixels`, "0", await page.in(OPEN, list, REST[list]));
+      hold(`a program, ${list} at ${width} pixels`, "0", await page.in(OPEN, list, restOf(list, width)));
       const [head, row] = await page.in(COLUMNS);
       hold(`a program, heads of ${list} at ${width} pixels`, head, row);
     }
     hold(`lines of bytes without room at ${width} pixels`, 0, await page.in(NARROW));
+    await page.open(`#hex=${BOTH}`);
+    hold(`warnings at ${width} pixels`, "0", await page.in(OPEN, "warnings", restOf("warnings", width)));
     await page.open("#example=two-findings");
     hold(`findings at ${width} pixels`, "0", await page.in(OPEN, "check"));
     const wide = await page.in("return document.documentElement.scrollWidth > innerWidth");
