@@ -16,7 +16,7 @@ function manyTargets(count, targets) {
 
 /** How high each of so many columns across the map is drawn on, of a hundred: from below, while nothing or a hunk is
  * chosen. */
-const HEIGHTS = `
+export const HEIGHTS = `
   const canvas = document.getElementById("map-picture");
   await new Promise((done) => requestAnimationFrame(() => requestAnimationFrame(done)));
   const height = canvas.height - 45;
@@ -31,10 +31,10 @@ const POINT = `
   const at = { clientX: left + values[1] * width, clientY: top + 110 };
   picture.dispatchEvent(new PointerEvent("pointermove", { bubbles: true, ...at }));`;
 
-const SHARE = `return columns.reduce((sum, it) => sum + it, 0) / columns.length`;
+export const SHARE = `return columns.reduce((sum, it) => sum + it, 0) / columns.length`;
 
 /** 300 hunks: of each one relocation leads to the next, and all lead to hunk 7. */
-function toSeven() {
+export function toSeven() {
   const all = [...Array(300).keys()];
   const hunk = (i) => [0x3e9, 2, 0, 0, 0x3ec, 1, (i + 1) % 300, 0, 1, 7, 4, 0, 0x3f2];
   return [0x3f3, 0, 300, 0, 299, ...all.map(() => 2), ...all.flatMap(hunk)].map(long).join("");

@@ -28,12 +28,12 @@ const CARETS = `
 
 const focused = (page) => page.in(FOCUSED);
 
-async function press(page, ...names) {
+export async function press(page, ...names) {
   for (const name of names) await page.browser.press(name);
 }
 
 /** Goes by Tab, or another key, to what has this name. */
-async function reach(page, name, key = "Tab") {
+export async function reach(page, name, key = "Tab") {
   for (let i = 0; i < 60; i++) {
     await press(page, key);
     if ((await focused(page)) === name) return;

@@ -240,7 +240,7 @@ const FOREIGN = [
   ["two letters", Buffer.from("ab").toString("hex"), "Truncated (26)", "No hunk file: text, by its first bytes."],
 ];
 /** The header of one hunk, and a block with a type of PowerPC code. */
-const POWERPC = digits("000003f3 00000000 00000001 00000000 00000000 00000001 000004e9 00000001 4e800020 000003f2");
+export const POWERPC = digits("000003f3 00000000 00000001 00000000 00000000 00000001 000004e9 00000001 4e800020 000003f2");
 
 /** Holds what is shown of files that are refused. */
 export async function compareRefused(page, hold) {

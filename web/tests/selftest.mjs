@@ -234,7 +234,7 @@ async function compareUse(page) {
   hold("a narrow window", true, await page.in("return document.documentElement.scrollWidth <= innerWidth"));
 }
 
-const paths = { root, work, pagePath };
+const paths = { root, work, pagePath, isFew: oneOf !== "1" };
 /** The tests of the page, in their order, by their names. What is null stands in a file of that name. */
 const TESTS = {
   // First, as Chromium keeps 50 places in the history, and of more forgets those at which nobody has pressed a key.
@@ -259,6 +259,7 @@ const TESTS = {
   pictures: null,
   widths: null,
   keyboard: null,
+  steps: null,
   targets: null,
   sight: null,
   copying: null,

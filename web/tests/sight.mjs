@@ -3,7 +3,9 @@
 import { PROGRAM } from "./program.mjs";
 
 /** The size of the window, and whether it is touched. */
-const WINDOWS = [[390, 844, true], [1280, 900, false], [1280, 720, false], [1920, 1080, false]];
+const WINDOWS = [
+  [390, 844, true], [800, 900, false], [1280, 900, false], [1280, 720, false], [1920, 1080, false], [2560, 1440, false],
+];
 
 /** Picks the last row of a list, and says of each view whether the first byte that is picked is seen. */
 const LAST = `

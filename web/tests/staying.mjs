@@ -5,7 +5,7 @@ import { PROGRAM } from "./program.mjs";
 import { SUM, digits } from "./texts.mjs";
 
 /** CODE of 8 bytes, a short block of offset 0, and no END. */
-const WIDE = digits(`
+export const WIDE = digits(`
   000003f3 00000000 00000001 00000000 00000000 00000002
   000003e9 00000002 00000000 00000000 000003fc 00010000 00000000`);
 
@@ -37,7 +37,7 @@ async function tryOvertaken(page, hold) {
 
 /** The open list, its first row that is seen and the one that is marked, what is picked, and how far the views are
  * scrolled. */
-const PLACE = `
+export const PLACE = `
   const seen = document.querySelector("#list-panel [data-row]").dataset.row;
   const body = document.querySelector("#list-panel .body");
   const lines = (id) => document.querySelector("#" + id + "-hex").scrollTop;

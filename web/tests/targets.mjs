@@ -5,7 +5,7 @@ import { PROGRAM } from "./program.mjs";
 import { SUM } from "./texts.mjs";
 
 /** The first and the last byte that are picked in each view, as far as they are drawn. */
-const PICKED = `
+export const PICKED = `
   const picked = (id) => {
     const found = [...document.querySelectorAll("#" + id + "-hex .picked")].map((it) => {
       const line = it.closest(".line");
@@ -24,7 +24,7 @@ const ROWS = `${PICKED}
   }).join()`;
 
 /** Blocks of the example: CODE of 48 bytes at 1c, RELOC32 at 54, END, and BSS of 12 at 78, END. */
-const BLOCKS = ["1c-53 21000-2102f", "54-73 none", "74-77 none", "78-7f 21030-2103b", "80-83 none"];
+export const BLOCKS = ["1c-53 21000-2102f", "54-73 none", "74-77 none", "78-7f 21030-2103b", "80-83 none"];
 const HUNKS = ["1c-53 21000-2102f", "78-7f 21030-2103b"];
 const RELOCATIONS = ["60-63 21002-21005", "6c-6f 21008-2100b"];
 
