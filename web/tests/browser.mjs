@@ -177,9 +177,18 @@ export class Chromium extends Browser {
     const options = { binary: "/usr/bin/chromium", args };
     const alwaysMatch = { webSocketUrl: true, unhandledPromptBehavior: "ignore", "goog:chromeOptions": options };
     const body = JSON.stringify({ capabilities: { alwaysMatch } });
-    const { value } = await (await fetch(`http://127.0.0.1:${port}/session`, { method: "POST", body })).json();
+    const sessions = `http://127.0.0.1:${port}/session`;
+    const { value } = await (await fetch(sessions, { method: "POST", body })).json();
     if (value.error) throw new Error(`${value.error}: ${value.message}`);
-    return new Chromium(run, await Bidi.open(value.capabilities.webSocketUrl)).begin();
+    const browser = new Chromium(run, await Bidi.open(value.capabilities.webSocketUrl));
+    browser.at = `${sessions}/${value.sessionId}`;
+    return browser.begin();
+  }
+
+  /** Ends the session first, for which its driver waits: one that is ended before may leave the browser behind. */
+  async close() {
+    await fetch(this.at, { method: "DELETE" }).catch(() => {});
+    await super.close();
   }
 
   /** A command of Chromium's own protocol for the tab. */
