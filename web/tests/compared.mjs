@@ -84,7 +84,7 @@ async function compareLayout(page, hold) {
     const words = document.getElementById("words").getBoundingClientRect();
     const isWithin = document.documentElement.scrollWidth <= innerWidth;
     return [compared.top >= table.bottom, words.top >= last.bottom, isWithin].join()`;
-  const cut = `return [...document.querySelectorAll("#compare-list [data-row] > *")]
+  const cut = `return [...document.querySelectorAll("#compare-list [data-row] > *, .sides .item-line p:first-child")]
     .filter((it) => it.scrollWidth > it.clientWidth).map((it) => it.textContent).join()`;
   await page.browser.size(800, 900);
   await compare(page, [["one", LOAD], ["other", OTHER]]);
