@@ -152,6 +152,8 @@ async function tryOrder(page, hold) {
   await page.open();
   await openList(page, "blocks");
   await page.drop(["z10", "B", "z2", "a", "z1"].map((name) => [name, SUM]));
+  // The list that had the focus is gone, and from its place Firefox goes on to its own buttons.
+  await page.in(`document.getElementById("pick").focus()`);
   await reach(page, "columnheader of many-list");
   await press(page, "Enter");
   const names = `return [...document.querySelectorAll("#many-list [data-row] > :first-child")]
