@@ -15,8 +15,9 @@ export class Reload {
   /** `reload(found, table)` is called for the file as it is now, and the table that it is of. */
   constructor(button, reload) {
     this.button = button;
+    this.reload = reload;
     this.watch(null);
-    button.addEventListener("click", () => reload({ ...this.visit.found, file: this.fresh }, this.visit.table));
+    button.addEventListener("click", () => this.#read());
     addEventListener("focus", () => this.#look(true));
     document.addEventListener("visibilitychange", () => this.#look(true));
     setInterval(() => this.#look(false), BETWEEN);
@@ -30,6 +31,13 @@ export class Reload {
     this.known = { lastModified, size };
     this.fresh = null;
     this.button.hidden = true;
+  }
+
+  /** Has the file read as it is by now: it may have been half written when it was seen to have changed. */
+  async #read() {
+    const { visit, fresh } = this;
+    const file = (await visit.found.again?.().catch(() => null)) ?? fresh;
+    if (visit === this.visit) this.reload({ ...visit.found, file }, visit.table);
   }
 
   /** Looks whether the file is another one now: by its bytes, or by its date and size alone. */

@@ -48,12 +48,14 @@ async function comparePicker(page, hold) {
     window.now = new File([bytes(values[0])], "picked", { lastModified: 1 });
     window.showOpenFilePicker = async () => [{ kind: "file", name: "picked", getFile: async () => window.now }];
     window.dispatchPick = () => document.getElementById("pick").click();
-    window.change = () => { window.now = new File([bytes(values[1])], "picked", { lastModified: 2 }); };`;
-  await page.in(picker, ONE, LOAD);
+    window.change = (digits, lastModified) => { window.now = new File([bytes(digits)], "picked", { lastModified }); };`;
+  await page.in(picker, ONE);
   await page.shows(() => page.in("dispatchPick()"));
   hold("a file that is picked by a handle", WAS, await start(page));
-  await page.in("change()");
+  await page.in("change(...values)", LOAD.slice(0, 16), 2);
   hold("that it has changed", true, await offered(page));
+  // It was half written then.
+  await page.in("change(...values)", LOAD, 3);
   await page.shows(() => page.in(`document.getElementById("reload").click()`));
   hold("it is read again", IS, await start(page));
 }
