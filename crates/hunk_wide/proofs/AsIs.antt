@@ -25,7 +25,7 @@ use Rattle.hunk_wide.specs.Spellings.{counted, ends_from, has_end, is_short, one
 use Rattle.hunk_wide.proofs.{Cutting.take_add, Leads.two_lead, Stretches.two_give, Written.part_length}
 
 -- what is next in a load file at this position
-abbrev load_on : Position → Spot
+abbrev pub load_on : Position → Spot
 load_on p = go_on (files.Load p)
 
 -- ---- one after the other
@@ -107,7 +107,7 @@ straight_counted f e zero next (b ∷ []) more len = refl
 straight_counted f e zero next (b ∷ c ∷ bytes) more len = absurd (omega (arith, len))
 straight_counted f e (suc owed) next (b ∷ bytes) more len = straight_counted f e owed next bytes more (omega (arith, len))
 
-straight_as_is : (owed : ℕ) (next : FilePosition) (bytes : List ℕ) → length bytes ≡ suc owed → AsIs (Straight owed next) bytes (Long next)
+pub straight_as_is : (owed : ℕ) (next : FilePosition) (bytes : List ℕ) → length bytes ≡ suc owed → AsIs (Straight owed next) bytes (Long next)
 straight_as_is owed next bytes len = record {
   gives = λ more. straight_gives owed next bytes more len;
   leads = straight_leads owed next bytes len;
@@ -120,7 +120,7 @@ straight_as_is owed next bytes len = record {
 run_length : (n : ℕ) (bytes : List ℕ) → length bytes ≡ 4 * suc n → length bytes ≡ suc (4 * n + 3)
 run_length n bytes len = omega (arith, len)
 
-empty_run : (s : Spot) (bytes : List ℕ) → length bytes ≡ 0 → AsIs s bytes s
+pub empty_run : (s : Spot) (bytes : List ℕ) → length bytes ≡ 0 → AsIs s bytes s
 empty_run s [] len = none_as_is s
 empty_run s (b ∷ bytes) len = absurd (omega (arith, len))
 
@@ -144,7 +144,7 @@ after_taken : (n m : ℕ) (bytes : List ℕ) → n + m ≤ length bytes → leng
 after_taken n m bytes whole = omega (arith, length-take m (drop n bytes), length-drop n bytes)
 
 -- a longword, and a run of so many that it owes
-word_and_run : (p : FilePosition) (t : Spot) (bytes : List ℕ) (n : ℕ) → given p (front_word bytes) ≡ Same → 4 + 4 * n ≤ length bytes
+pub word_and_run : (p : FilePosition) (t : Spot) (bytes : List ℕ) (n : ℕ) → given p (front_word bytes) ≡ Same → 4 + 4 * n ≤ length bytes
     → ((run : List ℕ) → length run ≡ 4 * n → AsIs (behind_long p (front_word bytes)) run t) → AsIs (Long p) (take (4 + 4 * n) bytes) t
 word_and_run p t bytes n same whole run =
     more_as_is (Long p) (behind_long p (front_word bytes)) t bytes 4 (4 * n) (long_as_is p bytes (omega arith) same)

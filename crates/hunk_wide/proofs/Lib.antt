@@ -24,3 +24,5 @@ pub mod Steps
 pub mod Supplies
 pub mod Written
 pub mod Cells
+pub mod Headers
+pub mod Runs

@@ -1,5 +1,6 @@
 -- Words of 16 bits of a short block, many at once.
 use Rattle.std.proofs.Common.{◌≡◌, ℕ, zero, suc, ◌+◌, ◌-◌, ◌*◌, ◌/◌, ◌%◌, ◌<◌, ◌≤◌, Bool, true, false, not, List, [], ◌∷◌, ◌++◌, length, take, drop, get_or, refl, sym, ap, subst, ◌∙◌, arith}
+use Rattle.std.specs.Int.{to_be_bytes, w32}
 use Rattle.std.proofs.lemmas.List.{length-drop, length-take, take-append-drop, take-append-le}
 use Rattle.hunk_wide.specs.declared.position.FilePosition.{FilePosition}
 use Rattle.hunk_wide.specs.declared.spot.ShortPart.{ShortPart}
@@ -208,3 +209,13 @@ widened_all (suc i) (a ∷ b ∷ halves) h =
     let more : 2 * suc i ≡ suc (suc (2 * i)) = omega arith in
     ap (λ (n : ℕ). widened (take n (a ∷ b ∷ halves))) more
     ∙ ap (λ (x : List ℕ). 0 ∷ 0 ∷ a ∷ b ∷ x) (widened_all i halves (omega arith))
+
+-- ---- a word as a longword
+
+pub half_as_long : (a b : ℕ) → a < 256 → b < 256 → to_be_bytes w32 (a * 256 + b) ≡ 0 ∷ 0 ∷ a ∷ b ∷ []
+half_as_long a b high low =
+    let first : (a * 256 + b) / 16777216 % 256 ≡ 0 = omega arith in
+    let second : (a * 256 + b) / 65536 % 256 ≡ 0 = omega arith in
+    let third : (a * 256 + b) / 256 % 256 ≡ a = omega arith in
+    let fourth : (a * 256 + b) % 256 ≡ b = omega arith in
+    λ j. first j ∷ second j ∷ third j ∷ fourth j ∷ []

@@ -1,12 +1,13 @@
 -- Parts of a file that are given out as they are, passed over at once.
-use Rattle.std.specs.Prelude.{◌≡◌, ℕ, suc, ◌≤◌, Bool, true, false, ◌||◌, List, [], ◌∷◌, ◌++◌, length, take, slice_index_or}
+use Rattle.std.specs.Prelude.{◌≡◌, ℕ, suc, ◌-◌, ◌<◌, ◌≤◌, Bool, true, false, ◌||◌, List, [], ◌∷◌, ◌++◌, length, take, drop, slice_index_or}
 use Rattle.std.specs.Int.{from_be_bytes, w32}
-use Rattle.hunk_words.specs.Bits.{has_both_bits}
+use Rattle.hunk_words.specs.Bits.{has_both_bits, header_word}
 use Rattle.hunk_grammar.specs.declared.phase.Phase.{Phase}
 use Rattle.hunk_grammar.specs.declared.phase.Phase.TheVariants as phases
 use Rattle.hunk_grammar.specs.declared.position.OpenHunk.{OpenHunk}
 use Rattle.hunk_grammar.specs.declared.position.Position.{Position}
 use Rattle.hunk_grammar.specs.declared.position.Position.TheVariants as positions
+use Rattle.hunk_grammar.specs.declared.object_position.ObjectPosition.{ObjectPosition}
 use Rattle.hunk_grammar.specs.PhaseSteps.{longest_run}
 use Rattle.hunk_wide.specs.declared.position.FilePosition.TheVariants as files
 use Rattle.hunk_wide.specs.declared.spot.Spot.{Spot}
@@ -67,3 +68,24 @@ pub record IsBlock (o : OpenHunk) (bytes : List ℕ) (size : ℕ) (is_end : Bool
   pub word : 4 ≤ size
   pub whole : size ≤ length bytes
   pub as_is : AsIs (load_at (word_at o false)) (take size bytes) (load_at (word_at next is_end))
+
+-- a longword of an object file at this position
+abbrev pub object_at : ObjectPosition → Spot
+object_at p = Long (files.Object p)
+
+-- So many bytes, a longword or more, are given out as they are, and what follows them is for this.
+pub record IsPart (s : Spot) (bytes : List ℕ) (size : ℕ) (next : Spot) : Type 0 where
+  pub word : 4 ≤ size
+  pub whole : size ≤ length bytes
+  pub as_is : AsIs s (take size bytes) next
+
+-- a header that is whole up to its table, with the number of hunks, of which there are some
+pub record IsHeader (bytes : List ℕ) (hunks : ℕ) : Type 0 where
+  pub whole : 20 ≤ length bytes
+  pub begins : front_word bytes ≡ header_word
+  pub count : front_word (drop 8 bytes) ≡ hunks
+  pub some : 0 < hunks
+
+-- the first of so many hunks, of which no block came
+abbrev pub first_hunk : ℕ → OpenHunk
+first_hunk hunks = record { hunks = hunks; ahead = hunks - 1; has_content = false }

@@ -8,6 +8,7 @@
 mod expander;
 mod halves;
 mod laws;
+mod longs;
 mod parts;
 mod place;
 mod plain;

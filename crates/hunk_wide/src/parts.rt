@@ -5,14 +5,18 @@ ghost use Rattle.hunk_grammar.specs.declared.phase.Phase.TheVariants as phases;
 ghost use Rattle.hunk_grammar.specs.declared.position.OpenHunk.{OpenHunk};
 ghost use Rattle.hunk_grammar.specs.declared.position.Position.TheVariants as positions;
 ghost use Rattle.hunk_grammar.specs.PhaseSteps.{begin};
-ghost use Rattle.hunk_wide.specs.Parts.{AsIs, IsBlock, IsBody, IsNext, IsRow};
+ghost use Rattle.hunk_wide.specs.Parts.{AsIs, IsBlock, IsBody, IsHeader, IsNext, IsRow};
 ghost use Rattle.hunk_wide.specs.Parts.{front_word, is_content, load_at, word_at};
 ghost use Rattle.hunk_wide.specs.declared.spot.Spot.TheVariants.{Long};
 
+use crate::longs::longs_at;
 use crate::position::FilePosition;
 use crate::spot::Given;
-use hunk_grammar::{OpenHunk, Phase, Position};
-use hunk_words::{BlockWord, CONTENT_LIMIT, NAME_LIMIT, SizeWord};
+use hunk_grammar::{OpenHunk, Phase, Position, TABLE_AT, TABLE_SIZE_AT};
+use hunk_words::{BlockWord, CONTENT_LIMIT, HEADER_WORD, NAME_LIMIT, SizeWord};
+
+/// The number of the bytes of a header up to its table.
+const HEADER_SIZE: usize = 4 * TABLE_AT;
 
 /// The first bytes of a wide spelling, given out as they are.
 #[derive(Clone, Copy)]
@@ -32,8 +36,8 @@ struct Block {
     is_end: bool,
 }
 
-/// The rows of the table, or the blocks, that the bytes begin with, where a longword stands at this
-/// position. It may be none of them, also where some are whole, and in an object file it is none.
+/// The header with its table, rows of that, or blocks, that the bytes begin with, where a longword
+/// stands at this position; in an object file longwords. It may be none, also where some are whole.
 #[inline(always)]
 pub(crate) fn part_at(position: FilePosition, bytes: &[u8]) -> Part
     ensures inside { result.size ≤ length bytes.now }
@@ -41,7 +45,7 @@ pub(crate) fn part_at(position: FilePosition, bytes: &[u8]) -> Part
 {
     match position {
         FilePosition::Load(position) => load_part_at(position, bytes),
-        FilePosition::Object(_) => nothing(position),
+        FilePosition::Object(position) => longs_at(position, bytes),
     }
 }
 
@@ -52,11 +56,12 @@ fn load_part_at(position: Position, bytes: &[u8]) -> Part
     ensures as_is { AsIs (load_at position) (take result.size bytes.now) (Long result.next) }
 {
     match position {
-        Position::SizeWord { hunks, owed } => rows_at(hunks, owed, bytes),
+        Position::FirstLong => header_at(bytes),
+        Position::SizeWord { hunks, owed } => table_at(hunks, owed, bytes),
         Position::Body(hunk, phase) => match phase {
             Phase::FirstBlock => blocks_at(hunk, true, bytes),
             Phase::BlockWord => blocks_at(hunk, false, bytes),
-            _ => nothing(FilePosition::Load(position)),
+            _ => body_at(hunk, phase, bytes),
         },
         _ => nothing(FilePosition::Load(position)),
     }
@@ -73,12 +78,73 @@ fn nothing(position: FilePosition) -> Part
     }
 }
 
-/// Rows of the table, up to its last.
-#[inline(never)]
-fn rows_at(hunks: u32, owed: u32, bytes: &[u8]) -> Part
+/// The header of a load file, its table, and blocks after that.
+#[inline(always)]
+fn header_at(bytes: &[u8]) -> Part
+    ensures inside { result.size ≤ length bytes.now }
+    ensures as_is { AsIs (load_at positions.FirstLong) (take result.size bytes.now)
+        (Long result.next) }
+{
+    let Some(hunks) = hunks_of_header(bytes) else {
+        return nothing(FilePosition::Load(Position::FirstLong));
+    };
+    let rest = table_at(hunks, hunks - 1, &bytes[HEADER_SIZE..]);
+    Part {
+        size: HEADER_SIZE + rest.size,
+        next: rest.next,
+    }
+}
+
+/// The number of hunks in the header that the bytes begin with, where it is whole up to its table,
+/// and has some.
+#[inline(always)]
+fn hunks_of_header(bytes: &[u8]) -> Option<u32>
+    ensures { IfSome result (λ hunks. IsHeader bytes.now hunks) }
+{
+    if bytes.len() < HEADER_SIZE {
+        return None;
+    }
+    let hunks = front_word(&bytes[4 * TABLE_SIZE_AT..]);
+    if front_word(bytes) == HEADER_WORD && hunks > 0 {
+        Some(hunks)
+    } else {
+        None
+    }
+}
+
+/// Rows of the table, and blocks after the last.
+#[inline(always)]
+fn table_at(hunks: u32, owed: u32, bytes: &[u8]) -> Part
     ensures inside { result.size ≤ length bytes.now }
     ensures as_is { AsIs (load_at (positions.SizeWord hunks owed)) (take result.size bytes.now)
         (Long result.next) }
+{
+    let (size, left) = rows_at(hunks, owed, bytes);
+    if left > 0 || hunks == 0 || !is_row(&bytes[size..]) {
+        return Part {
+            size,
+            next: FilePosition::Load(Position::SizeWord { hunks, owed: left }),
+        };
+    }
+    let hunk = OpenHunk {
+        hunks,
+        ahead: hunks - 1,
+        has_content: false,
+    };
+    let rest = blocks_at(hunk, true, &bytes[size + 4..]);
+    Part {
+        size: size + 4 + rest.size,
+        next: rest.next,
+    }
+}
+
+/// The number of the bytes of rows of the table before its last, and how many more then follow the
+/// next row.
+#[inline(always)]
+fn rows_at(hunks: u32, owed: u32, bytes: &[u8]) -> (usize, u32)
+    ensures inside { result.0 ≤ length bytes.now }
+    ensures as_is { AsIs (load_at (positions.SizeWord hunks owed)) (take result.0 bytes.now)
+        (load_at (positions.SizeWord hunks result.1)) }
 {
     let mut left = owed;
     let mut at = 0;
@@ -89,10 +155,7 @@ fn rows_at(hunks: u32, owed: u32, bytes: &[u8]) -> Part
         left -= 1;
         at += 4;
     }
-    Part {
-        size: at,
-        next: FilePosition::Load(Position::SizeWord { hunks, owed: left }),
-    }
+    (at, left)
 }
 
 /// Whether the bytes begin with a size word that no attributes follow.
@@ -105,7 +168,7 @@ fn is_row(bytes: &[u8]) -> bool
 
 /// The longword that the bytes begin with.
 #[inline(always)]
-fn front_word(bytes: &[u8]) -> u32
+pub(crate) fn front_word(bytes: &[u8]) -> u32
     requires { 4 ≤ length bytes.now }
     ensures { result ≡ front_word bytes.now }
 {
@@ -129,6 +192,28 @@ fn blocks_at(hunk: OpenHunk, is_first: bool, bytes: &[u8]) -> Part
     Part {
         size: at,
         next: FilePosition::Load(word_at(hunk, is_first)),
+    }
+}
+
+/// The rest of a block of the hunk, after its word, and blocks after it.
+#[inline(always)]
+fn body_at(hunk: OpenHunk, phase: Phase, bytes: &[u8]) -> Part
+    ensures inside { result.size ≤ length bytes.now }
+    ensures as_is { AsIs (load_at (positions.Body hunk phase)) (take result.size bytes.now)
+        (Long result.next) }
+{
+    if bytes.len() < 4 {
+        return nothing(FilePosition::Load(Position::Body(hunk, phase)));
+    }
+    let Some(size) = body_size(phase, bytes) else {
+        return nothing(FilePosition::Load(Position::Body(hunk, phase)));
+    };
+    let mut hunk = hunk;
+    hunk.has_content = has_content_after(phase, hunk.has_content);
+    let rest = blocks_at(hunk, false, &bytes[size..]);
+    Part {
+        size: size + rest.size,
+        next: rest.next,
     }
 }
 

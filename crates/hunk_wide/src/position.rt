@@ -88,7 +88,7 @@ fn after_load_run(position: Position) -> Position
 
 /// How many of an object file come at least.
 #[inline(always)]
-fn object_run(position: ObjectPosition) -> u64
+pub(crate) fn object_run(position: ObjectPosition) -> u64
     ensures value { result ≡ run position }
     ensures bound { result ≤ 2 ^ 32 }
 {
@@ -101,7 +101,7 @@ fn object_run(position: ObjectPosition) -> u64
 
 /// After all of these.
 #[inline(always)]
-fn after_object_run(position: ObjectPosition) -> ObjectPosition
+pub(crate) fn after_object_run(position: ObjectPosition) -> ObjectPosition
     ensures { result ≡ pass_run position }
 {
     match position {

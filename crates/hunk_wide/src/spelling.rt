@@ -1,5 +1,5 @@
 //! How an input spells its file: what it has otherwise than the plain spelling.
-ghost use Rattle.std.specs.Prelude.{◌≡◌, ◌+◌, ◌*◌, ◌≤◌, length, IfNone, IfSome};
+ghost use Rattle.std.specs.Prelude.{◌≡◌, ◌+◌, ◌*◌, ◌≤◌, length, IfNone, IfSome, IsTrue};
 ghost use Rattle.hunk_wide.specs.Plain.{plain};
 ghost use Rattle.hunk_wide.specs.Spellings.{BeginsWith, EndsThere};
 ghost use Rattle.hunk_wide.specs.Spellings.{ends_last, ends_of, has_end, is_short, one_if, short_blocks_of};
@@ -22,6 +22,15 @@ pub struct Spelling {
     pub short_blocks: u64,
     /// How many END it leaves out.
     pub ends: u64,
+}
+
+impl Spelling {
+    /// Whether the input is its own plain spelling.
+    pub(crate) fn is_plain(self) -> bool
+        ensures { IsTrue result → (self.short_blocks ≡ 0) × (self.ends ≡ 0) }
+    {
+        self.short_blocks == 0 && self.ends == 0
+    }
 }
 
 /// The first units of a wide spelling.

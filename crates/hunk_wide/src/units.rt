@@ -223,8 +223,9 @@ fn widen(halves: &[u8], longs: &mut [u8])
     ensures { longs.new ≡ widened halves.now }
 {
     'words: for i in 0..halves.len() / 2 {
-        let long = [0, 0, halves[2 * i], halves[2 * i + 1]];
-        longs[4 * i..4 * i + 4].copy_from_slice(long.as_slice());
+        // A longword that is put together from single bytes in memory waits for each of them.
+        let half = halves[2 * i] as u32 * 256 + halves[2 * i + 1] as u32;
+        longs[4 * i..4 * i + 4].copy_from_slice(half.to_be_bytes().as_slice());
     }
 }
 

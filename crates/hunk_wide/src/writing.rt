@@ -26,13 +26,28 @@ pub fn write_plain(bytes: &[u8], out: &mut [u8]) -> Result<usize, NoRoom>
     ensures no_room { IfErr result (λ e. length out.old < e.needed) }
     ensures stays { OnErr result (out.new ≡ out.old) }
 {
-    let needed = spelling_of(bytes).len;
+    let spelling = spelling_of(bytes);
+    let needed = spelling.len;
     if needed > out.len() as u64 {
         return Err(NoRoom { needed });
     }
     let count = needed as usize;
-    fill(bytes, &mut out[..count]);
+    if spelling.is_plain() {
+        copy(bytes, &mut out[..count]);
+    } else {
+        fill(bytes, &mut out[..count]);
+    }
     Ok(count)
+}
+
+/// Fills the buffer, which has just as many bytes, with the input, which is its own plain spelling.
+#[inline(always)]
+fn copy(bytes: &[u8], out: &mut [u8])
+    requires same { plain bytes.now ≡ bytes.now }
+    requires room { length out.old ≡ length (plain bytes.now) }
+    ensures { out.new ≡ plain bytes.now }
+{
+    out.copy_from_slice(bytes);
 }
 
 /// Fills the buffer, which has just as many bytes, with the plain spelling.
