@@ -61,7 +61,7 @@ fn load_part_at(position: Position, bytes: &[u8]) -> Part
         Position::Body(hunk, phase) => match phase {
             Phase::FirstBlock => blocks_at(hunk, true, bytes),
             Phase::BlockWord => blocks_at(hunk, false, bytes),
-            _ => body_at(hunk, phase, bytes),
+            _ => nothing(FilePosition::Load(position)),
         },
         _ => nothing(FilePosition::Load(position)),
     }
@@ -79,7 +79,7 @@ fn nothing(position: FilePosition) -> Part
 }
 
 /// The header of a load file, its table, and blocks after that.
-#[inline(always)]
+#[inline(never)]
 fn header_at(bytes: &[u8]) -> Part
     ensures inside { result.size ≤ length bytes.now }
     ensures as_is { AsIs (load_at positions.FirstLong) (take result.size bytes.now)
@@ -113,7 +113,7 @@ fn hunks_of_header(bytes: &[u8]) -> Option<u32>
 }
 
 /// Rows of the table, and blocks after the last.
-#[inline(always)]
+#[inline(never)]
 fn table_at(hunks: u32, owed: u32, bytes: &[u8]) -> Part
     ensures inside { result.size ≤ length bytes.now }
     ensures as_is { AsIs (load_at (positions.SizeWord hunks owed)) (take result.size bytes.now)
@@ -192,28 +192,6 @@ fn blocks_at(hunk: OpenHunk, is_first: bool, bytes: &[u8]) -> Part
     Part {
         size: at,
         next: FilePosition::Load(word_at(hunk, is_first)),
-    }
-}
-
-/// The rest of a block of the hunk, after its word, and blocks after it.
-#[inline(always)]
-fn body_at(hunk: OpenHunk, phase: Phase, bytes: &[u8]) -> Part
-    ensures inside { result.size ≤ length bytes.now }
-    ensures as_is { AsIs (load_at (positions.Body hunk phase)) (take result.size bytes.now)
-        (Long result.next) }
-{
-    if bytes.len() < 4 {
-        return nothing(FilePosition::Load(Position::Body(hunk, phase)));
-    }
-    let Some(size) = body_size(phase, bytes) else {
-        return nothing(FilePosition::Load(Position::Body(hunk, phase)));
-    };
-    let mut hunk = hunk;
-    hunk.has_content = has_content_after(phase, hunk.has_content);
-    let rest = blocks_at(hunk, false, &bytes[size..]);
-    Part {
-        size: size + rest.size,
-        next: rest.next,
     }
 }
 

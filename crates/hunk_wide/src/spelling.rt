@@ -49,6 +49,7 @@ struct Units {
 /// How the input spells its file, by one pass over it. Nothing is written.
 ///
 /// Where it has no short block and leaves out no END, it is its own plain spelling.
+#[inline(never)]
 pub fn spelling_of(bytes: &[u8]) -> Spelling
     ensures len { result.len ≡ length (plain bytes.now) }
     ensures short_blocks { result.short_blocks ≡ short_blocks_of bytes.now }

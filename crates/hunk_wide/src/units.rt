@@ -217,7 +217,9 @@ fn expand_half(
 }
 
 /// Writes the words of 16 bits as longwords.
-#[inline(always)]
+///
+/// Where it is compiled into its caller the compiler does not make the loop eight words wide.
+#[inline(never)]
 fn widen(halves: &[u8], longs: &mut [u8])
     requires { length longs.old ≡ 4 * (length halves.now / 2) }
     ensures { longs.new ≡ widened halves.now }
