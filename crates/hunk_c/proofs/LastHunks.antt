@@ -1,16 +1,15 @@
--- The last place between two blocks of a load file, as a walk over its longwords finds it, and passes over runs.
-use Rattle.std.proofs.Common.{◌≡◌, ℕ, zero, suc, ◌+◌, ◌-◌, ◌<◌, ◌≤◌, List, length, take, drop, length-drop, length-take-le, refl, ap, ◌∙◌, arith, Option, Some, None}
+-- The runs of a load file, in which nothing is between two blocks, and the last place so far.
+use Rattle.std.proofs.Common.{◌≡◌, ℕ, zero, suc, ◌+◌, ◌<◌, ◌≤◌, List, length, get_or, take, refl, sym, ap, ◌∙◌, arith, Option, Some, None}
 use Rattle.std.specs.Prelude.{IfNone, IfSome}
-use Rattle.hunk_grammar.specs.PhaseSteps as inside
 use Rattle.hunk_grammar.specs.Positions as load
 use Rattle.hunk_grammar.specs.declared.phase.Phase.TheVariants as phases
 use Rattle.hunk_grammar.specs.declared.position.{OpenHunk.OpenHunk, Position.Position}
 use Rattle.hunk_grammar.specs.declared.position.Position.TheVariants as positions
-use Rattle.hunk_files.specs.Machines.{leads_to, load_at}
-use Rattle.hunk_files.proofs.walk.LoadRuns.{pass_is}
-use Rattle.hunk_c.specs.FrontPlaces.{FindsNone, IsLast, find_hunk, hunk_between}
+use Rattle.hunk_files.specs.Machines.{load_at}
+use Rattle.hunk_c.specs.FrontPlaces.{FindsNone, IsLast, find_hunk, hunk_between, longest_run, pass_longest_run}
 use Rattle.hunk_c.specs.declared.front.LoadPlace.{LoadPlace}
-use Rattle.hunk_c.proofs.LastPlaces.{FindsNoneIn, more, still_last, still_none}
+use Rattle.hunk_c.proofs.LastPlaces.{FindsNoneIn, last_here, still_last, still_none}
+use Rattle.hunk_c.proofs.PassedRuns.{HasRuns, none_to, none_within, past_stride}
 
 -- ---- the last place so far
 
@@ -24,35 +23,63 @@ still_hunk ws from end (Some p) less h none = still_last (find_hunk ws) from end
 
 -- ---- runs
 
--- Within a run no place is between blocks.
-none_left : (o : OpenHunk) (owe : ℕ → Position) → ((k : ℕ) → hunk_between (owe (suc k)) ≡ None) → (owed n : ℕ) → n < owed → hunk_between (owe (owed - n)) ≡ None
-none_left o owe inside owed n less = let left : owed - n ≡ suc (owed - n - 1) = omega (arith, less) in ap (λ (k : ℕ). hunk_between (owe k)) left ∙ inside (owed - n - 1)
+one_less : (p : Position) (left w : ℕ) → longest_run p ≡ suc left → (longest_run (load.step p w) ≡ left) × (pass_longest_run (load.step p w) ≡ pass_longest_run p)
+one_less (positions.Body o (phases.Content longs zero)) left w e = (omega (arith, e), refl)
+one_less (positions.Body o (phases.Content longs (suc owed))) left w e = (omega (arith, e), refl)
+one_less (positions.Body o (phases.Payload zero)) left w e = (omega (arith, e), refl)
+one_less (positions.Body o (phases.Payload (suc owed))) left w e = (omega (arith, e), refl)
+one_less (positions.Body o (phases.Offset target zero)) left w e = (omega (arith, e), refl)
+one_less (positions.Body o (phases.Offset target (suc owed))) left w e = (omega (arith, e), refl)
+one_less (positions.Body o (phases.Symbol zero)) left w e = (omega (arith, e), refl)
+one_less (positions.Body o (phases.Symbol (suc owed))) left w e = (omega (arith, e), refl)
+one_less (positions.Body o (phases.ExtFront zero)) left w e = (omega (arith, e), refl)
+one_less (positions.Body o (phases.ExtFront (suc owed))) left w e = (omega (arith, e), refl)
+one_less (positions.Body o (phases.ExtRest zero)) left w e = (omega (arith, e), refl)
+one_less (positions.Body o (phases.ExtRest (suc owed))) left w e = (omega (arith, e), refl)
+one_less _ left w e = absurd (omega (arith, e))
 
-none_passed : (p : Position) (n : ℕ) → n < load.run p → hunk_between (load.pass p n) ≡ None
-none_passed (positions.Body o (phases.Content all owed)) zero l = refl
-none_passed (positions.Body o (phases.Content all owed)) (suc n) l = none_left o (λ k. load.owe_content o all k) (λ k. refl) owed n (omega (arith, l))
-none_passed (positions.Body o (phases.Payload owed)) zero l = refl
-none_passed (positions.Body o (phases.Payload owed)) (suc n) l = none_left o (λ k. load.owe_payload o k) (λ k. refl) owed n (omega (arith, l))
-none_passed (positions.Body o (phases.Symbol owed)) zero l = refl
-none_passed (positions.Body o (phases.Symbol owed)) (suc n) l = none_left o (λ k. load.owe_symbol o k) (λ k. refl) owed n (omega (arith, l))
-none_passed (positions.Body o (phases.ExtFront owed)) zero l = refl
-none_passed (positions.Body o (phases.ExtFront owed)) (suc n) l = none_left o (λ k. load.onward o (load.at o phases.BlockWord) (inside.owe_front k)) (λ k. refl) owed n (omega (arith, l))
-none_passed (positions.Body o (phases.ExtRest owed)) zero l = refl
-none_passed (positions.Body o (phases.ExtRest owed)) (suc n) l = none_left o (λ k. load.onward o (load.at o phases.BlockWord) (inside.owe_rest k)) (λ k. refl) owed n (omega (arith, l))
-none_passed p n l = absurd (omega (arith, l))
+none_passed : (p : Position) → longest_run p ≡ 0 → p ≡ pass_longest_run p
+none_passed (positions.Body o (phases.Content longs owed)) e = absurd (omega (arith, e))
+none_passed (positions.Body o (phases.Payload owed)) e = absurd (omega (arith, e))
+none_passed (positions.Body o (phases.Offset target owed)) e = absurd (omega (arith, e))
+none_passed (positions.Body o (phases.Symbol owed)) e = absurd (omega (arith, e))
+none_passed (positions.Body o (phases.ExtFront owed)) e = absurd (omega (arith, e))
+none_passed (positions.Body o (phases.ExtRest owed)) e = absurd (omega (arith, e))
+none_passed _ e = refl
 
-module _ (ws : List ℕ) (at : ℕ) (p : Position) (here : load_at (take at ws) ≡ p) where
-  pub run_on : (n : ℕ) → n ≤ load.run p → at + n ≤ length ws → load_at (take (at + n) ws) ≡ load.pass p n
-  run_on n run inside =
-      let ys : List ℕ = take n (drop at ws) in
-      let size : length ys ≡ n = length-take-le n (drop at ws) (omega (arith, length-drop at ws, inside)) in
-      more load.step positions.FirstLong ws at n ∙ ap (λ (q : Position). leads_to load.step q ys) here ∙ pass_is p ys (omega (arith, size, run)) ∙ ap (load.pass p) size
+none_between : (p : Position) (left : ℕ) → longest_run p ≡ suc left → hunk_between p ≡ None
+none_between (positions.Body o phases.FirstBlock) left e = absurd (omega (arith, e))
+none_between (positions.Body o phases.BlockWord) left e = absurd (omega (arith, e))
+none_between _ left e = refl
 
-  -- Before the end of the run, none is found.
-  pub none_within : (end : ℕ) → end < at + load.run p → end ≤ length ws → (m : ℕ) → at ≤ m → m ≤ end → find_hunk ws m ≡ None
-  none_within end less inside m from to =
-      let on : m ≡ at + (m - at) = omega (arith, from) in
-      ap (find_hunk ws) on ∙ ap hunk_between (run_on (m - at) (omega (arith, less, from, to)) (omega (arith, from, to, inside))) ∙ none_passed p (m - at) (omega (arith, less, from, to))
+pub load_runs : HasRuns load.step longest_run pass_longest_run hunk_between
+load_runs = record { one = one_less; none = none_passed; inside = none_between }
+
+-- ---- the walk
+
+module _ (ws : List ℕ) (at end : ℕ) (p : Position) (last : Option LoadPlace) (here : p ≡ load_at (take at ws)) (h : LastHunk ws at last) (inside : at < end) (whole : end ≤ length ws)
+    (w : ℕ) (word : w ≡ get_or ws at 0) (n : ℕ) (n_is : n ≡ longest_run (load.step p w)) (after : Position) (after_is : after ≡ pass_longest_run (load.step p w)) where
+  all : at < length ws
+  all = omega (arith, inside, whole)
+
+  -- The run ends beyond.
+  pub hunk_within : end < at + 1 + n → LastHunk ws end last
+  hunk_within less =
+      still_hunk ws at end last (omega (arith, inside)) h
+      (none_within load.step longest_run pass_longest_run hunk_between load_runs positions.FirstLong ws at p here all w word n n_is after after_is end less whole)
+
+  -- It is passed.
+  module _ (less : at + 1 + n ≤ end) where
+    pub leads_on : after ≡ load_at (take (at + 1 + n) ws)
+    leads_on = past_stride load.step longest_run pass_longest_run hunk_between load_runs positions.FirstLong ws at p here all w word n n_is after after_is (omega (arith, less, whole))
+
+    pub at_hunk : (o : OpenHunk) → hunk_between after ≡ Some o → LastHunk ws (at + 1 + n) (Some (record { longs = at + 1 + n; hunk = o }))
+    at_hunk o e = last_here (find_hunk ws) (at + 1 + n) o (ap hunk_between (sym leads_on) ∙ e)
+
+    pub at_none : hunk_between after ≡ None → LastHunk ws (at + 1 + n) last
+    at_none e =
+        still_hunk ws at (at + 1 + n) last (omega arith) h
+        (none_to load.step longest_run pass_longest_run hunk_between load_runs positions.FirstLong ws at p here all w word n n_is after after_is (omega (arith, less, whole)) e)
 
 -- ---- what the walk comes to
 

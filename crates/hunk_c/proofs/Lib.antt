@@ -6,6 +6,7 @@ pub mod FrontKinds
 pub mod FrontText
 pub mod FoundPlaces
 pub mod LastBytes
+pub mod LastEnds
 pub mod LastHunks
 pub mod LastPlaces
 pub mod LoadFronts
@@ -24,6 +25,7 @@ pub mod PlacedHunks
 pub mod Readying
 pub mod Refused
 pub mod Streamed
+pub mod PassedRuns
 pub mod Succeeding
 pub mod TableRows
 pub mod TableSizes

@@ -36,7 +36,7 @@ shape_inside o (Some References) owed = refl
 shape_inside o (Some Common) owed = refl
 shape_inside o None owed = refl
 
-none_inside : (o : OpenHunk) (x : Inside) → hunk_between (positions.Body o (phase_of x)) ≡ None
+pub none_inside : (o : OpenHunk) (x : Inside) → hunk_between (positions.Body o (phase_of x)) ≡ None
 none_inside o (AtCount ForName) = refl
 none_inside o (AtCount c) = refl
 none_inside o (AtSize ForCode) = refl

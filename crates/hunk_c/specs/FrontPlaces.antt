@@ -1,5 +1,5 @@
 -- How a front is found: by the last of the places between blocks that stand before the fault.
-use Rattle.std.specs.Prelude.{◌≡◌, ℕ, ◌*◌, ◌<◌, ◌≤◌, List, ◌++◌, length, take, Option, Some, None}
+use Rattle.std.specs.Prelude.{◌≡◌, ℕ, ◌-◌, ◌*◌, ◌<◌, ◌≤◌, true, List, ◌++◌, length, take, Option, Some, None}
 use Rattle.hunk_words.specs.Longs.{longs, bytes_of}
 use Rattle.hunk_grammar.specs.declared.object_position.ObjectPosition.{ObjectPosition}
 use Rattle.hunk_grammar.specs.declared.object_position.ObjectPosition.TheVariants as places
@@ -9,6 +9,8 @@ use Rattle.hunk_grammar.specs.declared.phase.Phase.TheVariants as phases
 use Rattle.hunk_grammar.specs.declared.position.OpenHunk.{OpenHunk}
 use Rattle.hunk_grammar.specs.declared.position.Position.{Position}
 use Rattle.hunk_grammar.specs.declared.position.Position.TheVariants as positions
+use Rattle.hunk_grammar.specs.PhaseSteps as inside
+use Rattle.hunk_grammar.specs.Positions as load
 use Rattle.hunk_blocks.specs.Faults.{Expects, Grammar}
 use Rattle.hunk_blocks.specs.Faults as faults
 use Rattle.hunk_files.specs.Machines.{load_at, object_at}
@@ -56,7 +58,23 @@ find_hunk ws n = hunk_between (load_at (take n ws))
 abbrev pub find_place : List ℕ → ℕ → Option WordPlace
 find_place ws n = place_between (object_at (take n ws))
 
+-- ---- what is passed over
+
+-- The number of longwords that come at least and that end no block, but for the last of them.
+abbrev pub longest_run : Position → ℕ
+longest_run (positions.Body hunk phase) = inside.longest_run phase
+longest_run position = 0
+
+-- after all of them
+abbrev pub pass_longest_run : Position → Position
+pass_longest_run (positions.Body hunk phase) = load.onward hunk (load.after hunk phase) (inside.pass_longest_run phase)
+pass_longest_run position = position
+
 -- ---- what is found
+
+-- the front of a whole load file: all but the END of its last hunk
+abbrev pub before_last_end : ℕ → ℕ → Front
+before_last_end hunks longs = record { longs = longs - 1; hunks = hunks; open_hunk = Some true; left = 0 }
 
 -- the longwords that close the file
 abbrev pub closing : Front → List ℕ

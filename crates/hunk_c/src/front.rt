@@ -5,11 +5,12 @@ ghost use Rattle.hunk_files.specs.Fault.{load_files};
 ghost use Rattle.hunk_files.specs.ObjectFault.{objects};
 ghost use Rattle.hunk_c.specs.Fronts.{EndsBetweenBlocks, Fronts, HasNoFront, HasNoFrontWhere};
 ghost use Rattle.hunk_c.specs.Fronts.{InLoadText, InObjectText, empty_hunks, hunk_end, open_at};
-ghost use Rattle.hunk_c.specs.FrontPlaces.{FindsNone, IsFrontOf, IsLast, ReadsUpTo};
-ghost use Rattle.hunk_c.specs.FrontPlaces.{closed_bytes, closing, find_hunk, find_place};
-ghost use Rattle.hunk_c.specs.FrontPlaces.{hunk_between, place_between};
+ghost use Rattle.hunk_c.specs.FrontPlaces.{FindsNone, IsFrontOf, IsLast};
+ghost use Rattle.hunk_c.specs.FrontPlaces.{ReadsUpTo, before_last_end, closed_bytes, closing};
+ghost use Rattle.hunk_c.specs.FrontPlaces.{find_hunk, find_place, hunk_between, place_between};
 
 use crate::answer::{Answer, done, no_room};
+use crate::strides::load_stride;
 use hunk_files::{LoadView, ObjectView, Sniff, TakesBytes, sniff};
 use hunk_grammar::{ObjectPosition, OpenHunk, Phase, Position, WordPlace};
 use hunk_parts::Copier;
@@ -80,24 +81,38 @@ fn load_front(bytes: &[u8]) -> Option<Front>
     ensures found { IfSome result (IsFrontOf InLoadText bytes.now) }
     ensures none { IfNone result (HasNoFrontWhere InLoadText (longs bytes.now)) }
 {
-    let end = load_longs(bytes);
-    let LoadPlace { longs, hunk } = last_hunk(bytes, end)?;
+    match LoadView::read(bytes) {
+        Ok((file, size)) => Some(whole_front(file.hunks(), size / 4)),
+        Err(refusal) => load_front_before(bytes, (refusal.fault.place / 4) as usize),
+    }
+}
+
+/// The front of a whole load file of so many hunks and longwords: all but the END of its last hunk.
+fn whole_front(hunks: u32, longs: usize) -> Front
+    requires { 0 < longs }
+    ensures { result ≡ before_last_end hunks longs }
+{
+    Front {
+        longs: longs - 1,
+        hunks,
+        open_hunk: Some(true),
+        left: 0,
+    }
+}
+
+/// The front of a load file whose fault is this longword.
+fn load_front_before(bytes: &[u8], fault: usize) -> Option<Front>
+    requires { ReadsUpTo load_files (longs bytes.now) fault }
+    ensures found { IfSome result (IsFrontOf InLoadText bytes.now) }
+    ensures none { IfNone result (HasNoFrontWhere InLoadText (longs bytes.now)) }
+{
+    let LoadPlace { longs, hunk } = last_hunk(bytes, fault)?;
     Some(Front {
         longs,
         hunks: hunk.hunks,
         open_hunk: Some(hunk.has_content),
         left: hunk.ahead,
     })
-}
-
-/// How many longwords stand before the end of a load file, or its fault.
-fn load_longs(bytes: &[u8]) -> usize
-    ensures { ReadsUpTo load_files (longs bytes.now) result }
-{
-    match LoadView::read(bytes) {
-        Ok((_, size)) => size / 4,
-        Err(refusal) => (refusal.fault.place / 4) as usize,
-    }
 }
 
 /// The last place between two blocks of a load file, among the places up to this longword.
@@ -111,15 +126,14 @@ fn last_hunk(bytes: &[u8], end: usize) -> Option<LoadPlace>
     let mut last = None;
     let mut at = 0;
     'longwords: while at < end {
-        position = position.step(word_at(bytes, at));
+        let stride = load_stride(position, word_at(bytes, at));
         at += 1;
         // No block ends within a run.
-        let run = position.run();
-        if run > (end - at) as u64 {
+        if stride.run > (end - at) as u64 {
             return last;
         }
-        position = position.pass(run);
-        at += run as usize;
+        position = stride.after;
+        at += stride.run as usize;
         if let Some(hunk) = hunk_between(position) {
             last = Some(LoadPlace { longs: at, hunk });
         }
@@ -128,6 +142,7 @@ fn last_hunk(bytes: &[u8], end: usize) -> Option<LoadPlace>
 }
 
 /// The hunk that is open at this position, where it is between two blocks.
+#[inline(always)]
 fn hunk_between(position: Position) -> Option<OpenHunk>
     ensures { result ≡ hunk_between position }
 {

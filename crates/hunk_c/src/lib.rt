@@ -29,6 +29,7 @@ mod references;
 mod relocations;
 mod rows;
 mod stream;
+mod strides;
 mod strip;
 mod symbols;
 mod table;

@@ -1,20 +1,23 @@
-use Rattle.std.proofs.Common.{Option, arith, sym, subst}
-use Rattle.std.specs.Prelude.{IfNone}
-use Rattle.hunk_words.specs.Longs.{longs}
-use Rattle.hunk_words.proofs.LongLaws.{length-longs}
-use Rattle.hunk_c.specs.Fronts.{HasNoFrontWhere, InLoadText}
-use Rattle.hunk_c.specs.declared.front.Front.{Front}
-use Rattle.hunk_c.proofs.LoadFronts.{load_front, no_front}
+use Rattle.std.proofs.Common.{ℕ, ◌/◌, ◌∙◌, ap, arith, subst, sym}
+use Rattle.hunk_files.specs.Fault.{HasLoadText}
+use Rattle.hunk_c.specs.FrontPlaces.{IsFrontOf, before_last_end}
+use Rattle.hunk_c.specs.Fronts.{InLoadText}
+use Rattle.hunk_c.proofs.LastEnds.{whole_front, whole_longs}
+use Rattle.hunk_c.proofs.ReadLongwords.{fault_reads}
 use Rattle.hunk_c.proofs.front.load_front.Goals as goal
 
-pub last_hunk-requires : goal.last_hunk-requires
-last_hunk-requires c = omega (arith, c.load_longs-end.ensures.inside, length-longs c.args.bytes.now)
+pub whole_front-requires : goal.whole_front-requires
+whole_front-requires c =
+    let read = c.in-Ok.ensures in
+    whole_longs c.args.bytes.now (λ i. omega (arith, c.type_inv.bytes i)) c.in-Ok.size (record { value = c.in-Ok.file; is_load_file = read.valid; text_is = read.text; whole = read.inside })
 
-pub returns-in_err-longs-clause-none : goal.returns-in_err-longs-clause-none
-returns-in_err-longs-clause-none c =
-    let ws = longs c.args.bytes.now in
-    subst (λ (o : Option Front). IfNone o (HasNoFrontWhere InLoadText ws)) (sym c.from_residual.ensures) (no_front ws _ c.load_longs-end.ensures c.in_err-longs.ensures.none)
+pub returns-in-Ok : goal.returns-in-Ok
+returns-in-Ok c =
+    let bytes = c.args.bytes.now in
+    let read = c.in-Ok.ensures in
+    let h : HasLoadText bytes c.in-Ok.size = record { value = c.in-Ok.file; is_load_file = read.valid; text_is = read.text; whole = read.inside } in
+    let same = c.whole_front.ensures ∙ ap (λ (n : ℕ). before_last_end n (c.in-Ok.size / 4)) c.hunks.ensures.value in
+    record { found = subst (IsFrontOf InLoadText bytes) (sym same) (whole_front bytes (λ i. omega (arith, c.type_inv.bytes i)) c.in-Ok.size h); none = tt }
 
-pub returns-clause-found : goal.returns-clause-found
-returns-clause-found c =
-    load_front c.args.bytes.now (λ i. omega (arith, c.type_inv.bytes i)) _ c.load_longs-end.ensures c.in_ok-longs.field-0.longs c.in_ok-longs.field-0.hunk c.in_ok-longs.ensures.found
+pub load_front_before-requires : goal.load_front_before-requires
+load_front_before-requires c = fault_reads c.args.bytes.now _ _ c.in-Err.ensures.fault
