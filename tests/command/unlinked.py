@@ -16,7 +16,8 @@ CALLED = {
     **{it: [it, "sum"] for it in ("show", "size", "nm", "relocs", "dump", "json", "map")},
     **{it: [it, "sum"] for it in ("validate", "lint", "survey", "find")},
     **{it: [it, "sum", "symbol"] for it in ("diff", "same")},
-    "relocate": ["relocate", "--base", "1000", "sum"], "strip": ["strip", "sum", "unmade"], "convert": ["convert", "--to", "elf", "sum", "unmade"], "edit": ["edit", "sum", "unmade"],
+    "relocate": ["relocate", "--base", "1000", "sum"],
+    "strip": ["strip", "sum", "unmade"], "convert": ["convert", "--to", "elf", "sum", "unmade"], "edit": ["edit", "sum", "unmade"],
     "build": ["build", "parts.json", "unmade"],
 }
 
