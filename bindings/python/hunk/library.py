@@ -60,9 +60,9 @@ _library = opened(place())
 
 
 def call(name: str, *types: Any, answer: Any = _Answer) -> Any:
-    """The call of the library that has this name."""
+    """The call of the library that has this name, with these types. Another module may ask for the same one with others."""
     try:
-        call = getattr(_library, name)
+        call = _library[name]
     except AttributeError as error:
         raise ImportError(f"{_library._name} has no {name}: it is older than the package hunk") from error
     call.argtypes, call.restype = types, answer
