@@ -64,7 +64,7 @@ def call(name: str, *types: Any, answer: Any = _Answer) -> Any:
     try:
         call = _library[name]
     except AttributeError as error:
-        raise ImportError(f"{_library._name} has no {name}: it is older than the package hunk") from error
+        raise ImportError(f"{_library._name} has no {name}: it is older than the package hunk", name="libhunk") from error
     call.argtypes, call.restype = types, answer
     return call
 
