@@ -409,7 +409,8 @@ fn show_files(paths: &[String]) -> ExitCode {
                 show(&file, data.len());
                 all_stand = all_stand && stands(&file);
             }
-            Err(error) => println!("{error}"),
+            // What the error says after that is what hunkinfo says on standard error.
+            Err(error) => println!("refused at byte {}: {} ({})", error.place, error.reason, error.number),
         }
     }
     ExitCode::from(u8::from(!all_stand))
