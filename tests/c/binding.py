@@ -326,6 +326,10 @@ def wrong_calls(texts):
                 yield f"{error}: no sentence says what it means"
     if not is_out_of_memory(lambda: hunk.library.room(1 << 66)):
         yield "an array that no machine can address: no MemoryError is raised"
+    # The package imports a name when it is asked for: each that it lists has to be there, under that name.
+    lacking = [name for name in (*hunk.__all__, *hunk._PLACES) if name not in hunk.__all__ or not hasattr(hunk, name)]
+    if lacking or {*hunk._PLACES} != {*hunk.__all__}:
+        yield f"names that the package lists and does not have, or has and does not list: {lacking}"
     calls = (hunk.table, hunk.load, hunk.check, hunk.strip, hunk.read, hunk.spelling, hunk.plain)
     for call, data in itertools.product(calls, (5, list(one), "text")):
         if not type_error(call, data):
