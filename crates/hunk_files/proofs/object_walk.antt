@@ -6,4 +6,5 @@ pub mod ObjectProgress
 pub mod ObjectRefusals
 pub mod ObjectWalks
 pub mod OneObjectFault
+pub mod PassedUnits
 pub mod UnitFaults

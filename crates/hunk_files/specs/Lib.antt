@@ -20,6 +20,7 @@ pub mod LoadText
 pub mod Machines
 pub mod ObjectFault
 pub mod ObjectFile
+pub mod ObjectPassing
 pub mod ObjectViews
 pub mod OpenSegment
 pub mod Overlap

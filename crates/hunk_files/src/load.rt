@@ -7,7 +7,7 @@ mod hunk;
 mod hunk_views;
 mod image;
 mod overlap;
-mod passing;
+pub(crate) mod passing;
 mod ranges;
 mod strip;
 mod table;

@@ -6,6 +6,7 @@ mod findings;
 mod hunk_view;
 mod keeping;
 mod part;
+mod passing;
 mod ranges;
 mod strip;
 mod unit;

@@ -5,14 +5,14 @@ ghost use Rattle.hunk_words.specs.Longs.{bytes_of, longs};
 ghost use Rattle.hunk_blocks.specs.BodyViews.{viewed};
 ghost use Rattle.hunk_files.specs.Filling.{Fits, filled_by, memory_of};
 ghost use Rattle.hunk_files.specs.Hunks.{block_texts};
-ghost use Rattle.hunk_files.specs.Image.{add_at, declared_bytes, filled, group_relocations, image, images, relocated};
-ghost use Rattle.hunk_files.specs.LoadFile.{FitsGroup, FitsHunk, IsHunk, IsInside, declared_longs};
-ghost use Rattle.hunk_files.specs.LoadHunks.{hunk_seen};
+ghost use Rattle.hunk_files.specs.Image.{add_at, declared_bytes, filled, group_relocations, images, relocated};
+ghost use Rattle.hunk_files.specs.LoadFile.{FitsGroup, FitsHunk, IsInside};
+ghost use Rattle.hunk_files.specs.LoadHunks.{FillsFirst, FitsFirst};
 ghost use Rattle.hunk_files.specs.LoadText.{table};
 
 use crate::bases::Bases;
 use crate::blocks::BlockViews;
-use crate::load::hunk_views::LoadHunkView;
+use crate::load::hunk_views::LoadHunkViews;
 use crate::load::view::LoadView;
 use hunk_blocks::{BodyView, Group, GroupsIter, Payload};
 
@@ -42,19 +42,23 @@ impl LoadView<'_> {
     }
 }
 
-impl LoadHunkView<'_> {
-    /// Writes the memory of this hunk alone, as it lies at its base, wherever `memory` is. It takes
-    /// no memory.
+impl LoadHunkViews<'_> {
+    /// Writes the memory of the next hunk alone, as it lies at its base, wherever `memory` is, and
+    /// goes on to the hunk after it. It takes no memory.
     ///
-    /// `memory` has the declared bytes, `size.bytes()`, and `bases` a base for each hunk of the
-    /// file. All else is as `fill_images` does it.
-    pub fn fill<B: Bases>(mut self, memory: &mut [u8], bases: &mut B)
-        requires hunk { IsHunk (length (B.bases bases.old)) (hunk_seen self) }
-        requires room { length memory.old ≡ 4 * declared_longs (hunk_seen self) }
-        ensures memory { memory.new ≡ image (B.bases bases.old) (hunk_seen self.entry) }
+    /// A hunk is still to come. `memory` has its declared bytes, and `bases` a base for each hunk
+    /// of the file. All else is as `fill_images` does it.
+    pub fn fill_next<B: Bases>(&mut self, memory: &mut [u8], bases: &mut B)
+        requires { FitsFirst (length (B.bases bases.old)) (length memory.old) self.old.value }
+        ensures fills { FillsFirst (B.bases bases.old) self.old.value memory.new self.new.value }
         ensures stays { B.bases bases.new ≡ B.bases bases.old }
     {
-        fill_hunk(memory, &mut self.blocks, bases);
+        let Some(_size) = self.table.next() else {
+            return;
+        };
+        let mut blocks = BlockViews::at(self.bytes, self.at);
+        fill_hunk(memory, &mut blocks, bases);
+        self.at = blocks.place() as usize;
     }
 }
 

@@ -184,7 +184,7 @@ fn pass_end(bytes: &[u8], place: &mut BlockPlace) -> Option<()>
 /// The longword after the content whose size word stands at `at`, where it ends in the bytes and
 /// has at most `declared` longs.
 #[inline(always)]
-fn after_content(bytes: &[u8], at: usize, declared: u32) -> Option<usize>
+pub(crate) fn after_content(bytes: &[u8], at: usize, declared: u32) -> Option<usize>
     ensures { IfSome result (IsContent (longs bytes.now) declared at) }
 {
     let whole = bytes.len() / 4;
@@ -200,7 +200,7 @@ fn after_content(bytes: &[u8], at: usize, declared: u32) -> Option<usize>
 
 /// The longword after the payload whose count stands at `at`, where it ends in the bytes.
 #[inline(always)]
-fn after_counted(bytes: &[u8], at: usize) -> Option<usize>
+pub(crate) fn after_counted(bytes: &[u8], at: usize) -> Option<usize>
     ensures { IfSome result (IsCounted (longs bytes.now) at) }
 {
     let whole = bytes.len() / 4;
@@ -286,7 +286,7 @@ fn after_group(bytes: &[u8], at: usize, count: u32, hunks: u32, declared: u32) -
 /// The longword after the symbols that stand from `from` on and the 0 that ends them, where they
 /// end in the bytes.
 #[inline(never)]
-fn after_symbols(bytes: &[u8], from: usize) -> Option<usize>
+pub(crate) fn after_symbols(bytes: &[u8], from: usize) -> Option<usize>
     ensures { IfSome result (IsList (longs bytes.now) (AreSymbols (longs bytes.now) from)) }
 {
     let whole = bytes.len() / 4;

@@ -6,6 +6,7 @@ ghost use Rattle.hunk_files.specs.ObjectFault.{HasObjectFault};
 ghost use Rattle.hunk_grammar.specs.declared.file_kind.Sniff.TheVariants.{Object};
 
 use crate::object::part::{counted, refusal_at};
+use crate::object::passing::pass_over;
 use crate::refusal::Refusal;
 use hunk_grammar::{ObjectPosition, WordPlace};
 use hunk_words::{Reason, word_at};
@@ -13,7 +14,7 @@ use hunk_words::{Reason, word_at};
 /// Whether the bytes are an object file, from the first to the last, or else their first fault.
 ///
 /// It takes no memory. Payloads, names and lists of offsets are passed over at once, as no test
-/// looks at their longwords.
+/// looks at their longwords, and so are blocks and headers of units that are whole.
 ///
 /// # Errors
 ///
@@ -38,7 +39,7 @@ pub(crate) fn walk_object(bytes: &[u8]) -> Result<(), Refusal>
             Err(reason) => return Err(refusal_at(units, whole, 4 * at as u64, reason)),
         };
         at += 1 + stride.run as usize;
-        position = stride.after;
+        (at, position, units, whole) = pass_over(bytes, at, stride.after, units, whole);
     }
     let end = 4 * count as u64;
     if at > count {

@@ -9,6 +9,7 @@ use Rattle.hunk_grammar.specs.ObjectRoles.{refuse_object}
 use Rattle.hunk_grammar.specs.declared.object_position.ObjectPosition.{ObjectPosition}
 use Rattle.hunk_grammar.specs.ObjectPositions as steps
 use Rattle.hunk_files.proofs.object_walk.ObjectWalks.{ObjectWalks, start, refused, passes, ends, ends_early, part_here, part_cut}
+use Rattle.hunk_files.proofs.object_walk.PassedUnits.{few_over, goes_on, walk_over}
 use Rattle.hunk_files.proofs.parts.FileParts.{refuses}
 use Rattle.hunk_files.proofs.object.walk.walk_object.Goals as goal
 use Rattle.hunk_files.proofs.object.walk.walk_object.Goals.{then-bytes-ne0-via-then-bytes-ne0, then-bytes-ne0-via-else-bytes-ne0+then-not-may_end}
@@ -34,18 +35,25 @@ returns-in-Err c =
 pub walking-preserved : goal.walking-preserved
 walking-preserved c =
     let bytes = c.args.bytes.now in
+    let fit : IsBytes bytes = λ i. omega (arith, c.type_inv.bytes i) in
     let w = c.walking in
     let ok = c.in-Ok in
     let few = c.counted.ensures.few in
-    let on = passes bytes (λ i. omega (arith, c.type_inv.bytes i)) w.at w.position w.units w.whole w.invariant.2 (omega (arith, c.walking-test.true, length-longs bytes)) c.word_at-word.result c.word_at-word.ensures
+    let over = c.pass_over in
+    let on = passes bytes fit w.at w.position w.units w.whole w.invariant.2 (omega (arith, c.walking-test.true, length-longs bytes)) c.word_at-word.result c.word_at-word.ensures
     ok.ensures.passes in
-    let P : ℕ → ObjectPosition → ℕ × ℕ → Type 0 = λ n p m. ObjectWalks bytes (w.at + (1 + n)) p m.0 m.1 in (
-      omega (arith, few.0, w.invariant.0),
-      omega (arith, few.1, w.invariant.1),
-      subst (λ (n : ℕ). P n ok.stride.after c.counted.result) (sym ok.ensures.run)
-          (subst (λ (p : ObjectPosition). P (steps.run (steps.step w.position c.word_at-word.result)) p c.counted.result) (sym ok.ensures.after)
-          (subst (P (steps.run (steps.step w.position c.word_at-word.result)) (steps.pass_run (steps.step w.position c.word_at-word.result))) (sym c.counted.ensures.value) on)),
+    let P : ℕ → ObjectPosition → ℕ × ℕ → Type 0 = λ n p m. ObjectWalks bytes (w.at + (1 + n)) p m.0 m.1 in
+    let here = subst (λ (n : ℕ). P n ok.stride.after c.counted.result) (sym ok.ensures.run)
+    (subst (λ (p : ObjectPosition). P (steps.run (steps.step w.position c.word_at-word.result)) p c.counted.result) (sym ok.ensures.after)
+    (subst (P (steps.run (steps.step w.position c.word_at-word.result)) (steps.pass_run (steps.step w.position c.word_at-word.result))) (sym c.counted.ensures.value) on)) in
+    let counts = few_over (longs bytes) _ _ _ _ _ _ over.ensures (omega (arith, few.0, w.invariant.0), omega (arith, few.1, w.invariant.1)) in (
+      counts.0,
+      counts.1,
+      walk_over bytes fit _ _ _ _ _ _ here over.ensures,
     )
+
+pub walking-smaller : goal.walking-smaller
+walking-smaller c = omega (arith, c.walking-test.true, goes_on (longs c.args.bytes.now) _ _ _ _ _ _ c.pass_over.ensures)
 
 clash : (a b : Bool) → a ≡ b → a ≡ false → b ≡ true → ⊥
 clash a b e f t = cc (e, f, t)
