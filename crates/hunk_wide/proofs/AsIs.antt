@@ -1,7 +1,7 @@
 -- Parts of a file that are given out as they are, passed over at once.
-use Rattle.std.proofs.Common.{◌≡◌, ℕ, zero, suc, ◌+◌, ◌-◌, ◌*◌, ◌<◌, ◌≤◌, Bool, true, false, cond, List, [], ◌∷◌, ◌++◌, Option, None, Some, IfSome, length, take, drop, length-append, refl, sym, ap, subst, ◌∙◌, append_assoc, arith}
+use Rattle.std.proofs.Common.{◌≡◌, ℕ, zero, suc, ◌+◌, ◌-◌, ◌*◌, ◌<◌, ◌≤◌, Bool, true, false, cond, ltb, List, [], ◌∷◌, ◌++◌, Option, None, Some, IfSome, length, take, drop, length-append, refl, sym, ap, subst, ◌∙◌, append_assoc, zero-add, arith}
 use Rattle.std.specs.Int.{from_be_bytes, w32}
-use Rattle.std.proofs.lemmas.List.{length-drop, length-take, take-take, take_rest}
+use Rattle.std.proofs.lemmas.{Bool.{le-ltb, ltb-false, ltb-true}, List.{length-drop, length-take, take_rest}}
 use Rattle.hunk_words.specs.Bits.{has_both_bits, kind, name_longs, size_longs}
 use Rattle.hunk_grammar.specs.declared.phase.Phase.{Phase}
 use Rattle.hunk_grammar.specs.declared.phase.Phase.TheVariants as phases
@@ -20,7 +20,8 @@ use Rattle.hunk_wide.specs.FileEnds.{ends}
 use Rattle.hunk_wide.specs.Longwords.{after_straight, behind_block, behind_load, behind_long, given, given_block, go_on, out_long, straight}
 use Rattle.hunk_wide.specs.Parts.{AsIs, IsBlock, IsBody, IsNext, IsRow, front_word, load_at, past, word_at}
 use Rattle.hunk_wide.specs.InFile.{LeadsTo, spot_after}
-use Rattle.hunk_wide.specs.Plain.{GivesFor, plain_from}
+use Rattle.hunk_wide.specs.Places.{count_long, here_or, place_from}
+use Rattle.hunk_wide.specs.Plain.{plain_from}
 use Rattle.hunk_wide.specs.Spellings.{counted, ends_from, has_end, is_short, one_if, short_blocks_from}
 use Rattle.hunk_wide.proofs.{Cutting.take_add, Leads.two_lead, Stretches.two_give, Written.part_length}
 
@@ -30,8 +31,38 @@ load_on p = go_on (files.Load p)
 
 -- ---- one after the other
 
+here_none : (n : ℕ) (later : ℕ → ℕ) → later n ≡ here_or 0 0 n (later (n - 0))
+here_none n later =
+    let same : n ≡ n - 0 = omega arith in
+    ap later same ∙ sym (ap (λ (b : Bool). cond b (n - (0 - 0)) (0 + later (n - 0))) (le-ltb n 0 (omega arith)) ∙ zero-add (later (n - 0)))
+
+here_two : (a b n : ℕ) (later : ℕ → ℕ) → here_or a a n (here_or b b (n - a) (later (n - a - b))) ≡ here_or (a + b) (a + b) n (later (n - (a + b)))
+here_two a b n later = go (ltb n a) (ltb (n - a) b) (ltb n (a + b)) refl refl refl
+  where
+    less : n - a - b ≡ n - (a + b)
+    less = omega arith
+
+    go : (x y z : Bool) → ltb n a ≡ x → ltb (n - a) b ≡ y → ltb n (a + b) ≡ z
+        → cond x (n - (a - a)) (a + cond y (n - a - (b - b)) (b + later (n - a - b))) ≡ cond z (n - (a + b - (a + b))) (a + b + later (n - (a + b)))
+    go true y true d e f = omega arith
+    go true y false d e f = absurd (omega (arith, ltb-true n a d, ltb-false n (a + b) f))
+    go false true true d e f = omega (arith, ltb-false n a d)
+    go false true false d e f = absurd (omega (arith, ltb-false n a d, ltb-true (n - a) b e, ltb-false n (a + b) f))
+    go false false true d e f = absurd (omega (arith, ltb-false n a d, ltb-false (n - a) b e, ltb-true n (a + b) f))
+    go false false false d e f = omega (arith, ap later less)
+
 pub none_as_is : (s : Spot) → AsIs s [] s
-none_as_is s = record { gives = λ more. refl; leads = λ more. refl; short_blocks = λ more. refl; ends = λ more. refl }
+none_as_is s = record { gives = λ more. refl; leads = λ more. refl; short_blocks = λ more. refl; ends = λ more. refl; places = λ more n. here_none n (place_from s more) }
+
+two_places : (s t u : Spot) (xs ys : List ℕ) → AsIs s xs t → AsIs t ys u → (more : List ℕ) (n : ℕ)
+    → place_from s ((xs ++ ys) ++ more) n ≡ here_or (length (xs ++ ys)) (length (xs ++ ys)) n (place_from u more (n - length (xs ++ ys)))
+two_places s t u xs ys first second more n =
+    let a : ℕ = length xs in
+    ap (λ (x : List ℕ). place_from s x n) (append_assoc xs ys more)
+    ∙ first.places (ys ++ more) n
+    ∙ ap (here_or a a n) (second.places more (n - a))
+    ∙ here_two a (length ys) n (place_from u more)
+    ∙ ap (λ (k : ℕ). here_or k k n (place_from u more (n - k))) (sym (length-append xs ys))
 
 pub two_as_is : (s t u : Spot) (xs ys : List ℕ) → AsIs s xs t → AsIs t ys u → AsIs s (xs ++ ys) u
 two_as_is s t u xs ys first second = record {
@@ -39,6 +70,7 @@ two_as_is s t u xs ys first second = record {
   leads = two_lead s t u xs ys first.leads second.leads;
   short_blocks = λ more. ap (short_blocks_from s) (append_assoc xs ys more) ∙ first.short_blocks (ys ++ more) ∙ second.short_blocks more;
   ends = λ more. ap (ends_from s) (append_assoc xs ys more) ∙ first.ends (ys ++ more) ∙ second.ends more;
+  places = two_places s t u xs ys first second;
 }
 
 -- of an input the first bytes, and then bytes after them
@@ -49,25 +81,6 @@ more_as_is s t u bytes at n first second = subst (λ (x : List ℕ). AsIs s x u)
 pub part_as_is : (s t u : Spot) (bytes : List ℕ) (at n : ℕ) → AsIs s (take at bytes) t → AsIs t (take n (take (length bytes - at) (drop at bytes))) u → AsIs s (take (at + n) bytes) u
 part_as_is s t u bytes at n first second = more_as_is s t u bytes at n first (subst (λ (x : List ℕ). AsIs t (take n x) u) (take_rest bytes at) second)
 
--- at the front of a piece, where they are copied to the front of a buffer
-pub part_there : (s : Spot) (p : FilePosition) (n room taken given : ℕ) (next : Spot) (piece buf : List ℕ) → n ≤ length (take room piece) → AsIs s (take n (take room piece)) (Long p)
-    → taken ≡ n → given ≡ n → take n buf ≡ take n piece → next ≡ Long p → GivesFor s (take taken piece) (take given buf) next
-part_there s p n room taken given next piece buf fits part t g copied e more =
-    let front : take n (take room piece) ≡ take n piece = take-take n room piece (omega (arith, fits, length-take room piece)) in
-    (λ j. plain_from s (take (t j) piece ++ more))
-    ∙ ap (λ (x : List ℕ). plain_from s (x ++ more)) (sym front)
-    ∙ part.gives more
-    ∙ ap (λ (x : List ℕ). x ++ plain_from (Long p) more) (front ∙ sym copied)
-    ∙ sym (λ j. take (g j) buf ++ plain_from (e j) more)
-
-pub part_leads : (s : Spot) (p : FilePosition) (n room taken : ℕ) (next : Spot) (piece : List ℕ) → n ≤ length (take room piece) → AsIs s (take n (take room piece)) (Long p)
-    → taken ≡ n → next ≡ Long p → LeadsTo s (take taken piece) next
-part_leads s p n room taken next piece fits part t e more =
-    (λ j. spot_after s (take (t j) piece ++ more))
-    ∙ ap (λ (x : List ℕ). spot_after s (x ++ more)) (sym (take-take n room piece (omega (arith, fits, length-take room piece))))
-    ∙ part.leads more
-    ∙ sym (λ j. spot_after (e j) more)
-
 -- ---- units
 
 same_counts : (g : Given) (m : ℕ) → g ≡ Same → (one_if (is_short g) + m ≡ m) × (one_if (has_end g) + m ≡ m)
@@ -75,7 +88,7 @@ same_counts g m e = subst (λ (x : Given). (one_if (is_short x) + m ≡ m) × (o
 
 -- a longword that the plain spelling has as it is
 pub long_as_is : (p : FilePosition) (bytes : List ℕ) → 4 ≤ length bytes → given p (front_word bytes) ≡ Same → AsIs (Long p) (take 4 bytes) (behind_long p (front_word bytes))
-unfolding plain_from counted spot_after
+unfolding plain_from counted spot_after place_from
 long_as_is p (a ∷ b ∷ c ∷ d ∷ rest) whole same =
     let w : ℕ = from_be_bytes w32 (a ∷ b ∷ c ∷ d ∷ []) in
     record {
@@ -83,6 +96,7 @@ long_as_is p (a ∷ b ∷ c ∷ d ∷ rest) whole same =
       leads = λ more. refl;
       short_blocks = λ more. (same_counts (given p w) (short_blocks_from (behind_long p w) more) same).0;
       ends = λ more. (same_counts (given p w) (ends_from (behind_long p w) more) same).1;
+      places = λ more n. ap (λ (g : Given). here_or 4 (count_long g) n (place_from (behind_long p w) more (n - count_long g))) same;
     }
 long_as_is p _ whole same = absurd (omega arith)
 
@@ -107,12 +121,26 @@ straight_counted f e zero next (b ∷ []) more len = refl
 straight_counted f e zero next (b ∷ c ∷ bytes) more len = absurd (omega (arith, len))
 straight_counted f e (suc owed) next (b ∷ bytes) more len = straight_counted f e owed next bytes more (omega (arith, len))
 
+straight_places : (owed : ℕ) (next : FilePosition) (bytes more : List ℕ) (n : ℕ) → length bytes ≡ suc owed
+    → place_from (Straight owed next) (bytes ++ more) n ≡ here_or (length bytes) (length bytes) n (place_from (Long next) more (n - length bytes))
+unfolding place_from
+straight_places owed next [] more n len = absurd (omega (arith, len))
+straight_places zero next (b ∷ []) more n len = refl
+straight_places zero next (b ∷ c ∷ bytes) more n len = absurd (omega (arith, len))
+straight_places (suc owed) next (b ∷ bytes) more n len =
+    let k : ℕ = length bytes in
+    let one : 1 + k ≡ suc k = omega arith in
+    ap (here_or 1 1 n) (straight_places owed next bytes more (n - 1) (omega (arith, len)))
+    ∙ here_two 1 k n (place_from (Long next) more)
+    ∙ ap (λ (m : ℕ). here_or m m n (place_from (Long next) more (n - m))) one
+
 pub straight_as_is : (owed : ℕ) (next : FilePosition) (bytes : List ℕ) → length bytes ≡ suc owed → AsIs (Straight owed next) bytes (Long next)
 straight_as_is owed next bytes len = record {
   gives = λ more. straight_gives owed next bytes more len;
   leads = straight_leads owed next bytes len;
   short_blocks = λ more. straight_counted (λ g. one_if (is_short g)) (λ p. 0) owed next bytes more len;
   ends = λ more. straight_counted (λ g. one_if (has_end g)) (λ p. one_if (ends p)) owed next bytes more len;
+  places = λ more n. straight_places owed next bytes more n len;
 }
 
 -- ---- runs of longwords that are owed
@@ -255,6 +283,15 @@ first_counted f e o (a ∷ b ∷ c ∷ d ∷ rest) word =
     ap (λ (s : Spot). f (given_block o w) + counted f e s rest) (block_same (given_block o w) o w)
 first_counted f e o _ word = absurd (omega arith)
 
+first_places : (o : OpenHunk) (bytes : List ℕ) (n : ℕ) → 4 ≤ length bytes
+    → place_from (load_at (positions.Body o phases.FirstBlock)) bytes n ≡ place_from (load_at (positions.Body o phases.BlockWord)) bytes n
+unfolding place_from
+first_places o (a ∷ b ∷ c ∷ d ∷ rest) n word =
+    let w : ℕ = from_be_bytes w32 (a ∷ b ∷ c ∷ d ∷ []) in
+    let count : ℕ = count_long (given_block o w) in
+    ap (λ (s : Spot). here_or 4 count n (place_from s rest (n - count))) (block_same (given_block o w) o w)
+first_places o _ n word = absurd (omega arith)
+
 -- A hunk's first block leads to what a further one leads to.
 first_too : (o : OpenHunk) (is_first : Bool) (bytes : List ℕ) (t : Spot) → 4 ≤ length bytes → AsIs (load_at (word_at o false)) bytes t → AsIs (load_at (word_at o is_first)) bytes t
 first_too o false bytes t word part = part
@@ -263,6 +300,7 @@ first_too o true bytes t word part = record {
   leads = λ more. first_leads o (bytes ++ more) (whole more) ∙ part.leads more;
   short_blocks = λ more. first_counted (λ g. one_if (is_short g)) (λ p. 0) o (bytes ++ more) (whole more) ∙ part.short_blocks more;
   ends = λ more. first_counted (λ g. one_if (has_end g)) (λ p. one_if (ends p)) o (bytes ++ more) (whole more) ∙ part.ends more;
+  places = λ more n. first_places o (bytes ++ more) n (whole more) ∙ part.places more n;
 }
   where
     whole : (more : List ℕ) → 4 ≤ length (bytes ++ more)

@@ -1,7 +1,7 @@
 -- From which byte of a wide spelling a byte of the plain one comes.
-use Rattle.std.proofs.Common.{◌≡◌, ℕ, zero, suc, ◌+◌, ◌-◌, ◌<◌, ◌≤◌, Bool, true, false, cond, ltb, List, [], ◌∷◌, ◌++◌, ◌⊎◌, inl, inr, length, take, drop, min, get_or, length-append, refl, sym, ap, subst, ◌∙◌, append_assoc, arith}
+use Rattle.std.proofs.Common.{◌≡◌, ℕ, zero, suc, ◌+◌, ◌-◌, ◌*◌, ◌/◌, ◌<◌, ◌≤◌, Bool, true, false, cond, ltb, List, [], ◌∷◌, ◌++◌, ◌⊎◌, inl, inr, length, take, drop, min, max, get_or, length-append, refl, sym, ap, subst, ◌∙◌, append_assoc, zero-add, arith}
 use Rattle.std.specs.Int.{from_be_bytes, w32}
-use Rattle.std.proofs.lemmas.{Bool.{eq-eqb, le-ltb, lt-ltb, ltb-false, ltb-true, ne_eqb}, List.length-take}
+use Rattle.std.proofs.lemmas.{Bool.{eq-eqb, le-ltb, lt-ltb, ltb-false, ltb-true, ne_eqb}, List.{length-take, take-append-drop}}
 use Rattle.hunk_wide.specs.declared.position.FilePosition.{FilePosition}
 use Rattle.hunk_wide.specs.declared.spot.ShortPart.{ShortPart}
 use Rattle.hunk_wide.specs.declared.spot.Spot.{Spot}
@@ -9,7 +9,7 @@ use Rattle.hunk_wide.specs.declared.spot.Spot.TheVariants.{Passing, Straight, Lo
 use Rattle.hunk_wide.specs.declared.spot.Given.{Given}
 use Rattle.hunk_wide.specs.declared.spot.Given.TheVariants.{Same, BehindEnd, AsLong}
 use Rattle.hunk_wide.specs.Places.{GoesBy, IsOfUnit, count_long, here_or, place_from}
-use Rattle.hunk_wide.specs.Halves.{behind_filler, behind_half, half_of, out_filler}
+use Rattle.hunk_wide.specs.Halves.{HalvesLead, behind_filler, behind_half, half_of, out_filler}
 use Rattle.hunk_wide.specs.Longwords.{behind_long, given, out_long}
 use Rattle.hunk_wide.specs.Plain.{plain_from}
 
@@ -26,11 +26,59 @@ unfolding place_from
 long_in_front p (a ∷ b ∷ c ∷ d ∷ rest) n whole = record { some = omega arith; whole = whole; goes = refl }
 long_in_front p _ n whole = absurd (omega arith)
 
-pub half_in_front : (after : FilePosition) (part : ShortPart) (odd : Bool) (bytes : List ℕ) (n : ℕ) → 2 ≤ length bytes
-    → GoesBy (Half after part odd) bytes n 2 4 (behind_half after part odd (front_half bytes))
+-- ---- words of a short block
+
+here_after : (size count n later : ℕ) → count ≤ n → here_or size count n later ≡ size + later
+here_after size count n later past = ap (λ (b : Bool). cond b (n - (count - size)) (size + later)) (le-ltb n count past)
+
+halves_past : (front back : List ℕ) (s t : Spot) (n : ℕ) → HalvesLead front s t → 2 * length front ≤ n → place_from s (front ++ back) n ≡ length front + place_from t back (n - 2 * length front)
 unfolding place_from
-half_in_front after part odd (a ∷ b ∷ rest) n whole = record { some = omega arith; whole = whole; goes = refl }
-half_in_front after part odd _ n whole = absurd (omega arith)
+halves_past [] back s t n h past = let none : n ≡ n - 2 * 0 = omega arith in ap (λ (x : Spot). place_from x back n) h ∙ ap (place_from t back) none ∙ sym (zero-add _)
+halves_past (a ∷ b ∷ rest) back (Half after part odd) t n h past =
+    let next : Spot = behind_half after part odd (half_of a b) in
+    let more = halves_past rest back next t (n - 4) h (omega (arith, past)) in
+    let less : n - 4 - 2 * length rest ≡ n - 2 * (length rest + 2) = omega arith in
+    let long : length rest + 2 ≡ length (a ∷ b ∷ rest) = omega arith in
+    let here = here_after 2 4 n (place_from next (rest ++ back) (n - 4)) (omega (arith, past)) in
+    omega (arith, here, more, ap (place_from t back) (less ∙ ap (λ (k : ℕ). n - 2 * k) long))
+halves_past _ back _ t n h past = absurd h
+
+half_in_front : (s t : Spot) (bytes : List ℕ) (n : ℕ) → 2 ≤ length bytes → HalvesLead (take 2 bytes) s t → GoesBy s bytes n 2 4 t
+unfolding place_from
+half_in_front (Half after part odd) t (a ∷ b ∷ rest) n whole h = record { some = omega arith; whole = whole; goes = ap (λ (next : Spot). here_or 2 4 n (place_from next rest (n - 4))) h }
+half_in_front _ t (a ∷ b ∷ rest) n whole h = absurd h
+half_in_front _ t _ n whole h = absurd (omega arith)
+
+-- all given out before byte n, or one
+pub halves_in_front : (s t : Spot) (bytes : List ℕ) (n count words : ℕ) → 0 < count → count ≤ words → words ≤ max (n / 4) 1 → 2 * count ≤ length bytes → HalvesLead (take (2 * count) bytes) s t
+    → GoesBy s bytes n (2 * count) (4 * count) t
+halves_in_front s t bytes n count words some few most whole h = go (ltb 1 count) refl
+  where
+    front : List ℕ
+    front = take (2 * count) bytes
+
+    go : (b : Bool) → ltb 1 count ≡ b → GoesBy s bytes n (2 * count) (4 * count) t
+    go false e =
+        let one : 1 ≡ count = omega (arith, ltb-false 1 count e, some) in
+        subst (λ (k : ℕ). GoesBy s bytes n (2 * k) (4 * k) t) one
+        (half_in_front s t bytes n (omega (arith, whole, one)) (subst (λ (k : ℕ). HalvesLead (take (2 * k) bytes) s t) (sym one) h))
+    go true e =
+        let past : 4 * count ≤ n = omega (arith, ltb-true 1 count e, few, most) in
+        let len : length front ≡ 2 * count = omega (arith, length-take (2 * count) bytes, whole) in
+        let twice : n - 2 * length front ≡ n - 4 * count = omega (arith, len) in
+        let all : place_from s (front ++ drop (2 * count) bytes) n ≡ length front + place_from t (drop (2 * count) bytes) (n - 2 * length front) =
+        halves_past front (drop (2 * count) bytes) s t n h (omega (arith, len, past)) in
+        record {
+          some = omega (arith, some);
+          whole = whole;
+          goes =
+              ap (λ (x : List ℕ). place_from s x n) (sym (take-append-drop (2 * count) bytes)) ∙ all
+              ∙ ap (λ (k : ℕ). k + place_from t (drop (2 * count) bytes) (n - 2 * length front)) len
+              ∙ ap (λ (k : ℕ). 2 * count + place_from t (drop (2 * count) bytes) k) twice
+              ∙ sym (here_after (2 * count) (4 * count) n _ past);
+        }
+
+-- ---- the word that fills up
 
 filler_in_front : (after : FilePosition) (bytes : List ℕ) (n : ℕ) → 2 ≤ length bytes
     → GoesBy (Filler after) bytes n 2 (length (out_filler (get_or bytes 0 0) (get_or bytes 1 0))) (behind_filler after (get_or bytes 0 0) (get_or bytes 1 0))

@@ -1,7 +1,7 @@
 -- Parts of a file that are given out as they are, passed over at once.
-use Rattle.std.specs.Prelude.{◌≡◌, ℕ, suc, ◌-◌, ◌<◌, ◌≤◌, Bool, true, false, ◌||◌, List, [], ◌∷◌, ◌++◌, length, take, drop, slice_index_or}
-use Rattle.std.specs.Int.{from_be_bytes, w32}
-use Rattle.hunk_words.specs.Bits.{has_both_bits, header_word}
+use Rattle.std.specs.Prelude.{◌≡◌, ℕ, suc, ◌+◌, ◌-◌, ◌*◌, ◌<◌, ◌≤◌, Bool, true, false, ◌||◌, List, [], ◌∷◌, ◌++◌, length, take, drop, slice_index_or, if◌then◌else◌}
+use Rattle.std.specs.Int.{from_be_bytes, to_be_bytes, w32}
+use Rattle.hunk_words.specs.Bits.{end_word, has_both_bits, header_word}
 use Rattle.hunk_grammar.specs.declared.phase.Phase.{Phase}
 use Rattle.hunk_grammar.specs.declared.phase.Phase.TheVariants as phases
 use Rattle.hunk_grammar.specs.declared.position.OpenHunk.{OpenHunk}
@@ -12,16 +12,33 @@ use Rattle.hunk_grammar.specs.PhaseSteps.{longest_run}
 use Rattle.hunk_wide.specs.declared.position.FilePosition.TheVariants as files
 use Rattle.hunk_wide.specs.declared.spot.Spot.{Spot}
 use Rattle.hunk_wide.specs.declared.spot.Spot.TheVariants.{Long}
+use Rattle.hunk_wide.specs.declared.spot.Given.{Given}
 use Rattle.hunk_wide.specs.InFile.{LeadsTo}
+use Rattle.hunk_wide.specs.Places.{here_or, place_from}
 use Rattle.hunk_wide.specs.Plain.{GivesFor}
-use Rattle.hunk_wide.specs.Spellings.{ends_from, short_blocks_from}
+use Rattle.hunk_wide.specs.Spellings.{ends_from, has_end, is_short, one_if, short_blocks_from}
 
--- These bytes are given out as they are, whatever follows them, and what follows is for this. None of them is counted.
+-- These bytes are given out as they are, whatever follows them, and what follows is for this. None of them is counted, and each
+-- has its own place.
 pub record AsIs (s : Spot) (bytes : List ℕ) (next : Spot) : Type 0 where
   pub gives : GivesFor s bytes bytes next
   pub leads : LeadsTo s bytes next
   pub short_blocks : (more : List ℕ) → short_blocks_from s (bytes ++ more) ≡ short_blocks_from next more
   pub ends : (more : List ℕ) → ends_from s (bytes ++ more) ≡ ends_from next more
+  pub places : (more : List ℕ) (n : ℕ) → place_from s (bytes ++ more) n ≡ here_or (length bytes) (length bytes) n (place_from next more (n - length bytes))
+
+-- what is put in
+abbrev pub put_before : Given → List ℕ
+put_before g = if has_end g then to_be_bytes w32 end_word else []
+
+-- The same, where this may be put in before them: END, or nothing.
+pub record AsIsBehind (s : Spot) (bytes : List ℕ) (put_in : Given) (next : Spot) : Type 0 where
+  pub gives : GivesFor s bytes (put_before put_in ++ bytes) next
+  pub leads : LeadsTo s bytes next
+  pub short_blocks : (more : List ℕ) → short_blocks_from s (bytes ++ more) ≡ one_if (is_short put_in) + short_blocks_from next more
+  pub ends : (more : List ℕ) → ends_from s (bytes ++ more) ≡ one_if (has_end put_in) + ends_from next more
+  pub places : (more : List ℕ) (n : ℕ) → place_from s (bytes ++ more) n
+      ≡ here_or (length bytes) (4 * one_if (has_end put_in) + length bytes) n (place_from next more (n - (4 * one_if (has_end put_in) + length bytes)))
 
 -- a longword of a load file at this position
 abbrev pub load_at : Position → Spot

@@ -5,6 +5,7 @@
 //! hunk may be left out. Nothing here takes memory.
 #![tactic(auto)]
 
+mod behind;
 mod expander;
 mod halves;
 mod laws;

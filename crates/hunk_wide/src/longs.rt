@@ -3,7 +3,7 @@ ghost use Rattle.std.specs.Prelude.{◌≡◌, ◌≤◌, IfNone, IfSome, length
 ghost use Rattle.hunk_wide.specs.Parts.{AsIs, IsPart, object_at};
 ghost use Rattle.hunk_wide.specs.declared.spot.Spot.TheVariants.{Long};
 
-use crate::parts::{Part, front_word};
+use crate::parts::{Run, front_word};
 use crate::position::{FilePosition, after_object_run, object_run};
 use crate::spot::Given;
 use hunk_grammar::ObjectPosition;
@@ -11,7 +11,7 @@ use hunk_grammar::ObjectPosition;
 /// The longwords that the bytes begin with, where one stands at this position, up to the word of a
 /// short block, or to one whose run does not end in the bytes.
 #[inline(never)]
-pub(crate) fn longs_at(position: ObjectPosition, bytes: &[u8]) -> Part
+pub(crate) fn longs_at(position: ObjectPosition, bytes: &[u8]) -> Run
     ensures inside { result.size ≤ length bytes.now }
     ensures as_is { AsIs (object_at position) (take result.size bytes.now) (Long result.next) }
 {
@@ -20,7 +20,7 @@ pub(crate) fn longs_at(position: ObjectPosition, bytes: &[u8]) -> Part
     'longs: while let Some(size) = pass_long(&mut position, &bytes[at..]) {
         at += size;
     }
-    Part {
+    Run {
         size: at,
         next: FilePosition::Object(position),
     }

@@ -20,7 +20,7 @@ const HEADER_SIZE: usize = 4 * TABLE_AT;
 
 /// The first bytes of a wide spelling, given out as they are.
 #[derive(Clone, Copy)]
-pub(crate) struct Part {
+pub(crate) struct Run {
     /// The number of the bytes.
     pub(crate) size: usize,
     /// What the longword after them is for.
@@ -39,19 +39,19 @@ struct Block {
 /// The header with its table, rows of that, or blocks, that the bytes begin with, where a longword
 /// stands at this position; in an object file longwords. It may be none, also where some are whole.
 #[inline(always)]
-pub(crate) fn part_at(position: FilePosition, bytes: &[u8]) -> Part
+pub(crate) fn run_at(position: FilePosition, bytes: &[u8]) -> Run
     ensures inside { result.size ≤ length bytes.now }
     ensures as_is { AsIs (Long position) (take result.size bytes.now) (Long result.next) }
 {
     match position {
-        FilePosition::Load(position) => load_part_at(position, bytes),
+        FilePosition::Load(position) => load_run_at(position, bytes),
         FilePosition::Object(position) => longs_at(position, bytes),
     }
 }
 
 /// The same in a load file.
 #[inline(always)]
-fn load_part_at(position: Position, bytes: &[u8]) -> Part
+fn load_run_at(position: Position, bytes: &[u8]) -> Run
     ensures inside { result.size ≤ length bytes.now }
     ensures as_is { AsIs (load_at position) (take result.size bytes.now) (Long result.next) }
 {
@@ -69,10 +69,10 @@ fn load_part_at(position: Position, bytes: &[u8]) -> Part
 
 /// No bytes.
 #[inline(always)]
-fn nothing(position: FilePosition) -> Part
+fn nothing(position: FilePosition) -> Run
     ensures { result ≡ record { size = 0; next = position } }
 {
-    Part {
+    Run {
         size: 0,
         next: position,
     }
@@ -80,7 +80,7 @@ fn nothing(position: FilePosition) -> Part
 
 /// The header of a load file, its table, and blocks after that.
 #[inline(never)]
-fn header_at(bytes: &[u8]) -> Part
+fn header_at(bytes: &[u8]) -> Run
     ensures inside { result.size ≤ length bytes.now }
     ensures as_is { AsIs (load_at positions.FirstLong) (take result.size bytes.now)
         (Long result.next) }
@@ -89,7 +89,7 @@ fn header_at(bytes: &[u8]) -> Part
         return nothing(FilePosition::Load(Position::FirstLong));
     };
     let rest = table_at(hunks, hunks - 1, &bytes[HEADER_SIZE..]);
-    Part {
+    Run {
         size: HEADER_SIZE + rest.size,
         next: rest.next,
     }
@@ -112,16 +112,16 @@ fn hunks_of_header(bytes: &[u8]) -> Option<u32>
     }
 }
 
-/// Rows of the table, and blocks after the last.
+/// Rows of the table.
 #[inline(never)]
-fn table_at(hunks: u32, owed: u32, bytes: &[u8]) -> Part
+fn table_at(hunks: u32, owed: u32, bytes: &[u8]) -> Run
     ensures inside { result.size ≤ length bytes.now }
     ensures as_is { AsIs (load_at (positions.SizeWord hunks owed)) (take result.size bytes.now)
         (Long result.next) }
 {
     let (size, left) = rows_at(hunks, owed, bytes);
     if left > 0 || hunks == 0 || !is_row(&bytes[size..]) {
-        return Part {
+        return Run {
             size,
             next: FilePosition::Load(Position::SizeWord { hunks, owed: left }),
         };
@@ -131,10 +131,9 @@ fn table_at(hunks: u32, owed: u32, bytes: &[u8]) -> Part
         ahead: hunks - 1,
         has_content: false,
     };
-    let rest = blocks_at(hunk, true, &bytes[size + 4..]);
-    Part {
-        size: size + 4 + rest.size,
-        next: rest.next,
+    Run {
+        size: size + 4,
+        next: FilePosition::Load(Position::Body(hunk, Phase::FirstBlock)),
     }
 }
 
@@ -177,7 +176,7 @@ pub(crate) fn front_word(bytes: &[u8]) -> u32
 
 /// Blocks, and the ends of hunks with others ahead. The first may be the first of its hunk.
 #[inline(never)]
-fn blocks_at(hunk: OpenHunk, is_first: bool, bytes: &[u8]) -> Part
+pub(crate) fn blocks_at(hunk: OpenHunk, is_first: bool, bytes: &[u8]) -> Run
     ensures inside { result.size ≤ length bytes.now }
     ensures as_is { AsIs (load_at (word_at hunk is_first)) (take result.size bytes.now)
         (Long result.next) }
@@ -189,7 +188,7 @@ fn blocks_at(hunk: OpenHunk, is_first: bool, bytes: &[u8]) -> Part
         at += block.size;
         is_first = block.is_end;
     }
-    Part {
+    Run {
         size: at,
         next: FilePosition::Load(word_at(hunk, is_first)),
     }
@@ -197,7 +196,7 @@ fn blocks_at(hunk: OpenHunk, is_first: bool, bytes: &[u8]) -> Part
 
 /// The place of a block word of the hunk.
 #[inline(always)]
-fn word_at(hunk: OpenHunk, is_first: bool) -> Position
+pub(crate) fn word_at(hunk: OpenHunk, is_first: bool) -> Position
     ensures { result ≡ word_at hunk is_first }
 {
     if is_first {
@@ -237,7 +236,7 @@ fn pass_block(hunk: &mut OpenHunk, bytes: &[u8]) -> Option<Block>
 
 /// Goes on to the hunk after the END of this one. `None` where it is the last.
 #[inline(always)]
-fn pass_end(hunk: &mut OpenHunk) -> Option<usize>
+pub(crate) fn pass_end(hunk: &mut OpenHunk) -> Option<usize>
     ensures some { IfSome result (λ size. (size ≡ 4) × IsNext hunk.old hunk.new) }
     ensures none { IfNone result (hunk.new ≡ hunk.old) }
 {

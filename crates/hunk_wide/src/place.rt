@@ -6,11 +6,14 @@ ghost use Rattle.hunk_wide.specs.Plain.{plain};
 ghost use Rattle.hunk_wide.specs.declared.position.FilePosition.TheVariants.{Load};
 ghost use Rattle.hunk_wide.specs.declared.spot.Spot.TheVariants.{Filler, Half, Long, Straight};
 
+use crate::behind::{end_len, part_at};
+use crate::halves::halves_in;
 use crate::position::FilePosition;
 use crate::spot::{Given, ShortPart, Spot};
 use hunk_grammar::Position;
 
-/// A unit of a wide spelling.
+/// A unit of a wide spelling, or some that follow one another: a part that is given out as it is, or
+/// words of a short block.
 #[derive(Clone, Copy)]
 struct Unit {
     /// The number of its bytes.
@@ -103,6 +106,14 @@ fn long_unit(position: FilePosition, rest: &[u8], n: u64) -> Option<Unit>
     if rest.len() < 4 {
         return None;
     }
+    let part = part_at(position, rest);
+    if part.size > 0 {
+        return Some(Unit {
+            size: part.size,
+            given: (end_len(part.put_in) + part.size) as u64,
+            next: Spot::Long(part.next),
+        });
+    }
     let word = u32::from_be_bytes([rest[0], rest[1], rest[2], rest[3]]);
     Some(Unit {
         size: 4,
@@ -111,6 +122,7 @@ fn long_unit(position: FilePosition, rest: &[u8], n: u64) -> Option<Unit>
     })
 }
 
+/// Words of a short block that are given out before byte `n`, or the one that is given out for it.
 fn half_unit(
     after: FilePosition,
     part: ShortPart,
@@ -126,11 +138,12 @@ fn half_unit(
     if rest.len() < 2 {
         return None;
     }
-    let half = rest[0] as u16 * 256 + rest[1] as u16;
+    let words = (n / 4).max(1).min(rest.len() as u64 / 2) as usize;
+    let halves = halves_in(after, part, is_odd, &rest[..2 * words]);
     Some(Unit {
-        size: 2,
-        given: 4,
-        next: Spot::behind_half(after, part, is_odd, half),
+        size: 2 * halves.count,
+        given: 4 * halves.count as u64,
+        next: halves.next,
     })
 }
 

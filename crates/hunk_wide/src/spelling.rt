@@ -5,9 +5,9 @@ ghost use Rattle.hunk_wide.specs.Spellings.{BeginsWith, EndsThere};
 ghost use Rattle.hunk_wide.specs.Spellings.{ends_last, ends_of, has_end, is_short, one_if, short_blocks_of};
 ghost use Rattle.hunk_wide.specs.declared.spot.Spot.TheVariants.{Filler, Half, Long, Straight};
 
+use crate::behind::{end_len, part_at};
 use crate::expander::is_last;
 use crate::halves::halves_in;
-use crate::parts::part_at;
 use crate::place::given_len;
 use crate::position::FilePosition;
 use crate::spot::{Given, ShortPart, Spot};
@@ -40,7 +40,7 @@ struct Units {
     size: usize,
     /// How many bytes are given out for them.
     given: u64,
-    /// What is given out for a longword. Of other units nothing is counted.
+    /// What is given out for a longword, or for the first. Of other units nothing is counted.
     put_in: Given,
     /// What the bytes after them are for.
     next: Spot,
@@ -157,8 +157,8 @@ fn long_at(position: FilePosition, rest: &[u8]) -> Option<Units>
     if part.size > 0 {
         return Some(Units {
             size: part.size,
-            given: part.size as u64,
-            put_in: Given::Same,
+            given: (end_len(part.put_in) + part.size) as u64,
+            put_in: part.put_in,
             next: Spot::Long(part.next),
         });
     }

@@ -1,14 +1,15 @@
 //! Bytes of a wide spelling that lie in a piece, given out into a buffer.
-ghost use Rattle.std.specs.Prelude.{◌≡◌, ◌<◌, ◌≤◌, ◌*◌, ◌/◌, length, take};
+ghost use Rattle.std.specs.Prelude.{◌≡◌, ◌<◌, ◌≤◌, ◌+◌, ◌*◌, ◌/◌, ◌++◌, length, take};
 ghost use Rattle.std.specs.Int.{from_be_bytes, w32};
 ghost use Rattle.hunk_wide.specs.Halves.{widened};
 ghost use Rattle.hunk_wide.specs.InFile.{LeadsTo};
 ghost use Rattle.hunk_wide.specs.Longwords.{out_long};
+ghost use Rattle.hunk_wide.specs.Parts.{put_before};
 ghost use Rattle.hunk_wide.specs.Plain.{GivesFor};
 ghost use Rattle.hunk_wide.specs.declared.spot.Spot.TheVariants.{Filler, Half, Long, Passing, Straight};
 
+use crate::behind::{Part, part_at};
 use crate::halves::halves_in;
-use crate::parts::{Part, part_at};
 use crate::position::FilePosition;
 use crate::spot::{Given, ShortPart, Spot, long_word};
 
@@ -133,7 +134,8 @@ fn expand_long(position: FilePosition, piece: &[u8], buf: &mut [u8]) -> Stretch
     if piece.len() < 4 || buf.len() < 8 {
         return nothing(Spot::Long(position));
     }
-    let room = piece.len().min(buf.len());
+    // There is room for an END before them.
+    let room = piece.len().min(buf.len() - 4);
     let part = part_at(position, &piece[..room]);
     if part.size > 0 {
         return copy_part(part, piece, buf);
@@ -147,21 +149,40 @@ fn expand_long(position: FilePosition, piece: &[u8], buf: &mut [u8]) -> Stretch
     }
 }
 
-/// Copies the bytes that are given out as they are.
+/// Copies the bytes that are given out as they are, behind the END that may be put in.
 #[inline(always)]
 fn copy_part(part: Part, piece: &[u8], buf: &mut [u8]) -> Stretch
     requires piece { part.size ≤ length piece.now }
-    requires room { part.size ≤ length buf.old }
+    requires room { part.size + 4 ≤ length buf.old }
     ensures taken { result.taken ≡ part.size }
-    ensures given { result.given ≡ part.size }
-    ensures bytes { take part.size buf.new ≡ take part.size piece.now }
+    ensures given { result.given ≤ length buf.new }
+    ensures bytes { take result.given buf.new
+        ≡ put_before part.put_in ++ take part.size piece.now }
     ensures next { result.next ≡ Long part.next }
 {
-    buf[..part.size].copy_from_slice(&piece[..part.size]);
+    let from = put_end(part.put_in, buf);
+    let given = from + part.size;
+    buf[from..given].copy_from_slice(&piece[..part.size]);
     Stretch {
         taken: part.size,
-        given: part.size,
+        given,
         next: Spot::Long(part.next),
+    }
+}
+
+/// Writes the END that may be put in, and gives the number of its bytes.
+#[inline(always)]
+fn put_end(put_in: Given, buf: &mut [u8]) -> usize
+    requires { 4 ≤ length buf.old }
+    ensures inside { result ≤ 4 }
+    ensures bytes { take result buf.new ≡ put_before put_in }
+{
+    match put_in {
+        Given::BehindEnd => {
+            buf[..4].copy_from_slice([0, 0, 3, 0xF2].as_slice());
+            4
+        }
+        _ => 0,
     }
 }
 
