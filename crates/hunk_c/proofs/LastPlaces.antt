@@ -9,9 +9,6 @@ module _ {A : Type 0} (find : ℕ → Option A) where
   abbrev pub FindsNoneIn : ℕ → ℕ → Type 0
   FindsNoneIn from end = (m : ℕ) → from < m → m ≤ end → find m ≡ None
 
-  pub none_next : (at : ℕ) → find (at + 1) ≡ None → FindsNoneIn at (at + 1)
-  none_next at e m l k = let here : m ≡ at + 1 = omega (arith, l, k) in ap find here ∙ e
-
   pub last_here : (n : ℕ) (a : A) → find n ≡ Some a → IsLast find n n a
   last_here n a e = record { inside = omega arith; found = e; none_after = λ m l k. absurd (omega (arith, l, k)) }
 

@@ -1,5 +1,6 @@
 pub mod AnsweredNumbers
 pub mod ClosedFiles
+pub mod ContentRuns
 pub mod FewRows
 pub mod Filling
 pub mod FrontKinds
@@ -8,6 +9,7 @@ pub mod FoundPlaces
 pub mod LastBytes
 pub mod LastEnds
 pub mod LastHunks
+pub mod LastObjectPlaces
 pub mod LastPlaces
 pub mod LoadFronts
 pub mod ReadLongwords

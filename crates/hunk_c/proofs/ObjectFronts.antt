@@ -1,8 +1,8 @@
 -- The front of an object file ends at the last place between two blocks or hunks, and is closed there.
-use Rattle.std.proofs.Common.{◌≡◌, ℕ, ◌+◌, ◌*◌, ◌≤◌, true, false, List, [], ◌∷◌, ◌++◌, length, take, drop, refl, sym, ap, subst, ◌∙◌, append_assoc, append-nil, take-append-drop, take-take, length-take-le, arith, Option, Some, None, inl, inr}
-use Rattle.std.proofs.lemmas.Bool.{cases_lt}
+use Rattle.std.proofs.Common.{◌≡◌, ℕ, ◌*◌, ◌≤◌, true, false, List, [], ◌∷◌, ◌++◌, ◌/◌, length, take, drop, refl, sym, ap, subst, ◌∙◌, append_assoc, append-nil, take-append-drop, take-take, length-take-le, arith, Some, None, inl, inr}
+use Rattle.std.proofs.lemmas.{Bool.cases_lt, List.take_all}
 use Rattle.hunk_words.specs.{Bits.{bss_word, end_word, kind, unit_word}, Longs.{AreLongs, IsBytes, IsLong, bytes_of, longs}}
-use Rattle.hunk_words.proofs.LongLaws.{bytes_of-append}
+use Rattle.hunk_words.proofs.LongLaws.{bytes_of-append, length-longs}
 use Rattle.hunk_grammar.specs.ObjectRoles.{ObjectRole, Within, WordAt}
 use Rattle.hunk_grammar.specs.declared.object_position.WordPlace.{WordPlace}
 use Rattle.hunk_grammar.specs.declared.object_position.WordPlace.TheVariants.{BeforeUnits, BetweenHunks, InHunk}
@@ -13,13 +13,12 @@ use Rattle.hunk_files.specs.ObjectFile.{IsObjectFile, ObjectFileValue, object_te
 use Rattle.hunk_files.specs.declared.hunk_file.HunkFile.TheVariants as files
 use Rattle.hunk_files.proofs.cuts.UnitReading.{object_longs}
 use Rattle.hunk_files.proofs.object_walk.ObjectGoesOn.{SoFar, expected, goes_on, whole_units}
-use Rattle.hunk_files.proofs.object_walk.{ObjectPlaces.{object_read, position_from}, ObjectWalks.position_of}
+use Rattle.hunk_files.proofs.object_walk.{ObjectOutcome.leads_there, ObjectPlaces.{object_read, position_from}, ObjectWalks.position_of}
 use Rattle.hunk_files.proofs.object_walk.OneObjectFault.{AtCount, AtWord, InBlock, InName, ObjectState, object_reads, reader}
 use Rattle.hunk_files.proofs.object_walk.UnitFaults.{units_words}
-use Rattle.hunk_c.specs.FrontPlaces.{FindsNone, IsFrontOf, IsLast, ReadsUpTo, find_place, place_between}
+use Rattle.hunk_c.specs.FrontPlaces.{FindsNone, IsFrontOf, IsLast, ReadsUpTo, find_place, front_at, place_between}
 use Rattle.hunk_c.specs.Fronts.{HasNoFrontWhere, InObjectText, IsFrontWhere, ObjectIsClosed, hunk_end, open_at}
-use Rattle.hunk_c.specs.declared.front.{ObjectPlace.ObjectPlace}
-use Rattle.hunk_c.proofs.LastPlaces.{none_next, still_last, still_none}
+use Rattle.hunk_c.proofs.{LastPlaces.last_here, ReadLongwords.object_text_reads}
 
 -- ---- where the word of a block or a unit is expected
 
@@ -121,7 +120,7 @@ closed_text ws (InHunk false) i h =
 -- ---- all of it
 
 pub object_front : (bytes : List ℕ) → IsBytes bytes → (end : ℕ) → ReadsUpTo objects (longs bytes) end → (n : ℕ) (place : WordPlace) → IsLast (find_place (longs bytes)) end n place →
-    IsFrontOf InObjectText bytes (record { longs = n; hunks = 0; open_hunk = open_at place; left = 0 })
+    IsFrontOf InObjectText bytes (front_at n place)
 unfolding in_text
 object_front bytes fit end r n place l =
     let ws : List ℕ = longs bytes in
@@ -141,6 +140,16 @@ object_front bytes fit end r n place l =
           ∙ ap (λ (bs : List ℕ). bs ++ bytes_of (hunk_end (open_at place) ++ [])) (sym begins ∙ ap (λ (k : ℕ). take (4 * k) bytes) size);
     }
 
+-- The front of a whole file is all of it.
+pub whole_front : (bytes : List ℕ) → IsBytes bytes → (o : ObjectFileValue) → IsObjectFile o → bytes ≡ bytes_of (object_text o) → IsFrontOf InObjectText bytes (front_at (length bytes / 4) BetweenHunks)
+unfolding after
+whole_front bytes fit o is e =
+    let ws : List ℕ = longs bytes in
+    let n : ℕ = length bytes / 4 in
+    let all : take n ws ≡ ws = take_all n ws (omega (arith, length-longs bytes)) in
+    let found : find_place ws n ≡ Some BetweenHunks = ap (λ (xs : List ℕ). place_between (object_at xs)) all ∙ ap place_between (place_is ws ∙ ap position_of (leads_there bytes o is e)) in
+    object_front bytes fit n (object_text_reads bytes o is e) n BetweenHunks (last_here (find_place ws) n BetweenHunks found)
+
 -- ---- the first longword
 
 -- It begins with the word of a unit.
@@ -158,13 +167,3 @@ object_begins ws i = go i.expects.value i.expects.done i.expects.labels i.expect
         let role : WordAt BeforeUnits ≡ WordAt i.place = ap (λ (l : ObjectRole × ℕ). l.0) same in
         absurd (subst IsInUnit (sym (place_of role)) i.in_unit)
     go (u ∷ us) (d ∷ done) e b = let same : d.1 ≡ unit_word = cc in (words done, sym b ∙ ap (λ (w : ℕ). w ∷ words done) same)
-
--- ---- the walk to the last place
-
-abbrev pub LastPlace : List ℕ → ℕ → Option ObjectPlace → Type 0
-LastPlace ws at None = FindsNone (find_place ws) at
-LastPlace ws at (Some p) = IsLast (find_place ws) at p.longs p.place
-
-pub still_place : (ws : List ℕ) (at : ℕ) (last : Option ObjectPlace) → LastPlace ws at last → find_place ws (at + 1) ≡ None → LastPlace ws (at + 1) last
-still_place ws at None h e = still_none (find_place ws) at (at + 1) h (none_next (find_place ws) at e)
-still_place ws at (Some p) h e = still_last (find_place ws) at (at + 1) p.longs p.place (omega arith) h (none_next (find_place ws) at e)

@@ -165,6 +165,26 @@ all_put {start} {bases} {all} {left} {number} {old} {memory} s none =
     let none_left = s.split ∙ ap (λ (v : LoadFileValue). s.done ++ v) none ∙ append-nil s.done in
     subst (λ (v : LoadFileValue). HasHunks start bases v old memory) (sym none_left) (has_hunks start bases s.done old memory s.has)
 
+-- The first of the hunks that are left, and what the table has of it and of the others.
+pub record FirstLeft (left : LoadFileValue) (entry : TableEntry) (entries : List TableEntry) : Type 0 where
+  pub hunk : HunkValue
+  pub later : LoadFileValue
+  pub is : left ≡ hunk ∷ later
+  pub entry_is : hunk.entry ≡ entry
+  pub entries_are : table later ≡ entries
+
+pub first_left : (left : LoadFileValue) (entry : TableEntry) (entries : List TableEntry) → table left ≡ entry ∷ entries → FirstLeft left entry entries
+first_left [] entry entries same = absurd cc
+first_left (h ∷ later) entry entries same =
+    let e : table (h ∷ later) ≡ entry ∷ entries = same in
+    let one : h.entry ≡ entry = cc in
+    let others : table later ≡ entries = cc in
+    record { hunk = h; later = later; is = refl; entry_is = one; entries_are = others }
+
+pub no_left : (left : LoadFileValue) → table left ≡ [] → left ≡ []
+no_left [] none = refl
+no_left (h ∷ later) none = absurd cc
+
 module _ {start : ℕ} {bases : List ℕ} {all left : LoadFileValue} {number : ℕ} {old memory : List ℕ} (s : PutSoFar start bases all left number old memory) (listed : List ℕ) (are : AreBases (placed_in start (length old) listed) (table all) bases)
     (h : HunkValue) (later : LoadFileValue) (is : left ≡ h ∷ later) where
   whole : all ≡ s.done ++ h ∷ later

@@ -18,7 +18,7 @@ use Rattle.hunk_files.specs.HunkFile.{file_bytes}
 use Rattle.hunk_files.specs.declared.hunk_file.HunkFile.{HunkFile}
 use Rattle.hunk_c.specs.declared.front.Front.{Front}
 use Rattle.hunk_c.specs.Files.{hunks_in}
-use Rattle.hunk_c.specs.Fronts.{IsClosed, IsFrontWhere, empty_hunks, hunk_end}
+use Rattle.hunk_c.specs.Fronts.{IsClosed, IsFrontWhere, empty_hunks, hunk_end, open_at}
 
 -- ---- how far a file is read
 
@@ -75,6 +75,10 @@ pass_longest_run position = position
 -- the front of a whole load file: all but the END of its last hunk
 abbrev pub before_last_end : ℕ → ℕ → Front
 before_last_end hunks longs = record { longs = longs - 1; hunks = hunks; open_hunk = Some true; left = 0 }
+
+-- the front of an object file that ends at this place, after so many longwords
+abbrev pub front_at : ℕ → WordPlace → Front
+front_at longs place = record { longs = longs; hunks = 0; open_hunk = open_at place; left = 0 }
 
 -- the longwords that close the file
 abbrev pub closing : Front → List ℕ

@@ -6,11 +6,11 @@ ghost use Rattle.hunk_files.specs.ObjectFault.{objects};
 ghost use Rattle.hunk_c.specs.Fronts.{EndsBetweenBlocks, Fronts, HasNoFront, HasNoFrontWhere};
 ghost use Rattle.hunk_c.specs.Fronts.{InLoadText, InObjectText, empty_hunks, hunk_end, open_at};
 ghost use Rattle.hunk_c.specs.FrontPlaces.{FindsNone, IsFrontOf, IsLast};
-ghost use Rattle.hunk_c.specs.FrontPlaces.{ReadsUpTo, before_last_end, closed_bytes, closing};
+ghost use Rattle.hunk_c.specs.FrontPlaces.{ReadsUpTo, before_last_end, closed_bytes, closing, front_at};
 ghost use Rattle.hunk_c.specs.FrontPlaces.{find_hunk, find_place, hunk_between, place_between};
 
 use crate::answer::{Answer, done, no_room};
-use crate::strides::load_stride;
+use crate::strides::{load_stride, object_stride};
 use hunk_files::{LoadView, ObjectView, Sniff, TakesBytes, sniff};
 use hunk_grammar::{ObjectPosition, OpenHunk, Phase, Position, WordPlace};
 use hunk_parts::Copier;
@@ -168,14 +168,32 @@ fn object_front(bytes: &[u8]) -> Option<Front>
     ensures found { IfSome result (IsFrontOf InObjectText bytes.now) }
     ensures none { IfNone result (HasNoFrontWhere InObjectText (longs bytes.now)) }
 {
-    let end = object_longs(bytes);
-    let ObjectPlace { longs, place } = last_place(bytes, end)?;
-    Some(Front {
+    match ObjectView::read(bytes) {
+        Ok(_) => Some(object_front_at(bytes.len() / 4, WordPlace::BetweenHunks)),
+        Err(refusal) => object_front_before(bytes, (refusal.fault.place / 4) as usize),
+    }
+}
+
+/// The front of an object file whose fault is this longword.
+fn object_front_before(bytes: &[u8], fault: usize) -> Option<Front>
+    requires { ReadsUpTo objects (longs bytes.now) fault }
+    ensures found { IfSome result (IsFrontOf InObjectText bytes.now) }
+    ensures none { IfNone result (HasNoFrontWhere InObjectText (longs bytes.now)) }
+{
+    let ObjectPlace { longs, place } = last_place(bytes, fault)?;
+    Some(object_front_at(longs, place))
+}
+
+/// The front of an object file that ends at this place, before which so many longwords stand.
+fn object_front_at(longs: usize, place: WordPlace) -> Front
+    ensures { result ≡ front_at longs place }
+{
+    Front {
         longs,
         hunks: 0,
         open_hunk: open_at(place),
         left: 0,
-    })
+    }
 }
 
 /// Whether the hunk that is open at this place has its content. `None`: no hunk is open.
@@ -185,16 +203,6 @@ fn open_at(place: WordPlace) -> Option<bool>
     match place {
         WordPlace::InHunk { has_content } => Some(has_content),
         WordPlace::BeforeUnits | WordPlace::BetweenHunks => None,
-    }
-}
-
-/// How many longwords stand before the end of an object file, or its fault.
-fn object_longs(bytes: &[u8]) -> usize
-    ensures { ReadsUpTo objects (longs bytes.now) result }
-{
-    match ObjectView::read(bytes) {
-        Ok(_) => bytes.len() / 4,
-        Err(refusal) => (refusal.fault.place / 4) as usize,
     }
 }
 
@@ -208,19 +216,25 @@ fn last_place(bytes: &[u8], end: usize) -> Option<ObjectPlace>
 {
     let mut position = ObjectPosition::Word(WordPlace::BeforeUnits);
     let mut last = None;
-    'longwords: for at in 0..end {
-        position = position.step(word_at(bytes, at));
+    let mut at = 0;
+    'longwords: while at < end {
+        let stride = object_stride(position, word_at(bytes, at));
+        at += 1;
+        // No block ends within a run.
+        if stride.run > (end - at) as u64 {
+            return last;
+        }
+        position = stride.after;
+        at += stride.run as usize;
         if let Some(place) = place_between(position) {
-            last = Some(ObjectPlace {
-                longs: at + 1,
-                place,
-            });
+            last = Some(ObjectPlace { longs: at, place });
         }
     }
     last
 }
 
 /// The place of this position, where it is between two blocks or hunks of a unit.
+#[inline(always)]
 fn place_between(position: ObjectPosition) -> Option<WordPlace>
     ensures { result ≡ place_between position }
 {

@@ -33,9 +33,7 @@ impl Loader {
         if !self.may_be_open() || !self.lies_in(rows, total) {
             return false;
         }
-        self.fed = self.fed.saturating_add(piece.len() as u64);
-        self.owed -= longs as u32;
-        self.reserved = UNUSED;
+        self.pass_longs(piece.len(), longs as u32);
         true
     }
 
@@ -97,6 +95,43 @@ impl Loader {
             return true;
         }
         false
+    }
+
+    /// Takes the piece, where that is longwords of a content, and more of it is to come. Whether it
+    /// did; it does not where the piece is anything else.
+    #[inline(always)]
+    pub(crate) fn take_content(&mut self, rows: &[Row], memory: &mut [u8], piece: &[u8]) -> bool
+        requires { IsReady rows.now (length memory.old) self.old }
+        ensures takes { result ≡ true → TakesPiece rows.now self.old self.new memory.old
+            memory.new piece.now (length piece.now) }
+        ensures stays { result ≡ false → self.new ≡ self.old }
+        ensures keeps { result ≡ false → memory.new ≡ memory.old }
+    {
+        // The rows are for the contract alone.
+        let _ = rows;
+        if self.phase != CONTENT || self.pending > 0 || piece.len() % 4 > 0 {
+            return false;
+        }
+        let longs = piece.len() / 4;
+        if longs == 0 || longs > self.owed as usize {
+            return false;
+        }
+        let at = self.content_at();
+        put_longs(memory, at as usize, piece);
+        self.pass_longs(piece.len(), longs as u32);
+        true
+    }
+
+    /// Counts so many bytes of a run, so many longwords, after which others are owed.
+    #[inline(always)]
+    fn pass_longs(&mut self, bytes: usize, longs: u32)
+        requires { longs ≤ self.old.owed }
+        ensures { self.new ≡ with_numbers self.old (saturated (self.old.fed + bytes))
+            (self.old.owed - longs) (pending_in self.old) (refusal_in self.old) }
+    {
+        self.fed = self.fed.saturating_add(bytes as u64);
+        self.owed -= longs;
+        self.reserved = UNUSED;
     }
 
     /// The byte of the memory where the next longword of a content goes.
@@ -164,4 +199,13 @@ fn put_long(memory: &mut [u8], at: usize, long: [u8; 4])
     ensures { memory.new ≡ put_slice memory.old at long }
 {
     memory[at..at + 4].copy_from_slice(long.as_slice());
+}
+
+/// Puts longwords at the offset.
+#[inline(always)]
+fn put_longs(memory: &mut [u8], at: usize, longs: &[u8])
+    requires { at + length longs.now ≤ length memory.old }
+    ensures { memory.new ≡ put_slice memory.old at longs.now }
+{
+    memory[at..at + longs.len()].copy_from_slice(longs);
 }

@@ -95,11 +95,14 @@ fn put_hunks(file: &LoadView<'_>, bases: &[u32], start: u32, memory: &mut [u8])
     ensures { HasHunks start bases.now file.now memory.old memory.new }
 {
     // The number of hunks has 32 bits, so they can be numbered.
-    let _hunks = file.hunks();
+    let _count = file.hunks();
+    let mut hunks = file.iter();
     let mut bases = bases;
-    'putting: for (number, hunk) in file.iter().enumerate() {
+    let mut number = 0;
+    'putting: for size in file.table() {
         let at = (bases[number] - start) as usize;
-        let end = at + hunk.size.bytes() as usize;
-        hunk.fill(&mut memory[at..end], &mut bases);
+        let end = at + size.bytes() as usize;
+        hunks.fill_next(&mut memory[at..end], &mut bases);
+        number += 1;
     }
 }

@@ -86,6 +86,9 @@ fn feed_on(
     if loader.take_last(rows, memory, piece) {
         return Ok(1);
     }
+    if loader.take_content(rows, memory, piece) {
+        return Ok(piece.len() as u64);
+    }
     feed_ready(loader, rows, memory, piece)
 }
 

@@ -1,28 +1,42 @@
-use Rattle.std.proofs.Common.{◌≡◌, ◌+◌, ◌<◌, ℕ, arith, length, sym, ap, ap₂, subst, ◌∙◌, take}
+use Rattle.std.proofs.Common.{◌+◌, ◌*◌, ◌≤◌, List, ℕ, arith, sym, ◌∙◌, length}
 use Rattle.hunk_words.specs.Longs.{longs}
 use Rattle.hunk_words.proofs.LongLaws.{length-longs}
-use Rattle.hunk_grammar.specs.declared.object_position.ObjectPosition.{ObjectPosition}
-use Rattle.hunk_grammar.specs.declared.object_position.ObjectPosition.TheVariants as positions
-use Rattle.hunk_grammar.specs.declared.object_position.WordPlace.TheVariants.{BeforeUnits}
-use Rattle.hunk_grammar.specs.ObjectPositions as object
-use Rattle.hunk_files.specs.Machines.{object_at}
-use Rattle.hunk_c.specs.FrontPlaces.{find_place, place_between}
-use Rattle.hunk_c.proofs.LastPlaces.{last_here, one_more}
-use Rattle.hunk_c.proofs.ObjectFronts.{LastPlace, still_place}
-use Rattle.hunk_c.proofs.front.last_place.Goals.{in-Some, in_default}
+use Rattle.hunk_c.proofs.LastObjectPlaces.{at_none, at_place, last_found, last_none, leads_on, place_within}
 use Rattle.hunk_c.proofs.front.last_place.Goals as goal
+
+whole : (bytes : List ℕ) (end : ℕ) → 4 * end ≤ length bytes → end ≤ length (longs bytes)
+whole bytes end inside = omega (arith, inside, length-longs bytes)
+
+pub returns-then-stride-end : goal.returns-then-stride-end
+returns-then-stride-end c =
+    let w = c.longwords in
+    let s = c.object_stride-stride in
+    let ws : List ℕ = longs c.args.bytes.now in
+    let last =
+    place_within ws w.at c.args.end w.position w.last w.invariant.1 w.invariant.2 c.longwords-test.true (whole c.args.bytes.now c.args.end c.requires) _ c.word_at.ensures s.result.run s.ensures.run s.result.after s.ensures.after
+    (omega (arith, c.if-stride-end.true)) in
+    record { found = last_found ws c.args.end w.last last; none = last_none ws c.args.end w.last last }
+
+pub longwords-preserved-in-Some : goal.longwords-preserved-in-Some
+longwords-preserved-in-Some c =
+    let w = c.longwords in
+    let s = c.object_stride-stride in
+    let ws : List ℕ = longs c.args.bytes.now in
+    let less : w.at + 1 + s.result.run ≤ c.args.end = omega (arith, c.if-stride-end.false, c.longwords-test.true) in (
+      less,
+      leads_on ws w.at c.args.end w.position w.last w.invariant.1 w.invariant.2 c.longwords-test.true (whole c.args.bytes.now c.args.end c.requires) _ c.word_at.ensures s.result.run s.ensures.run s.result.after s.ensures.after less,
+      at_place ws w.at c.args.end w.position w.last w.invariant.1 w.invariant.2 c.longwords-test.true (whole c.args.bytes.now c.args.end c.requires) _ c.word_at.ensures s.result.run s.ensures.run s.result.after s.ensures.after less
+          c.in-Some.place (sym c.place_between.ensures ∙ c.in-Some.is),
+    )
 
 pub longwords-preserved : goal.longwords-preserved
 longwords-preserved c =
-    let ws = longs c.args.bytes.now in
-    let at = c.longwords.at in
-    let inside : at < length ws = omega (arith, c.requires, c.longwords-test.true, length-longs c.args.bytes.now) in
-    let position_is : c.step-position.result ≡ object_at (take (at + 1) ws) =
-    c.step-position.ensures ∙ ap₂ (λ (p : ObjectPosition) (w : ℕ). object.step p w) c.longwords.invariant.0 c.word_at.ensures ∙ sym (one_more object.step (positions.Word BeforeUnits) ws at inside) in
-    let found : find_place ws (at + 1) ≡ c.place_between.result = ap place_between (sym position_is) ∙ sym c.place_between.ensures in (
-      position_is,
-      elim c.match-place_between.branch [
-        | in-Some w ↦ subst (LastPlace ws (at + 1)) (sym w.last-is) (last_here (find_place ws) (at + 1) _ (found ∙ w.in-Some.is))
-        | in_default w ↦ subst (LastPlace ws (at + 1)) (sym w.last-is) (still_place ws at c.longwords.last c.longwords.invariant.1 (found ∙ w.in_default.is))
-      ],
+    let w = c.longwords in
+    let s = c.object_stride-stride in
+    let ws : List ℕ = longs c.args.bytes.now in
+    let less : w.at + 1 + s.result.run ≤ c.args.end = omega (arith, c.if-stride-end.false, c.longwords-test.true) in (
+      less,
+      leads_on ws w.at c.args.end w.position w.last w.invariant.1 w.invariant.2 c.longwords-test.true (whole c.args.bytes.now c.args.end c.requires) _ c.word_at.ensures s.result.run s.ensures.run s.result.after s.ensures.after less,
+      at_none ws w.at c.args.end w.position w.last w.invariant.1 w.invariant.2 c.longwords-test.true (whole c.args.bytes.now c.args.end c.requires) _ c.word_at.ensures s.result.run s.ensures.run s.result.after s.ensures.after less
+          (sym c.place_between.ensures ∙ c.in_default.is),
     )
