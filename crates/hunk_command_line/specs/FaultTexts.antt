@@ -15,7 +15,7 @@ abbrev pub fault_text : OrderFault → List ℕ
 fault_text (Line why) = refused_line
 fault_text NotText = refused_line
 fault_text (Help text) = string_bytes text
-fault_text Version = codes "hunkinfo 0.2.0 (logic dac8208d650f15bf)\n"
+fault_text Version = codes "hunkinfo 0.3.0 (logic dac8208d650f15bf)\n"
 fault_text Memory = codes "out of memory"
 
 -- The fault that a text tells of, which there was memory for or not: a help that was asked for, or why there is no order.

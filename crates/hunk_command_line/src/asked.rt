@@ -10,7 +10,7 @@ use std::marker::Model;
 
 /// What is printed where the words ask for the version: the program's name and version, and the logic
 /// that its proofs are written for. Whether a build was proved, the program cannot know.
-pub const VERSION_LINE: &str = "hunkinfo 0.2.0 (logic dac8208d650f15bf)\n";
+pub const VERSION_LINE: &str = "hunkinfo 0.3.0 (logic dac8208d650f15bf)\n";
 
 /// A file's name, as the command line has it.
 #[derive(Debug, Drop)]
