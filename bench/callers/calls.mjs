@@ -79,7 +79,9 @@ for (const path of paths) {
   tell(path, "rows", () => (sum += total(rows)));
   tell(path, "view", () => (sum += total(read(bytes))));
   tell(path, "column", () => {
-    for (const field of fields) for (const it of rows.column(field)) sum += it;
+    let all = 0;
+    for (const field of fields) for (const it of rows.column(field)) all += it;
+    sum += all;
   });
   input.free();
 }
