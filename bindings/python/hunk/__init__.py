@@ -46,7 +46,7 @@ if TYPE_CHECKING:
     )
     from hunk.spellings import input_place, plain, spelling, strip
 
-__version__ = "0.2.0"
+__version__ = "0.3.0"
 __all__ = [
     "BUDGET",
     "Block",

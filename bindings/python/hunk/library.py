@@ -6,14 +6,20 @@ trusted to be libhunk: nothing but the number of its interface is looked at.
 
 from __future__ import annotations
 
+import contextlib
 import ctypes
 import os
 import sys
 from ctypes import c_char_p, c_uint8, c_uint32, c_uint64, c_void_p
-from typing import Any, Callable, Optional, Union
+from typing import TYPE_CHECKING, Any, Callable, Optional, Union
 
 from hunk.errors import HunkError
 from hunk.rows import Data
+
+if TYPE_CHECKING:
+    import mmap
+
+    Memory = Union[bytearray, mmap.mmap]
 
 # The number of the interface, which the names of shared libraries have where a system has several side by side.
 ABI = 1
@@ -95,9 +101,11 @@ def accepted(answer: Any) -> Any:
 
 def bytes_of(data: Data) -> bytes:
     """The bytes of a bytes-like object. A number or a list is a TypeError, and so is a name of a file."""
+    if isinstance(data, bytes):
+        return data
     if isinstance(data, (str, os.PathLike)):
         raise TypeError(f"bytes are wanted, not a {type(data).__name__}; those of a file are pathlib.Path(NAME).read_bytes()")
-    return data if isinstance(data, bytes) else memoryview(data).tobytes()
+    return memoryview(data).tobytes()
 
 
 def number_of(value: int, bits: int, what: str) -> int:
@@ -107,15 +115,33 @@ def number_of(value: int, bits: int, what: str) -> int:
     return value
 
 
-def room(size: int) -> bytearray:
-    """So many bytes to write to, which a file says. More than the machine can address are a MemoryError, too."""
+# From so many bytes on memory is mapped.
+LARGE = 1 << 20
+
+
+def room(size: int) -> Memory:
+    """So many zero bytes to write to, which a file says. More than the machine can address are a MemoryError, too."""
+    return bytearray(size) if size < LARGE else _mapped(size)
+
+
+def _mapped(size: int) -> Memory:
+    """Memory that nobody has touched yet. A bytearray would write zeros to all of it before a call writes its own bytes. Large
+    pages, where the system has them, are touched in a third of the time."""
+    import mmap
+
+    private = {} if sys.platform == "win32" else {"flags": mmap.MAP_PRIVATE | mmap.MAP_ANONYMOUS}
     try:
-        return bytearray(size)
-    except OverflowError as error:
+        memory = mmap.mmap(-1, size, **private)
+    except (OSError, OverflowError) as error:
         raise MemoryError(f"{size} bytes") from error
+    if hasattr(mmap, "MADV_HUGEPAGE"):
+        # A system may be without them.
+        with contextlib.suppress(OSError):
+            memory.madvise(mmap.MADV_HUGEPAGE)
+    return memory
 
 
-def address_of(memory: Union[bytearray, memoryview]) -> Optional[int]:
+def address_of(memory: Union[Memory, memoryview]) -> Optional[int]:
     """Where bytes that may be written to stand, for a call that is made while they stay as long; of none it is None."""
     return ctypes.addressof(c_uint8.from_buffer(memory)) if memory else None
 
@@ -124,12 +150,13 @@ def address_of(memory: Union[bytearray, memoryview]) -> Optional[int]:
 FEW = 64
 
 
-def rows_of(call: Call, size: int, data: bytes, *words: Any) -> bytearray:
+def rows_of(call: Call, size: int, data: bytes, *words: Any) -> Memory:
     """The rows of so many bytes that the call writes. Where they are more than a few, it says how many, and is called again."""
-    rows = room(size * FEW)
-    answer = call(data, len(data), *words, address_of(rows), FEW)
+    few = bytearray(size * FEW)
+    answer = call(data, len(data), *words, address_of(few), FEW)
     if answer.number == NO_ROOM:
         rows = room(size * answer.count)
-        answer = call(data, len(data), *words, address_of(rows), answer.count)
-    del rows[size * accepted(answer).count :]
-    return rows
+        accepted(call(data, len(data), *words, address_of(rows), answer.count))
+        return rows
+    del few[size * accepted(answer).count :]
+    return few

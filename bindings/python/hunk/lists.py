@@ -7,7 +7,7 @@ import bisect
 import itertools
 import struct
 from operator import eq
-from typing import Any, Callable, ClassVar, Dict, Iterable, Iterator, Sequence, Tuple, TypeVar, Union, overload
+from typing import TYPE_CHECKING, Any, Callable, ClassVar, Dict, Iterable, Iterator, Sequence, Tuple, TypeVar, Union, overload
 
 from hunk.rows import (
     FAULTS,
@@ -25,6 +25,9 @@ from hunk.rows import (
     Warning,
     row_of,
 )
+
+if TYPE_CHECKING:
+    from hunk.library import Memory
 
 _Row = TypeVar("_Row")
 _Number = TypeVar("_Number", bound=int)
@@ -72,7 +75,7 @@ class Rows(Sequence[_Row]):
     LAYOUT: ClassVar[Layout]
     columns: ClassVar[Tuple[str, ...]]
 
-    def __init__(self, memory: bytearray, *given: Any) -> None:
+    def __init__(self, memory: Memory, *given: Any) -> None:
         # What else it takes to make a row, and which of the rows in memory are in the list.
         self._memory, self._given = memory, given
         self._which = range(len(memory) // self.LAYOUT.size)
@@ -126,6 +129,10 @@ class Rows(Sequence[_Row]):
         return len(self) == len(other) and all(map(eq, self, other))
 
     __hash__ = None  # type: ignore[assignment]
+
+    def __getstate__(self) -> Dict[str, Any]:
+        """For a copy, or pickle: memory that is mapped has neither."""
+        return {**self.__dict__, "_memory": bytearray(self._memory)}
 
     def __repr__(self) -> str:
         return repr([*self])

@@ -3,11 +3,14 @@
 from __future__ import annotations
 
 from ctypes import c_uint8, c_uint32, c_uint64
-from typing import Any, Sequence, Union
+from typing import TYPE_CHECKING, Any, Sequence, Union
 
 from hunk.library import BYTES, FEW, NO_ROOM, ROOM, accepted, address_of, bytes_of, call, number_of, room
 from hunk.rows import BUDGET, MEMORY, Data, Hunk, row_of
 from hunk.spellings import by_plain
+
+if TYPE_CHECKING:
+    from hunk.library import Memory
 
 # So many longwords has a row of hunk.h.
 ROW = 4
@@ -23,7 +26,7 @@ def _bases(bases: Sequence[int]) -> Any:
     return (c_uint32 * len(bases))(*(number_of(it, 32, "base") for it in bases))
 
 
-def segments_of(memory: bytearray, sizes: Sequence[int]) -> list[bytes]:
+def segments_of(memory: Memory, sizes: Sequence[int]) -> list[bytes]:
     segments, end, view = [], 0, memoryview(memory)
     for size in sizes:
         start, end = end, end + size

@@ -10,11 +10,14 @@ from __future__ import annotations
 
 import itertools
 from ctypes import c_uint32, c_uint64, c_void_p
-from typing import Any, BinaryIO
+from typing import TYPE_CHECKING, Any, BinaryIO
 
 from hunk.library import BYTES, NO_BASE, NO_ROOM, ROOM, TRUNCATED, accepted, address_of, bytes_of, call, number_of, refusal, room
 from hunk.loading import ROW, header_of, read_header, segments_of
 from hunk.rows import BUDGET, Data
+
+if TYPE_CHECKING:
+    from hunk.library import Memory
 
 _LOADER_WORDS = 96 // 8
 # The most bytes that a stream is asked for at once: a file may declare more than a machine can address.
@@ -37,7 +40,7 @@ class Loader:
         self._sizes: list[int] = []
         self._loader = (c_uint64 * _LOADER_WORDS)()
         self._places: Any = (c_uint32 * 0)()
-        self._memory = bytearray()
+        self._memory: Memory = bytearray()
         self.want = 0
         self._read_header(b"")
 

@@ -128,7 +128,7 @@ fn declared<T>(data: &[u8], budget: u64, make: impl FnOnce(&[raw::Row]) -> T) ->
 /// An error where the bytes do not begin with a load file, its hunks have more bytes than the budget, or one of them has no
 /// base; `OutOfMemory` where they have more bytes than the machine can address.
 pub fn load(data: &[u8], bases: &[u32], budget: u64) -> Result<Segments, Error> {
-    segments(data, budget, |memory| raw::load(data, bases, memory))
+    segments(data, budget, |bytes| raw::load(data, bases, bytes))
 }
 
 /// The same for hunks one after the other from the address `base` on.
@@ -147,7 +147,7 @@ pub fn load(data: &[u8], bases: &[u32], budget: u64) -> Result<Segments, Error> 
 ///
 /// As [`load`]; `NoBase` where a hunk would pass the address 2^32.
 pub fn load_packed(data: &[u8], base: u32, budget: u64) -> Result<Segments, Error> {
-    segments(data, budget, |memory| raw::load_packed(data, base, memory))
+    segments(data, budget, |bytes| raw::load_packed(data, base, bytes))
 }
 
 /// Loads the hunks one after the other into the memory, which begins at the address `base`: RAM of an emulator. Answers
@@ -169,7 +169,7 @@ pub fn load_packed(data: &[u8], base: u32, budget: u64) -> Result<Segments, Erro
 /// As [`load_packed`]; `NoRoom` where the memory is too small, which [`table`] tells beforehand. The memory is as it was then.
 pub fn load_into(data: &[u8], base: u32, memory: &mut [u8]) -> Result<usize, Error> {
     // As many as the memory has, or fewer.
-    Ok(accepted(raw::load_packed(data, base, memory))?.count as usize)
+    Ok(accepted(raw::load_into(data, base, memory))?.count as usize)
 }
 
 /// Loads each hunk for its own address, and to there: the memory begins at the address `start`, as that of a machine in which
@@ -196,11 +196,11 @@ pub fn load_at(data: &[u8], bases: &[u32], start: u32, memory: &mut [u8]) -> Res
 }
 
 /// The hunks' bytes, where `load` writes them into memory of just their size.
-fn segments(data: &[u8], budget: u64, load: impl Fn(&mut [u8]) -> raw::Answer) -> Result<Segments, Error> {
+fn segments(data: &[u8], budget: u64, load: impl Fn(usize) -> (Vec<u8>, raw::Answer)) -> Result<Segments, Error> {
     let sizes = |rows: &[raw::Row]| rows.iter().map(|row| row.bytes.into()).collect::<Vec<u64>>();
     let sizes = declared(data, budget, sizes)?;
-    let mut memory = vec![0; addressable(sizes.iter().sum())?];
-    accepted(load(&mut memory))?;
+    let (memory, answer) = load(addressable(sizes.iter().sum())?);
+    accepted(answer)?;
     let mut end = 0;
     let ends = sizes.iter().map(|&size| {
         end += size as usize;

@@ -251,13 +251,33 @@ pub fn table(data: &[u8], budget: u64, rows: &mut [Row]) -> Answer {
     unsafe { hunk_table(data.as_ptr(), length(data), budget, rows.as_mut_ptr(), length(rows)) }
 }
 
-pub fn load(data: &[u8], bases: &[u32], memory: &mut [u8]) -> Answer {
-    let (to, len) = (memory.as_mut_ptr(), length(memory));
-    // SAFETY: the pointers come with the lengths of what they point to.
-    unsafe { hunk_load(data.as_ptr(), length(data), bases.as_ptr(), length(bases), to, len) }
+/// The hunks in memory of just so many bytes, which the call writes: to clear them first takes as long. And what it answers.
+pub fn load(data: &[u8], bases: &[u32], bytes: usize) -> (Vec<u8>, Answer) {
+    let mut memory = Vec::with_capacity(bytes);
+    let to = memory.as_mut_ptr();
+    // SAFETY: the pointers come with the lengths of what they point to. The memory is written, and not read.
+    let answer = unsafe { hunk_load(data.as_ptr(), length(data), bases.as_ptr(), length(bases), to, bytes as u64) };
+    (written(memory, &answer), answer)
 }
 
-pub fn load_packed(data: &[u8], base: u32, memory: &mut [u8]) -> Answer {
+/// The same for hunks one after the other from the address `base` on.
+pub fn load_packed(data: &[u8], base: u32, bytes: usize) -> (Vec<u8>, Answer) {
+    let mut memory = Vec::with_capacity(bytes);
+    // SAFETY: as in `load`.
+    let answer = unsafe { hunk_load_packed(data.as_ptr(), length(data), base, memory.as_mut_ptr(), bytes as u64) };
+    (written(memory, &answer), answer)
+}
+
+/// The bytes that a call has written to this memory; of one that has refused none.
+fn written(mut memory: Vec<u8>, answer: &Answer) -> Vec<u8> {
+    if answer.number == OK {
+        // SAFETY: it has written as many bytes as it counts, at most those for which there is room.
+        unsafe { memory.set_len(answer.count as usize) };
+    }
+    memory
+}
+
+pub fn load_into(data: &[u8], base: u32, memory: &mut [u8]) -> Answer {
     // SAFETY: as in `load`.
     unsafe { hunk_load_packed(data.as_ptr(), length(data), base, memory.as_mut_ptr(), length(memory)) }
 }

@@ -14,6 +14,7 @@ from __future__ import annotations
 import argparse
 import contextlib
 import importlib
+import os
 import sys
 from typing import Any, Iterator, Optional, Sequence
 
@@ -32,6 +33,8 @@ NAMES = tuple(name for _, names in GROUPS for name in names)
 MODULES = {"json": "documents", "map": "picture", "diff": "differences"}
 COMPLETIONS = {"bash": "hunk.bash", "zsh": "_hunk", "fish": "hunk.fish"}
 NOT_READ, NO_LIBRARY, CANNOT_WRITE, INTERRUPTED, NOBODY_READS = 1, 2, 3, 130, 141
+# Those of a terminal that does not say how many it has.
+COLUMNS = 80
 # The name in an ImportError where the library is not there.
 LIBRARY = "libhunk"
 
@@ -59,6 +62,25 @@ Exit status:
 def module_of(name: str) -> Any:
     """The module of a command."""
     return importlib.import_module(f"hunk.command.{MODULES.get(name, name)}")
+
+
+def columns() -> int:
+    """The columns of the terminal that help is printed on."""
+    asked = os.environ.get("COLUMNS", "")
+    if asked.isdecimal() and len(asked) < 6 and int(asked):
+        return int(asked)
+    try:
+        return os.get_terminal_size(1).columns or COLUMNS
+    except OSError:
+        return COLUMNS
+
+
+class Form(argparse.RawDescriptionHelpFormatter):
+    """The form of help. Each argument that is added makes one, too, and without a width argparse would import shutil to ask for it:
+    that takes a fifth of the time in which Python itself starts."""
+
+    def __init__(self, prog: str) -> None:
+        super().__init__(prog, width=columns() - 2)
 
 
 class Parser(argparse.ArgumentParser):
@@ -102,15 +124,14 @@ def named(words: Sequence[str]) -> Sequence[str]:
 
 def make_parser(words: Sequence[str]) -> Parser:
     """The parser of these words, which has just the command that they name."""
-    form = argparse.RawDescriptionHelpFormatter
-    parser = TopParser(prog="hunk", usage=USAGE, epilog=EPILOG, formatter_class=form)
+    parser = TopParser(prog="hunk", usage=USAGE, epilog=EPILOG, formatter_class=Form)
     parser.add_argument("--version", action="version", version=f"hunk {hunk.__version__}", help="print the version")
     parser.add_argument("--completions", action=PrintCompletions, choices=tuple(COMPLETIONS), metavar="SHELL",
                         help="print what bash, zsh or fish completes of a command line")
     made = parser.add_subparsers(prog="hunk", metavar="COMMAND", required=True, help=argparse.SUPPRESS, parser_class=Parser)
     for name in named(words):
         module = module_of(name)
-        subparser = made.add_parser(name, description=module.DESCRIPTION, formatter_class=form)
+        subparser = made.add_parser(name, description=module.DESCRIPTION, formatter_class=Form)
         module.add_arguments(subparser)
         subparser.set_defaults(run=module.run)
     return parser

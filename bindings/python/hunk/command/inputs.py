@@ -10,7 +10,7 @@ import io
 import os
 import stat
 import sys
-from typing import BinaryIO, Callable, Iterator, List, NamedTuple, Optional, Tuple, Union
+from typing import BinaryIO, Callable, Iterator, List, Optional, Tuple, Union
 
 import hunk
 from hunk.command import reasons, words
@@ -42,12 +42,11 @@ class LargeError(hunk.HunkError):
 Failure = Union[hunk.HunkError, OSError, NoFile, MemoryError]
 
 
-class Found(NamedTuple):
+class Found:
     """A file by its name, or why what is there can't be listed."""
 
-    name: bytes
-    is_named: bool
-    error: Optional[OSError] = None
+    def __init__(self, name: bytes, is_named: bool, error: Optional[OSError] = None) -> None:
+        self.name, self.is_named, self.error = name, is_named, error
 
 
 def add_arguments(parser: argparse.ArgumentParser, wide: bool = True, partial: bool = False, json: str = "") -> None:
@@ -223,11 +222,11 @@ def say_refused(name: str, error: Failure, data: Optional[bytes] = None, wide: b
     say(name, explained(alone(error), data) + hint(error, data, wide))
 
 
-class Opened(NamedTuple):
+class Opened:
     """What stands in a file, and the bytes that were read of it, which may spell that otherwise."""
 
-    file: hunk.File
-    data: bytes
+    def __init__(self, file: hunk.File, data: bytes) -> None:
+        self.file, self.data = file, data
 
 
 def opened_whole(found: Found, wide: bool, partial: bool = False) -> Optional[Opened]:

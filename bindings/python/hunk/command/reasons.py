@@ -1,7 +1,5 @@
 """The reasons for which files are refused, by their numbers. `docs/reasons` writes both tables from docs/reasons.tsv."""
 
-from __future__ import annotations
-
 from typing import NamedTuple, Optional
 
 import hunk

@@ -3,11 +3,13 @@
 from __future__ import annotations
 
 import argparse
-from typing import Any, Dict, Iterator, Optional
+from typing import TYPE_CHECKING, Any, Dict, Iterable, Iterator, Optional
 
 import hunk
 from hunk.command import inputs, jsonlines, words
-from hunk.command.layout import Layout
+
+if TYPE_CHECKING:
+    from hunk.command.layout import Place
 
 NAME = "size"
 HELP = "how many bytes of memory files need, as GNU size prints it"
@@ -33,9 +35,16 @@ def row(sizes: list[int], name: str) -> str:
     return "\t".join([*(f"{it:7}" for it in sizes), f"{total:7}", f"{total:7x}", name])
 
 
+def placed(file: hunk.File, base: Optional[int]) -> Iterable[Place]:
+    """The hunks of a file, one after the other. Totals begin sooner without the module."""
+    from hunk.command.layout import Layout
+
+    return Layout(file, base or 0).places.values()
+
+
 def print_hunks(name: str, file: hunk.File, base: Optional[int]) -> None:
     """The SysV form of a file."""
-    places = Layout(file, base or 0).places.values()
+    places = placed(file, base)
     rows = [["section", "size", "addr", "memory"]]
     for place in places:
         it = place.hunk
@@ -52,7 +61,7 @@ def print_hunks(name: str, file: hunk.File, base: Optional[int]) -> None:
 
 def hunk_objects(name: str, file: hunk.File, base: Optional[int]) -> Iterator[Dict[str, Any]]:
     """The same of each hunk as an object. Without a base it has no address."""
-    for place in Layout(file, base or 0).places.values():
+    for place in placed(file, base):
         it = place.hunk
         kind = it.kind.name if it.kind else None
         yield {"name": name, "unit": it.unit, "hunk": it.number, "kind": kind, "bytes": it.size,

@@ -85,7 +85,7 @@ def found_below(names: Iterable[str]) -> Iterator[Found]:
     last = None
     for found in heapq.merge(*each, key=lambda it: it.name):
         if found.name != last:
-            yield found._replace(is_named=found.name == inputs.STANDARD_INPUT)
+            yield Found(found.name, found.name == inputs.STANDARD_INPUT, found.error)
         last = found.name
 
 
