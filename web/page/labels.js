@@ -92,6 +92,6 @@ export class Labels {
     const hunk = lastAt(starts, at);
     const found = this.nearest(hunk, at - starts[hunk]);
     if (!found) return "";
-    return found.name + (found.past === 0 ? "" : ` + ${hex(found.past)}`);
+    return found.name + (found.past === 0 ? "" : ` + ${hex(found.past, 1)}`);
   }
 }

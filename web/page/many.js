@@ -11,7 +11,7 @@ import { toneOf } from "./reasons.js";
 import { meaningOfClass } from "./words.js";
 
 const COLUMNS = [
-  { field: "file", name: "file", isRest: true, least: 10 },
+  { field: "file", name: "file", isRest: true, least: 10, wanted: 22 },
   { field: "bytes", name: "bytes", isNumber: true },
   { field: "class", name: "class" },
   { field: "hunks", name: "hunks", isNumber: true, isOptional: true, leaves: 5 },

@@ -20,12 +20,12 @@ export class Missing {
     box.querySelector("button").addEventListener("click", () => save(this.grid.csv(), "undefined.csv", "text/csv"));
   }
 
-  /** Shows names, each with the lines of the files that need it. */
+  /** Shows names, each with the lines of the files that need it. A table begins with none of them. */
   show(missing) {
     this.box.hidden = missing.length === 0;
     this.head.textContent = `${counted(missing.length, "name")} that no file here defines`;
     const cells = ({ name, needing }) => [name, needing.length.toLocaleString("en"), needing[0].file];
     const pick = (i) => this.open(missing[i].needing[0]);
-    this.grid.show({ count: missing.length, cells: (i) => cells(missing[i]), pick }, true);
+    this.grid.show({ count: missing.length, cells: (i) => cells(missing[i]), pick }, missing.length > 0);
   }
 }

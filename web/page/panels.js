@@ -78,8 +78,9 @@ export class Panels {
     for (const id of ["copied-memory", "copied-file", "copied-list"]) $(id).textContent = "";
     const isListed = !file.about.refusal || file.front !== null;
     $("lists").hidden = !isListed;
-    this.#showFile();
+    // Without memory beside it the view of the file has another height, in which a fault is to be seen.
     this.#showMemory();
+    this.#showFile();
     this.#showMap();
     if (isListed) this.lists.show(file);
     this.used = this.fileView;

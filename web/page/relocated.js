@@ -22,17 +22,19 @@ function valueOf(file, row) {
   return contents.place(number, row.offset + LONG - 1) === undefined ? undefined : longAt(file.bytes, place);
 }
 
-/** An offset of a hunk: by the symbol before it, or by the hunk where there is none. */
-function placeText(file, unit, hunk, offset) {
+/** An offset of a hunk: by the symbol before it, with so many digits, or by the hunk where there is none. */
+function placeText(file, unit, hunk, offset, digits = 1) {
   if (offset === undefined) return "";
   const number = file.contents().number(unit, hunk);
   const found = number === undefined ? null : file.symbols().nearest(number, offset);
   if (!found) return `${file.table ? hunk : `${unit}.${hunk}`} + ${hex(offset)}`;
-  return found.past === 0 ? found.name : `${found.name} + ${hex(found.past, 1)}`;
+  return found.past === 0 ? found.name : `${found.name} + ${hex(found.past, digits)}`;
 }
 
-const sourceText = (file, row) => placeText(file, row.unit, row.hunk, row.offset);
-const targetText = (file, row) => placeText(file, row.unit, row.target, valueOf(file, row));
+const sourceText = (file, row, digits) => placeText(file, row.unit, row.hunk, row.offset, digits);
+const targetText = (file, row, digits) => placeText(file, row.unit, row.target, valueOf(file, row), digits);
+/** All digits, so that offsets behind one symbol are sorted as numbers. */
+const DIGITS = 8;
 
 /** What is a number in a list, for its order; what is not there comes first. */
 const orNone = (number) => number ?? -1;
@@ -42,7 +44,10 @@ const CELLS = {
   at: [(file, row) => hex(file.inFile(textPlace(row.place))), (_, row) => row.place],
   hunk: [(file, row) => (file.table ? row.hunk : `${row.unit}.${row.hunk}`), (_, row) => row.unit * UNIT + row.hunk],
   offset: [(_, row) => hex(row.offset), (_, row) => row.offset],
-  source: [(file, row) => ({ text: sourceText(file, row), chip: hunkColour(row.hunk) }), sourceText],
+  source: [
+    (file, row) => ({ text: sourceText(file, row), chip: hunkColour(row.hunk) }),
+    (file, row) => sourceText(file, row, DIGITS),
+  ],
   target: [(_, row) => ({ text: row.target, chip: hunkColour(row.target) }), (_, row) => row.unit * UNIT + row.target],
   "of it": [
     (file, row) => {
@@ -51,7 +56,10 @@ const CELLS = {
     },
     (file, row) => orNone(valueOf(file, row)),
   ],
-  "leads to": [(file, row) => ({ text: targetText(file, row), chip: hunkColour(row.target) }), targetText],
+  "leads to": [
+    (file, row) => ({ text: targetText(file, row), chip: hunkColour(row.target) }),
+    (file, row) => targetText(file, row, DIGITS),
+  ],
   kind: [(_, row) => blockName(row.kind), (_, row) => blockName(row.kind)],
 };
 

@@ -21,10 +21,10 @@ document.head.append(Object.assign(document.createElement("style"), {
 const measured = (text) => Math.ceil(drawing.measureText(String(text).replace(/\d/g, "0")).width) + SLACK;
 
 export class Widths {
-  /** `columns`: {name, isNumber, isRest, least, isOptional, leaves}, of which those with `isRest` share the rest of the
-   * room by what is in them. Texts are whole, or where a column says so have that many ems at least. One that is
-   * optional leaves while nothing is in it; others leave a table that is too narrow for all, those of the lowest
-   * `leaves` first. */
+  /** `columns`: {name, isNumber, isRest, least, wanted, isOptional, leaves}, of which those with `isRest` share the rest
+   * of the room by what is in them. Texts are whole, or where a column says so have `least` ems at least, and `wanted`
+   * while others can leave. One that is optional leaves while nothing is in it; others leave a table that is too narrow
+   * for all, those of the lowest `leaves` first. */
   constructor(box, columns) {
     const { fontFamily } = getComputedStyle(box);
     drawing.font = `600 12px ${fontFamily}`;
@@ -32,6 +32,8 @@ export class Widths {
     this.columns = columns;
     this.heads = columns.map(({ name }) => measured(name));
     this.widths = [];
+    /** Those for which others leave. */
+    this.wanted = [];
     /** Those in which no text is cut. */
     this.whole = [];
   }
@@ -39,6 +41,7 @@ export class Widths {
   /** Begins anew, for other rows. */
   clear() {
     this.widths = this.heads.map((head, i) => (this.columns[i].isOptional ? 0 : head));
+    this.wanted = [...this.widths];
     this.whole = [...this.widths];
   }
 
@@ -55,11 +58,15 @@ export class Widths {
     const em = parseFloat(fontSize);
     for (const row of rows) {
       row.forEach((cell, i) => {
-        const { least } = this.columns[i];
+        const { least, wanted = least } = this.columns[i];
         if ((cell.text ?? cell) === "") return;
         const width = measured(cell.text ?? cell) + (cell.chip ? CHIP : 0);
-        this.widths[i] = Math.max(this.widths[i], this.heads[i], least ? Math.min(width, least * em) : width);
-        this.whole[i] = Math.max(this.whole[i], this.heads[i], width);
+        const grow = (widths, ems = Infinity) => {
+          widths[i] = Math.max(widths[i], this.heads[i], Math.min(width, ems * em));
+        };
+        grow(this.widths, least);
+        grow(this.wanted, wanted);
+        grow(this.whole);
       });
     }
     this.#apply();
@@ -73,7 +80,7 @@ export class Widths {
   /** How wide these columns are, with what is between them and at their sides. */
   #wide(columns) {
     const { gap, sides } = this.#around();
-    return columns.reduce((sum, i) => sum + this.widths[i], 0) + gap * (columns.length - 1) + sides;
+    return columns.reduce((sum, i) => sum + this.wanted[i], 0) + gap * (columns.length - 1) + sides;
   }
 
   #around() {
@@ -103,11 +110,12 @@ export class Widths {
     const { box } = this;
     const there = this.#fitting();
     this.columns.forEach((_, i) => box.classList.toggle(`left-${i}`, !there.includes(i)));
-    const { columns, whole, widths } = this;
+    const { columns, whole } = this;
+    const widths = this.#wide(there) <= box.clientWidth ? this.wanted : this.widths;
     const one = (i) => (columns[i].isRest ? `minmax(${widths[i]}px, ${whole[i]}fr)` : `${widths[i]}px`);
     box.style.setProperty("--columns", there.map(one).join(" "));
-    box.style.setProperty("--shares", there.map((i) => `minmax(0, ${this.widths[i]}fr)`).join(" "));
-    box.style.setProperty("--least", `${there.reduce((sum, i) => sum + this.widths[i], 0)}px`);
+    box.style.setProperty("--shares", there.map((i) => `minmax(0, ${widths[i]}fr)`).join(" "));
+    box.style.setProperty("--least", `${there.reduce((sum, i) => sum + widths[i], 0)}px`);
     box.style.setProperty("--gaps", String(there.length - 1));
     const gone = this.columns.filter((column, i) => this.widths[i] > 0 && !there.includes(i));
     const names = gone.map(({ name }) => name).join(", ");

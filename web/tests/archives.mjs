@@ -78,16 +78,22 @@ const OBJECTS = [
 
 async function compareNames(page, hold) {
   const missing = `const box = document.getElementById("many-missing");
-    const rows = [...box.querySelectorAll("[data-row]")];
     return box.hidden ? "none" : box.querySelector("summary").textContent`;
   await page.drop(OBJECTS);
   hold("how many names no file defines", "2 names that no file here defines", await page.in(missing));
+  hold("which of them are seen", "name,files that need it,the first,_g..,1,main.o,_h..,2,f.o", await page.in(SEEN));
   const text = Buffer.from(await page.in(SAVED), "hex").toString();
   hold("which", "name,files that need it,the first\r\n_g..,1,main.o\r\n_h..,2,f.o\r\n", text);
   hold("how many each file needs", "1,1,1", (await linesOf(page)).map((it) => it.undefined).join());
   await page.drop([["program", ONE], ["another", ONE]]);
   hold("of programs", "none", await page.in(missing));
 }
+
+/** The texts of the table of names that are seen whole, once it is opened. */
+const SEEN = `document.querySelector("#many-missing summary").click();
+  await new Promise((done) => setTimeout(done, 200));
+  return [...document.querySelectorAll("#many-missing [role=columnheader], #many-missing [data-row] > *")]
+    .filter((it) => it.checkVisibility() && it.scrollWidth <= it.clientWidth).map((it) => it.textContent).join()`;
 
 /** What the button of the names saves. */
 const SAVED = `const was = URL.createObjectURL;

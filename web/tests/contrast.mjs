@@ -1,6 +1,7 @@
 // How far apart colours are in the drawn page, as WCAG 2 counts it.
 
-const COLOURS = `
+/** `contrast(element)` of an element, and what it is made of. */
+export const COLOURS_OF = `
   const drawing = new OffscreenCanvas(1, 1).getContext("2d", { willReadFrequently: true });
   /** A colour in any form, as red, green, blue and how opaque it is, each of 0 to 1. */
   const parts = (colour) => {
@@ -30,7 +31,7 @@ const COLOURS = `
     return (high + 0.05) / (low + 0.05);
   };`;
 
-const WORST = `${COLOURS}
+const WORST = `${COLOURS_OF}
   const found = new Set([...document.querySelectorAll("input:not([type=file]), select")]);
   const walker = document.createTreeWalker(document.body, NodeFilter.SHOW_TEXT);
   for (let node = walker.nextNode(); node; node = walker.nextNode()) {
@@ -43,7 +44,7 @@ const WORST = `${COLOURS}
   const of = element.tagName + "." + element.className + " " + element.textContent.slice(0, 40);
   return { texts: texts.length, worst, of };`;
 
-const TINTS = `${COLOURS}
+const TINTS = `${COLOURS_OF}
   const cells = [...document.querySelectorAll(".hex b[style]")].map((it) => light(behind(it)));
   return { cells: cells.length, least: Math.min(...cells), most: Math.max(...cells) };`;
 
@@ -58,7 +59,7 @@ export const contrastOfGrey = (page) =>
   page.in(
     `const box = document.body.appendChild(document.createElement("p"));
      box.style = "color: #777; background: #fff";
-     ${COLOURS}
+     ${COLOURS_OF}
      const found = contrast(box).toFixed(2);
      box.remove();
      return found`,

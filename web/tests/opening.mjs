@@ -188,6 +188,10 @@ class Opening {
     hold("many files, the width that a phone takes", "the window", await page.in(wide));
     hold("many files, what is too low for a finger", "", await page.in(LOW));
     hold("the titles of a text that is not cut, and is cut", ", a name", await page.in(CUT));
+    await page.drop([["a program with some name", manyHunks(2)]]);
+    const lines = `const name = document.getElementById("file-name");
+      return name.clientHeight / parseFloat(getComputedStyle(name).lineHeight)`;
+    hold("how many lines the name of a file has on a phone", 1, await page.in(lines));
     await page.browser.touch(false);
     await page.browser.size(...DESK);
   }

@@ -1,6 +1,8 @@
 // The page on paper, and where the system has all colours.
 
+import { COLOURS_OF } from "./contrast.mjs";
 import { PROGRAM } from "./program.mjs";
+import { BOTH } from "./warned.mjs";
 
 /** What of the page is on paper: tabs, whether a list has its heads, over their columns, fields and buttons, whether
  * there are rows, cells that are cut, and whether it is wider than the paper. */
@@ -45,6 +47,11 @@ async function tryPaper(page, hold) {
   await page.browser.size(1280, 900);
 }
 
+/** How far the texts of a row that is chosen are from what is behind them, at least, and whether one has a tone. */
+const CHOSEN = `${COLOURS_OF}
+  const cells = [...document.querySelectorAll("#list-panel [aria-selected=true] > *")].filter((it) => it.textContent);
+  return [Math.min(...cells.map(contrast)) >= 4.5, cells.some((it) => it.className === "warn")].join()`;
+
 /** How parts differ from their neighbours where no colour of the page is left. */
 const FORCED = `
   document.getElementById("tab-hunks").click();
@@ -71,6 +78,8 @@ async function tryForced(page, hold) {
   await page.open("#example=offset-outside");
   const refused = `return getComputedStyle([...document.querySelectorAll("#file-hex .refused")].at(-1)).outlineStyle`;
   hold("the fault", "solid", await page.in(refused));
+  await page.open(`#hex=${BOTH}`);
+  hold("the texts of a row that is chosen, one with a tone", "true,true", await page.in(CHOSEN));
   await page.browser.forced(false);
 }
 

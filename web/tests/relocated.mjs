@@ -30,6 +30,9 @@ async function tryNames(page, hold) {
   // 20, and again; a group begins with its last. _main is at 72.
   const wanted = "_main + 5c > _draw + 8,_main + 48 > _draw + 4,_main + 34 > _draw";
   hold("relocations by symbols", wanted, await page.in(ways));
+  const line = `document.querySelector("#list-panel [data-row]").click();
+    return document.querySelector("#memory-item p > :last-child").textContent`;
+  hold("the first of them beside its bytes", "_main + 5c, the base of hunk 1 is added", await page.in(line));
   await page.drop([["object", OBJECT]]);
   hold("relocations of an object file", "_second + 4 > _data + 2", await page.in(ways));
   await page.hex(SUM);
@@ -44,7 +47,8 @@ async function tryNames(page, hold) {
 /** Whether texts rise, or fall. */
 const isRising = (texts) => texts.every((it, i) => i === 0 || texts[i - 1].toLowerCase() <= it.toLowerCase());
 
-/** By the name of a list: its columns, of which those of numbers are padded for the comparison. */
+/** By the name of a list: its columns, of which those of numbers are padded for the comparison, and so are offsets
+ * behind a symbol. */
 const SORTED = {
   relocations: ["at", "hunk", "offset", "source", "target", "of it", "leads to", "kind"],
   symbols: ["at", "hunk", "value", "address", "name"],
@@ -55,7 +59,9 @@ async function trySorted(page, hold) {
   for (const [list, columns] of Object.entries(SORTED)) {
     await page.in(open(list));
     for (const name of columns) {
-      const sorted = `${COLUMN} press(values[0]); return texts(values[0]).map((it) => it.padStart(4, "0"))`;
+      const sorted = `${COLUMN} press(values[0]);
+        const whole = (it) => it.replace(/ \\+ (.*)/, (_, past) => " + " + past.padStart(8, "0"));
+        return texts(values[0]).map(whole).map((it) => it.padStart(4, "0"))`;
       const isNumber = ["hunk", "target"].includes(name);
       const padded = isNumber ? sorted : sorted.replace(`.map((it) => it.padStart(4, "0"))`, "");
       hold(`${list} by ${name}`, true, isRising(await page.in(padded, name)));

@@ -1,6 +1,6 @@
 // What a row, a picture or a lead goes to is seen then: in the window, and in its view.
 
-import { PROGRAM } from "./program.mjs";
+import { DAMAGED, PROGRAM } from "./program.mjs";
 
 /** The size of the window, and whether it is touched. */
 const WINDOWS = [
@@ -30,6 +30,15 @@ const WANTED = {
   blocks: "memory: none, file: seen",
 };
 
+/** Whether the fault of a refused file is seen in its view. */
+const FAULT = `
+  await new Promise((done) => setTimeout(done, 100));
+  const box = document.getElementById("file-hex").getBoundingClientRect();
+  return [...document.querySelectorAll("#file-hex .refused")].some((it) => {
+    const { top, bottom } = it.getBoundingClientRect();
+    return top >= box.top - 1 && bottom <= box.bottom + 1;
+  })`;
+
 /** Goes by a lead beside the bytes of the file, from the first of the window. */
 const LEAD = `
   scrollTo(0, 0);
@@ -47,6 +56,8 @@ export async function compareSight(page, hold) {
       hold(`the last of ${list} at ${width} by ${height} pixels`, wanted, await page.in(LAST, list));
     }
     hold(`what a lead goes to at ${width} by ${height} pixels`, true, await page.in(LEAD));
+    await page.drop([["damaged", DAMAGED]]);
+    hold(`the fault behind another file at ${width} by ${height} pixels`, true, await page.in(FAULT));
   }
   await page.browser.touch(false);
   await page.browser.size(1280, 900);

@@ -27,6 +27,13 @@ const COLUMNS = `
   const columns = (line) => [...line.children].map((it) => Math.round(it.getBoundingClientRect().left - left)).join();
   return [".head", "[data-row]"].map((it) => columns(document.querySelector("#list-panel " + it)))`;
 
+/** The texts beside the bytes that the first row leads to which are cut. */
+const LINES = `
+  document.querySelector("#list-panel [data-row]").click();
+  const isCut = (it) => it.scrollWidth > it.clientWidth || it.scrollHeight > it.clientHeight + 1;
+  return [...document.querySelectorAll(".item-line p:first-child, .item-line p:first-child span")]
+    .filter((it) => it.checkVisibility() && isCut(it)).map((it) => it.textContent).join()`;
+
 /** How many lines of the views have letters, or names beside them, for which there is no room: 50 pixels for names. */
 const NARROW = `
   return [...document.querySelectorAll(".hex .line")].filter((line) => {
@@ -49,7 +56,7 @@ const FILES = [
 ];
 
 /** How much wider the table of many files is than its box, and the columns that are seen, whether the others are told,
- * and whether texts of many words are cut where there is room for all. */
+ * whether names are whole where other columns can leave, and all texts where there is room. */
 const MANY = `
   const grid = document.getElementById("many-list");
   const heads = [...grid.querySelectorAll("[role=columnheader]")];
@@ -57,7 +64,9 @@ const MANY = `
   const isTold = seen.length === heads.length || /^No room for .*sum/.test(grid.querySelector(".head").title);
   const areThere = ["file", "bytes", "class"].every((it) => seen.some((head) => head.textContent === it));
   const cut = [...grid.querySelectorAll("[data-row] > *")].filter((it) => it.scrollWidth > it.clientWidth);
-  return [grid.scrollWidth - grid.clientWidth, areThere, isTold, innerWidth < 1800 || cut.length === 0].join()`;
+  const areNamed = innerWidth < 800 || cut.every((it) => it.previousElementSibling);
+  const isWhole = innerWidth < 1800 || cut.length === 0;
+  return [grid.scrollWidth - grid.clientWidth, areThere, isTold, areNamed, isWhole].join()`;
 
 async function compareMany(page, hold) {
   for (const width of WINDOWS) {
@@ -65,7 +74,7 @@ async function compareMany(page, hold) {
     await page.browser.touch(width === 390);
     await page.open();
     await page.drop(FILES);
-    hold(`the table of many files at ${width} pixels`, "0,true,true,true", await page.in(MANY));
+    hold(`the table of many files at ${width} pixels`, "0,true,true,true,true", await page.in(MANY));
   }
   await page.browser.touch(false);
   await page.browser.size(1280, 900);
@@ -94,10 +103,12 @@ export async function compareWidths(page, hold) {
       hold(`a program, ${list} at ${width} pixels`, "0", await page.in(OPEN, list, restOf(list, width)));
       const [head, row] = await page.in(COLUMNS);
       hold(`a program, heads of ${list} at ${width} pixels`, head, row);
+      hold(`a program, what is told of ${list} at ${width} pixels`, "", await page.in(LINES));
     }
     hold(`lines of bytes without room at ${width} pixels`, 0, await page.in(NARROW));
     await page.open(`#hex=${BOTH}`);
     hold(`warnings at ${width} pixels`, "0", await page.in(OPEN, "warnings", restOf("warnings", width)));
+    hold(`what is told of warnings at ${width} pixels`, "", await page.in(LINES));
     await page.open("#example=two-findings");
     hold(`findings at ${width} pixels`, "0", await page.in(OPEN, "check"));
     const wide = await page.in("return document.documentElement.scrollWidth > innerWidth");
