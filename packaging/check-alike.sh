@@ -131,22 +131,21 @@ documents() {
     says 'AmigaDOS hunk load file, 1 hunk' "$2" file -b -m "$2" "$work/symbol"
   fi
 }
-# completes SHARE FOLDER: what bash and fish complete by what is in SHARE, and that zsh finds what is in FOLDER
+# completes PROGRAM LINES SHARE FOLDER: that bash and fish complete its command `re` to these, in order, by what is in SHARE, and
+# that zsh finds what is in FOLDER
 # shellcheck disable=SC2016
 completes() {
-  words='relocate
-rewrite'
-  if has "$1/bash-completion" bash; then
-    says "$words" "$1/bash-completion" bash -c \
-      '. "$1"; COMP_WORDS=(hunkinfo re) COMP_CWORD=1; _hunkinfo; printf "%s\n" "${COMPREPLY[@]}"' \
-      offer "$1/bash-completion/completions/hunkinfo"
+  if has "$3/bash-completion" bash; then
+    says "$2" "$3/bash-completion" bash -c \
+      '. "$2"; COMP_WORDS=("$1" re) COMP_CWORD=1; "_$1"; printf "%s\n" "${COMPREPLY[@]}" | sort' \
+      offer "$1" "$3/bash-completion/completions/$1"
   fi
-  if has "$1/fish" fish; then
-    says "$words" "$1/fish" fish --no-config -c 'source $argv[1]; complete -C "hunkinfo re" | string replace -r "\t.*" ""' \
-      "$1/fish/vendor_completions.d/hunkinfo.fish"
+  if has "$3/fish" fish; then
+    says "$2" "$3/fish" fish --no-config -c 'source $argv[2]; complete -C "$argv[1] re" | string replace -r "\t.*" "" | sort' \
+      "$1" "$3/fish/vendor_completions.d/$1.fish"
   fi
-  if has "$2" zsh; then
-    says _hunkinfo "$2" zsh -f -c 'fpath=($1 $fpath); autoload -Uz compinit; compinit -D -u; echo $_comps[hunkinfo]' offer "$2"
+  if has "$4" zsh; then
+    says "_$1" "$4" zsh -f -c 'fpath=($2 $fpath); autoload -Uz compinit; compinit -D -u; echo $_comps[$1]' offer "$1" "$4"
   fi
 }
 # clean FOLDER: that it says what is trusted, and nothing in it is open for others to write, or names a folder that a build or a

@@ -40,7 +40,8 @@ share=$unpacked/share/hunkinfo
 inputs "$share/vectors"
 clean "$unpacked"
 documents "$unpacked/share/man/man1/hunkinfo.1" "$unpacked/share/misc/magic.d/hunk"
-completes "$unpacked/share" "$unpacked/share/zsh/site-functions"
+completes hunkinfo 'relocate
+rewrite' "$unpacked/share" "$unpacked/share/zsh/site-functions"
 shares "$share"
 export PKG_CONFIG_PATH="$unpacked/lib/pkgconfig"
 glibc=$(glibc_of "$unpacked/bin/hunkinfo" "$unpacked/lib/libhunk.so")

@@ -20,7 +20,10 @@ tries_installed() {
   surveys /usr/bin/hunk
   shares $share
   documents /usr/share/man/man1/hunkinfo.1.gz /usr/share/misc/magic.d/hunk
-  completes /usr/share /usr/share/zsh/vendor-completions
+  completes hunkinfo 'relocate
+rewrite' /usr/share /usr/share/zsh/vendor-completions
+  completes hunk 'relocate
+relocs' /usr/share /usr/share/zsh/vendor-completions
   if has /usr/lib/python3 python3; then
     # Imported, so that Python keeps what it compiles.
     says 1 hunk.stream python3 -c 'import hunk.stream; print(1)'

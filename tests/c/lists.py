@@ -20,10 +20,16 @@ OBJECT = bytes.fromhex(
     "000003ec 00000003 00000000 00000000 00000004 00000008 00000000"
     "000003ef 01000001 5f610000 00000004 81000001 5f620000 00000002 00000000 00000004 83000001 5f630000 00000001 00000002 00000000"
     "000003f0 00000001 78000000 00000001 00000002 79797979 7a000000 00000002 00000000 000003f2")
-# A hunk of a longword with 100 symbols `a`, whose values are 0 to 99.
-NAMED = bytes.fromhex(
-    "000003f3 00000000 00000001 00000000 00000000 00000001 000003e9 00000001 00000000 000003f0"
-    + "".join(f"00000001 61000000 {it:08x}" for it in range(100)) + "00000000 000003f2")
+
+
+def named(count):
+    """A hunk of a longword with so many symbols `a`, whose values are 0, 1 and so on."""
+    return bytes.fromhex(
+        "000003f3 00000000 00000001 00000000 00000000 00000001 000003e9 00000001 00000000 000003f0"
+        + "".join(f"00000001 61000000 {it:08x}" for it in range(count)) + "00000000 000003f2")
+
+
+NAMED = named(100)
 LISTS = ("units", "blocks", "symbols", "relocations", "entries", "references", "findings", "warnings")
 SLICES = [slice(*it) for it in ((None,), (1, None), (None, -1), (1, 2), (2, 1), (None, None, 2), (None, None, -1), (-1, 0, -2))]
 
@@ -68,6 +74,21 @@ def opened_and_one():
     return symbols[7].value, symbols[50:][-1].value, len(symbols[3:9])
 
 
+def wrong_large():
+    """What is wrong with memory of megabytes: that of rows, and of a hunk."""
+    longs = 300_000
+    symbols, bss = hunk.read(named(30_000)).symbols, hunk.build([hunk.Part.hunk(longs), hunk.Part.bss(longs), hunk.Part.end()])
+    calls = {
+        "rows": ([*symbols.column("value")], [*range(30_000)]),
+        "rows of a slice": ([it.value for it in symbols[29_998:]], [29_998, 29_999]),
+        "pickled": (pickle.loads(pickle.dumps(symbols))[-1], symbols[-1]),
+        "a copy": (copy.deepcopy(symbols)[-1], symbols[-1]),
+        "a load": (hunk.load(bss), [bytes(4 * longs)]),
+        "strip": (hunk.strip(named(200_000))[-8:], bytes.fromhex("00000000 000003f2")),
+    }
+    return [f"large: {name}: {str(got)[-40:]}" for name, (got, wanted) in calls.items() if got != wanted]
+
+
 def wrong_calls():
     offsets = hunk.read(OBJECT).relocations
     asked = hunk.reading
@@ -100,7 +121,7 @@ def wrong_calls():
 
 def main():
     files = (OBJECT, NAMED, NAMED[:-4] + bytes(4))
-    wrong = [it for data in files for it in wrong_lists(hunk.read(data, partial=True))] + [*wrong_calls()]
+    wrong = [it for data in files for it in wrong_lists(hunk.read(data, partial=True))] + [*wrong_calls(), *wrong_large()]
     pickled = pickle.loads(pickle.dumps(hunk.read(OBJECT)))
     if pickled.entries != hunk.read(OBJECT).entries:
         wrong.append("a File that was pickled has other entries")

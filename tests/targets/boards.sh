@@ -1,7 +1,8 @@
 # shellcheck shell=sh disable=SC2154,SC2034
 # Systems without an operating system, under qemu, by semihosting: a part of tests/targets/run. The Cortex-M0's code runs on a
 # Cortex-M3: the one board with a Cortex-M0, the microbit, has memory for load.c of ports/small alone, which runs there. boards/
-# has what takes the place of a system, and the ceilings of sizes and stack. With MEASURE set each of these is printed.
+# has what takes the place of a system, and the ceilings of sizes and stack. With MEASURE set each of these is printed, and the
+# stack of each call.
 boards=$here/boards
 qemu='-nographic -monitor none -serial none -semihosting-config enable=on,target=native'
 
@@ -34,10 +35,6 @@ below() {
   [ "$MEASURE" ] && echo "$target: $1: $2 bytes"
   [ "$2" -le "$3" ] || lack "$target: $1: $2 bytes, where $3 are the most"
 }
-# bytes_of ARCHIVE: its code and constants
-bytes_of() {
-  "${tools}size" -A "$1" | awk '/^\.(text|rodata|srodata)/ { sum += $2 } END { print sum }'
-}
 # asks ARCHIVE NAME..: it needs these functions of others, and no more
 asks() {
   asked=$("${tools}nm" -u "$1" | awk '$1 == "U" { print $2 }' | LC_ALL=C sort | xargs)
@@ -56,10 +53,10 @@ END
   below libhunk.a "$(bytes_of "$archive")" "$most_library"
   below libhunk-stream.a "$(bytes_of "$stream")" "$most_stream"
   on_board stack tests/c/stack.c "$work/names" '' -DSHOW_STACK "-DALL=$most_other"
-  runs stack > "$work/stack.$target" || lack "a call needs more stack on $target than its ceiling"
-  [ -z "$MEASURE" ] || cat "$work/stack.$target"
+  runs stack > "$work/stack" || lack "a call needs more stack on $target than its ceiling"
+  [ -z "$MEASURE" ] || cat "$work/stack"
   for call in hunk_table hunk_begin hunk_feed hunk_end; do
-    below "the stack of $call" "$(awk -v call=$call '$2 == call && NF == 2 { print $1 }' "$work/stack.$target")" "$most_stack"
+    below "the stack of $call" "$(awk -v call=$call '$2 == call && NF == 2 { print $1 }' "$work/stack")" "$most_stack"
   done
   pass
 }
@@ -107,8 +104,10 @@ cortex() {
   archive=$top/ports/out/$target/libhunk.a
   more=${3:-}
   builds "$target"
+  starts "$target"
   small
   answers_alike
+  measured
 }
 # riscv: a board of 32-bit RISC-V, with picolibc, and memory for all tests
 riscv() {
@@ -123,17 +122,18 @@ riscv() {
   archive=$top/ports/out/$target/libhunk.a
   more=
   builds "$target"
+  starts "$target"
   small
   answers_alike
   tells "$work/names" answers 00021000
   tells "$work/all" streams 00021000
   tells "$work/names" places
+  measured
   [ -z "$few" ] || return 0
   on_board large tests/c/large.c "$work/names" ''
   runs large || lack "an answer about a large file is not what hunk.h says on $target"
   pass
 }
-MEASURE=${MEASURE:-}
 if has 'small systems of Arm' arm-none-eabi-gcc qemu-system-arm; then
   cortex cortex-m4 mps2-an386
   examples ports/small/mps2.ld mps2-an386

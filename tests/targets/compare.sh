@@ -29,15 +29,18 @@ same() {
 # builds TARGET..: by ports/build
 builds() {
   # shellcheck disable=SC2086
-  ports/build $built $few "$@" > "$work/log" 2>&1 || lack "$(tail -n 1 "$work/log")"
+  ports/build $built $brief "$@" > "$work/log" 2>&1 || lack "$(tail -n 1 "$work/log")"
 }
-# For each other machine its part sets `compiler`, with its options, `archive`, which is its libhunk.a, and `emulator`, which runs what the
-# compiler makes.
-# compiles NAME SOURCE: a test for that machine
+# For each other machine its part sets `compiler`, with its options, `archive`, which is its libhunk.a, `emulator`, which runs what the
+# compiler makes, and `tools`, what the names of its binutils begin with.
+# compiles NAME SOURCE OPTION..: a test for that machine
 compiles() {
+  name=$1
+  source=$2
+  shift 2
   # shellcheck disable=SC2086
-  $compiler -std=c99 -O1 -Ibindings/c "$2" "$archive" -pthread -o "$work/there-$1" > "$work/log" 2>&1 ||
-    lack "$2 by $compiler: $(head -n 1 "$work/log")"
+  $compiler -std=c99 -O1 -Ibindings/c "$@" "$source" "$archive" -pthread -o "$work/there-$name" > "$work/log" 2>&1 ||
+    lack "$source by $compiler: $(head -n 1 "$work/log")"
 }
 # told NAMES NAME WORD..: what tests/c/NAME.c prints on this machine of the files of these names, once for all machines
 told() {
@@ -79,6 +82,31 @@ compares() {
   # It asks for files of all sorts.
   both "$1" "$work/all" streams 00021000
   both "$1" "$work/names" places
+}
+# starts WHAT: the comparisons of a machine
+starts() {
+  subject=$1
+  before=$compared
+}
+# stack: no call needs more stack on the machine than hunk.h says
+stack() {
+  compiles stack tests/c/stack.c -DSHOW_STACK
+  $emulator "$work/there-stack" > "$work/stack" || lack "a call needs more stack than hunk.h says on $subject"
+  pass
+}
+# bytes_of ARCHIVE: its code and constants
+bytes_of() {
+  "${tools}size" -A "$1" | awk '/^\.(text|rodata|srodata|rdata)/ { sum += $2 } END { print sum }'
+}
+# measured [PROGRAM]: with MEASURE set, the bytes of the library and of the program, the most stack that a call takes, that of
+# hunk_load_packed after all others, and how many lines were compared
+measured() {
+  [ "$MEASURE" ] || return 0
+  awk -v what="$subject" -v library="$(bytes_of "$archive")" -v program="$(wc -c < "${1:-/dev/null}")" \
+    -v lines=$((compared - before)) '
+    $2 == "hunk_load_packed" { if ($1 > packed) packed = $1; next }
+    $1 > other { other = $1 }
+    END { print what ": library " library ", hunkinfo " program ", stack " other " / " packed ", lines " lines }' "$work/stack"
 }
 # holds WHAT NAME SAYING: a test of the library alone ends well on the machine
 holds() {

@@ -1,6 +1,6 @@
 # shellcheck shell=sh disable=SC2154,SC2034
 # Linux on other processors, under qemu: a part of tests/targets/run. With --few armv6 and x86_64-v1 are left to a full run, and
-# riscv64's library is held to the answers and the header alone. Debian's C library for 32-bit Arm is for ARMv7: for armv6 the
+# riscv64's library is held to the answers, the header and the stack alone. Debian's C library for 32-bit Arm is for ARMv7: for armv6 the
 # library is tried, not the program. The qemu64 of qemu has no SSSE3, SSE4 and POPCNT.
 
 # machine TARGET: sets what names its tools and its library; where a tool is not there, a line says so
@@ -14,6 +14,7 @@ machine() {
   target=$1
   emulator=qemu-$processor$options
   compiler="$system-gcc -static"
+  tools=$system-
   archive=$top/ports/out/$target/libhunk.a
   has "$target" "$system-gcc" "qemu-$processor"
 }
@@ -32,14 +33,15 @@ needed() {
 linux() {
   compares "$target"
   holds "$target" header 'the header and the library differ'
-  holds "$target" stack 'a call needs more stack than hunk.h says'
+  stack
   [ -z "$few" ] || return 0
   holds "$target" large 'an answer about a large file is not what hunk.h says'
 }
-# briefly: the answers, and the header
+# briefly: the answers, the header, and the stack
 briefly() {
   dumps "$target"
   holds "$target" header 'the header and the library differ'
+  stack
 }
 # program: holds the program to what the one of this machine says of every input
 program() {
@@ -63,7 +65,7 @@ installed() {
 }
 
 targets=
-for target in aarch64-unknown-linux-gnu armv7 riscv64 ${few:-armv6 x86_64-v1}; do
+for target in aarch64-unknown-linux-gnu armv7 riscv64 ${brief:-armv6 x86_64-v1}; do
   case $target in --*) continue ;; esac
   machine "$target" || continue
   targets="$targets $target"
@@ -72,10 +74,12 @@ done
 [ -z "$targets" ] || builds $targets
 for target in $targets; do
   machine "$target"
-  case $few$target in
+  starts "$target"
+  case $brief$target in
     --*riscv64) briefly ;;
     *) linux ;;
   esac
+  measured "$(find "ports/out/$target" -name hunkinfo)"
   [ "$few" ] || [ ! -x "ports/out/$target/hunkinfo" ] || program
   case $few$target in
     x86_64-v1) needed ;;
@@ -83,4 +87,4 @@ for target in $targets; do
     *) [ ! -x "ports/out/$target/hunkinfo" ] || installed ;;
   esac
 done
-[ -z "$few" ] || echo 'tests/targets: armv6, x86_64-v1, and hunkinfo on other processors, were not tried (--few)'
+[ -z "$brief" ] || echo 'tests/targets: armv6, x86_64-v1, and hunkinfo on other processors, were not tried (--few)'

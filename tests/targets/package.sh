@@ -56,12 +56,14 @@ bundles() {
 4e754e71' sh -c 'esbuild symbols.js --bundle --platform=node --format=esm --log-level=error --outfile=bundle/symbols.js &&
     cp node_modules/hunk-files/*.wasm bundle && node bundle/symbols.js "$0"' "$symbol"
 }
-# browses BROWSER TOOL: the page of the examples
+# browses BROWSER: the page of the examples. Node 20 has a WebSocket behind an option; an older one takes that of node-ws.
 browses() {
   mkdir "$work/$1"
+  option=--experimental-websocket
+  node $option -e 0 2> /dev/null || option=
   prints "index.html in $1" 'byte 24: CODE, 12 bytes
 byte 36: SYMBOL, 20 bytes
-byte 56: END, 4 bytes' node "$here/page.mjs" "$1" "$project" "$symbol" "$work/$1"
+byte 56: END, 4 bytes' node $option "$here/page.mjs" "$1" "$project" "$symbol" "$work/$1"
 }
 
 sed -n '/^## From JavaScript/,/^### /p' docs/CALLING.md | sed -n '/^```js$/,/^```$/p' | sed '1d;$d' |
@@ -84,7 +86,7 @@ if has 'the package of JavaScript' npm; then
     if has 'the package in a bundle' esbuild; then
       bundles
     fi
-    if has 'the package in Chromium' chromium; then
+    if has 'the package in Chromium' chromedriver; then
       browses chromium
     fi
     if has 'the package in Firefox' firefox-esr; then

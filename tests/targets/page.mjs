@@ -2,10 +2,9 @@
 // installed, beside index.html; it is served, FILE is picked, and what the page then shows is printed. WORK is for the browser.
 import { readFileSync } from "node:fs";
 import { createServer } from "node:http";
+import { Chromium, Firefox } from "../../web/tests/browser.mjs";
 
 const [name, project, file, work] = process.argv.slice(2);
-const { Chromium } = await import("../../web/tests/chromium.mjs");
-const { Firefox } = await import("../../web/tests/firefox.mjs");
 const TYPES = { html: "text/html", js: "text/javascript", wasm: "application/wasm" };
 
 /** Of a path that is not there the answer is 404, as for an icon. */

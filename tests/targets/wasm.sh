@@ -22,6 +22,7 @@ module() {
 }
 if has WebAssembly node; then
   builds wasm
+  starts wasm
   node "$here/layouts.mjs" > "$work/layouts.c"
   "$CC" -std=c11 -Ibindings/c -fsyntax-only "$work/layouts.c" || lack 'bindings/javascript/structs.js and hunk.h differ'
   pass
@@ -36,6 +37,10 @@ if has WebAssembly node; then
   fi
   if has hunk32.wasm wasm-opt; then
     module hunk32.wasm
+    if [ "$MEASURE" ]; then
+      (cd ports/out/wasm && stat -c '%n: %s bytes' hunk.wasm hunk32.wasm)
+      echo "$subject: lines $((compared - before))"
+    fi
     # shellcheck source=tests/targets/package.sh
     . "$here/package.sh"
   fi

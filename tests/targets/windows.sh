@@ -39,11 +39,13 @@ if has Windows x86_64-w64-mingw32-gcc wine wineserver; then
   builds "$windows"
   compiler="x86_64-w64-mingw32-gcc -I$here/windows -include $here/windows/words.h"
   archive=$top/ports/out/$windows/libhunk.a
+  tools=x86_64-w64-mingw32-
   emulator=$work/on-wine
   starts_wine
+  starts Windows
   compares Windows
   holds Windows header 'the header and the library differ'
-  holds Windows stack 'a call needs more stack than hunk.h says'
+  stack
   needed=$(x86_64-w64-mingw32-objdump -p "ports/out/$windows/hunk.dll" | sed -n 's/.*DLL Name: //p')
   [ "$needed" = ntdll.dll ] || lack "hunk.dll needs $needed"
   pass
@@ -51,6 +53,7 @@ if has Windows x86_64-w64-mingw32-gcc wine wineserver; then
   links hunk.dll "ports/out/$windows/libhunk.dll.a"
   # Its name of the stack probe is that of the C library of MSVC.
   links hunk.lib "ports/out/$windows/hunk.lib" -Wl,--defsym=__chkstk=___chkstk_ms
+  measured "ports/out/$windows/hunkinfo.exe"
   if [ "$few" ]; then
     echo 'tests/targets: hunkinfo was not tried on Windows (--few)'
   else
