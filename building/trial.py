@@ -1,7 +1,7 @@
 """Runs of the program without a proof, by `rt try`.
 
 That runs it in an empty folder, and prints what it has printed once it has ended. So names of files are passed with their whole
-path, and what the program writes is where the user called it."""
+path, and what the program writes is where the user called it; what it says names files as the user did."""
 
 import os
 import re
@@ -23,13 +23,13 @@ LONGEST = 64 << 20
 
 
 def with_whole_names(words, folder):
-    """The words, with each name of a file as one from the root, and these names."""
-    made, names, taken = words[:1], [], set(words[:1]) & NAMED
+    """The words, with each name of a file as one from the root, and what each of these was before."""
+    made, names, taken = words[:1], {}, set(words[:1]) & NAMED
     is_value = only_names = False
     for word in words[1:]:
         is_name = taken and word and not is_value and (only_names or word == "-" or word[0] != "-")
         made.append(os.path.join(folder, word) if is_name else word)
-        names += made[-1:] * bool(is_name)
+        names.update({made[-1]: word} if is_name else {})
         is_value = word in VALUED and not only_names
         only_names = only_names or word == "--"
     return made, names
@@ -39,6 +39,13 @@ def reads_input(words, names):
     """Whether the program reads standard input."""
     asks = set(words) & HELP or words[0] not in READS
     return "/dev/stdin" in names or not asks and not names
+
+
+def in_words_of_user(said, names):
+    """What the program said, with the names of files as the user wrote them."""
+    for name in sorted(names, key=len, reverse=True):
+        said = said.replace(os.fsencode(name), os.fsencode(names[name]))
+    return said
 
 
 def given_input():
@@ -71,6 +78,7 @@ def run_unproved(words, given):
 
 
 def try_program(words):
+    names = {}
     if words:
         words, names = with_whole_names(words, os.getcwd())
         given = given_input() if reads_input(words, names) else open(os.devnull, "rb")
@@ -88,5 +96,5 @@ def try_program(words):
         wrong = next(filter(ERROR.search, text), text[0] if text else f"`rt try` ended with status {status}")
         raise Failed(f"the program gave no answer: {wrong}\nbuild: {os.path.relpath(LOG)} has what the kit printed")
     put(printed)
-    tell(said[: ended.start()].decode(errors="replace"), end="")
+    tell(in_words_of_user(said[: ended.start()], names).decode(errors="replace"), end="")
     return status
