@@ -120,15 +120,20 @@ surveys() {
   printf 'findings\tBadTarget\t-\t0\t%s/findings\nload\t-\t-\t0\t%s/symbol\n' "$work/folder" "$work/folder" > "$work/rows"
   prints 'hunk survey' "$@" survey "$work/folder" < "$work/rows"
 }
-# documents MAN MAGIC: the manual, and the lines for file
+# documents MAGIC MANUAL..: the lines for file, and the manuals
 documents() {
-  if has "$1" man; then
-    man --warnings -E UTF-8 -l "$1" > "$work/said" 2> "$work/complained" || lack "$1: man fails"
-    [ ! -s "$work/complained" ] || lack "$1: $(head -n 1 "$work/complained")"
-    pass
-  fi
-  if has "$2" file; then
-    says 'AmigaDOS hunk load file, 1 hunk' "$2" file -b -m "$2" "$work/symbol"
+  magic=$1
+  shift
+  for manual in "$@"; do
+    if has "$manual" man; then
+      man --warnings -E UTF-8 -l "$manual" > "$work/said" 2> "$work/complained" || lack "$manual: man fails"
+      [ ! -s "$work/complained" ] || lack "$manual: $(head -n 1 "$work/complained")"
+      grep -q '^SEE ALSO' "$work/said" || lack "$manual has no end"
+      pass
+    fi
+  done
+  if has "$magic" file; then
+    says 'AmigaDOS hunk load file, 1 hunk' "$magic" file -b -m "$magic" "$work/symbol"
   fi
 }
 # completes PROGRAM LINES SHARE FOLDER: that bash and fish complete its command `re` to these, in order, by what is in SHARE, and

@@ -39,7 +39,7 @@ tar -C "$work/$machine" -xzf "$archive"
 share=$unpacked/share/hunkinfo
 inputs "$share/vectors"
 clean "$unpacked"
-documents "$unpacked/share/man/man1/hunkinfo.1" "$unpacked/share/misc/magic.d/hunk"
+documents "$unpacked/share/misc/magic.d/hunk" "$unpacked/share/man/man1/hunkinfo.1"
 completes hunkinfo 'relocate
 rewrite' "$unpacked/share" "$unpacked/share/zsh/site-functions"
 shares "$share"

@@ -19,7 +19,7 @@ tries_installed() {
   cmakes /usr/share/doc/hunkinfo/examples/c/cmake
   surveys /usr/bin/hunk
   shares $share
-  documents /usr/share/man/man1/hunkinfo.1.gz /usr/share/misc/magic.d/hunk
+  documents /usr/share/misc/magic.d/hunk /usr/share/man/man1/hunkinfo.1.gz /usr/share/man/man1/hunk.1.gz
   completes hunkinfo 'relocate
 rewrite' /usr/share /usr/share/zsh/vendor-completions
   completes hunk 'relocate
