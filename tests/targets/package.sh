@@ -56,7 +56,7 @@ bundles() {
 4e754e71' sh -c 'esbuild symbols.js --bundle --platform=node --format=esm --log-level=error --outfile=bundle/symbols.js &&
     cp node_modules/hunk-files/*.wasm bundle && node bundle/symbols.js "$0"' "$symbol"
 }
-# browses BROWSER: the page of the examples. Node 20 has a WebSocket behind an option; an older one takes that of node-ws.
+# browses BROWSER: the page of the examples. Without node-ws, node 20 has a WebSocket behind an option.
 browses() {
   mkdir "$work/$1"
   option=--experimental-websocket

@@ -2,8 +2,24 @@
 
 import { createRequire } from "node:module";
 
-/** That of node 21 or later, of node 20 with --experimental-websocket, or of Debian's node-ws. */
-const Socket = globalThis.WebSocket ?? createRequire(import.meta.url)("ws");
+/** Debian's node-ws, or null. A node of another source does not look where Debian has it. */
+function nodeWs() {
+  const require = createRequire(import.meta.url);
+  for (const name of ["ws", "/usr/share/nodejs/ws"]) {
+    try {
+      return require(name);
+    } catch (error) {
+      if (error.code !== "MODULE_NOT_FOUND") throw error;
+    }
+  }
+  return null;
+}
+
+/** Node's own is taken where node-ws is not there: that of node 20 masks each message from the 4,098th on by 0, as its
+ * random bytes have ended, and then Firefox closes the connection. */
+const fromDebian = nodeWs();
+const Socket = fromDebian ?? globalThis.WebSocket;
+const MOST = fromDebian ? Infinity : 4097;
 
 export class Bidi {
   #socket;
@@ -14,10 +30,11 @@ export class Bidi {
   constructor(socket) {
     this.#socket = socket;
     socket.onmessage = ({ data }) => this.#take(JSON.parse(data));
-    socket.onclose = () => this.#end("the browser has closed the connection");
+    socket.onclose = () => this.#end("the browser has closed the connection" + this.#why());
   }
 
   static open(url) {
+    if (!Socket) throw new Error("there is no WebSocket: install node-ws");
     return new Promise((done, fail) => {
       const socket = new Socket(url);
       socket.onopen = () => done(new Bidi(socket));
@@ -38,6 +55,11 @@ export class Bidi {
   #answer(id, message) {
     this.#waits.get(id)?.(message);
     this.#waits.delete(id);
+  }
+
+  /** What is known of a connection that the browser has closed. */
+  #why() {
+    return this.#last > MOST ? `, after ${MOST} messages of node's own WebSocket: install node-ws` : "";
   }
 
   #end(error) {
