@@ -1,6 +1,5 @@
 // The page on paper, and where the system has all colours.
 
-import { COLOURS_OF } from "./contrast.mjs";
 import { PROGRAM } from "./program.mjs";
 import { BOTH } from "./warned.mjs";
 
@@ -47,19 +46,26 @@ async function tryPaper(page, hold) {
   await page.browser.size(1280, 900);
 }
 
-/** How far the texts of a row that is chosen are from what is behind them, at least, and whether one has a tone. */
-const CHOSEN = `${COLOURS_OF}
+/** The colours that the system has for what is chosen: what is behind it, and its texts. */
+const SYSTEM = `
+  const probe = document.body.appendChild(document.createElement("p"));
+  probe.style.cssText = "forced-color-adjust: none; background: Highlight; color: HighlightText";
+  const { backgroundColor, color } = getComputedStyle(probe);
+  const [highlight, highlightText] = [backgroundColor, color];
+  probe.remove();`;
+
+/** Whether all texts of a row that is chosen have the colour of the system, and whether one has a tone. How far that is
+ * from what is behind it is for the system to say: Firefox has 2.9 of its own. */
+const CHOSEN = `${SYSTEM}
   const cells = [...document.querySelectorAll("#list-panel [aria-selected=true] > *")].filter((it) => it.textContent);
-  return [Math.min(...cells.map(contrast)) >= 4.5, cells.some((it) => it.className === "warn")].join()`;
+  const isOfSystem = cells.every((it) => getComputedStyle(it).color === highlightText);
+  return [isOfSystem, cells.some((it) => it.className === "warn")].join()`;
 
 /** How parts differ from their neighbours where no colour of the page is left. */
 const FORCED = `
   document.getElementById("tab-hunks").click();
   document.querySelectorAll("#list-panel [data-row]")[0].click();
-  const probe = document.body.appendChild(document.createElement("p"));
-  probe.style.cssText = "forced-color-adjust: none; background: Highlight";
-  const highlight = getComputedStyle(probe).backgroundColor;
-  probe.remove();
+  ${SYSTEM}
   const style = (selector) => getComputedStyle(document.querySelector(selector));
   return [
     style("#memory-hex .picked").backgroundColor === highlight,
