@@ -26,4 +26,4 @@ pub mod Supplies
 pub mod Written
 pub mod Cells
 pub mod Headers
-pub mod Runs
+pub mod UnitBlocks

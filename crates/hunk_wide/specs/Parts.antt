@@ -8,7 +8,11 @@ use Rattle.hunk_grammar.specs.declared.position.OpenHunk.{OpenHunk}
 use Rattle.hunk_grammar.specs.declared.position.Position.{Position}
 use Rattle.hunk_grammar.specs.declared.position.Position.TheVariants as positions
 use Rattle.hunk_grammar.specs.declared.object_position.ObjectPosition.{ObjectPosition}
+use Rattle.hunk_grammar.specs.declared.object_position.ObjectPosition.TheVariants as places
+use Rattle.hunk_grammar.specs.declared.object_position.WordPlace.{WordPlace}
+use Rattle.hunk_grammar.specs.ObjectPositions as object
 use Rattle.hunk_grammar.specs.PhaseSteps.{longest_run}
+use Rattle.hunk_wide.specs.declared.position.FilePosition.{FilePosition}
 use Rattle.hunk_wide.specs.declared.position.FilePosition.TheVariants as files
 use Rattle.hunk_wide.specs.declared.spot.Spot.{Spot}
 use Rattle.hunk_wide.specs.declared.spot.Spot.TheVariants.{Long}
@@ -49,6 +53,23 @@ abbrev pub word_at : OpenHunk → Bool → Position
 word_at o true = positions.Body o phases.FirstBlock
 word_at o false = positions.Body o phases.BlockWord
 
+-- a longword of an object file at this position
+abbrev pub object_at : ObjectPosition → Spot
+object_at p = Long (files.Object p)
+
+-- Where a block stands: in this hunk of a load file, or in an object file, where the next block word stands at this place.
+pub data Frame : Type 0 where
+  OfHunk : OpenHunk → Frame
+  OfUnit : WordPlace → Frame
+
+-- in the block, at this phase
+abbrev pub phase_at : Frame → Phase → FilePosition
+phase_at (OfHunk o) phase = files.Load (positions.Body o phase)
+phase_at (OfUnit place) phase = files.Object (places.Block place phase)
+
+abbrev pub in_block : Frame → Phase → Spot
+in_block f phase = Long (phase_at f phase)
+
 -- the longword that the bytes begin with
 abbrev pub front_word : List ℕ → ℕ
 front_word bytes = from_be_bytes w32 (slice_index_or bytes 0 0 ∷ slice_index_or bytes 1 0 ∷ slice_index_or bytes 2 0 ∷ slice_index_or bytes 3 0 ∷ [])
@@ -74,11 +95,22 @@ is_content _ = false
 abbrev pub past : OpenHunk → Phase → OpenHunk
 past o phase = record { hunks = o.hunks; ahead = o.ahead; has_content = is_content phase || o.has_content }
 
+-- after the block, whose word leads to this phase
+abbrev pub past_block : Frame → Phase → Spot
+past_block (OfHunk o) phase = load_at (positions.Body (past o phase) phases.BlockWord)
+past_block (OfUnit place) phase = object_at (places.Word place)
+
 -- So many bytes are those of a block after its word, which leads to this phase.
 pub record IsBody (phase : Phase) (bytes : List ℕ) (size : ℕ) : Type 0 where
   pub whole : size ≤ length bytes
   pub begins : longest_run phase ≡ 0
-  pub as_is : (o : OpenHunk) → AsIs (load_at (positions.Body o phase)) (take size bytes) (load_at (positions.Body (past o phase) phases.BlockWord))
+  pub as_is : (f : Frame) → AsIs (in_block f phase) (take size bytes) (past_block f phase)
+
+-- So many bytes are those of an EXT entry.
+pub record IsEntry (bytes : List ℕ) (size : ℕ) : Type 0 where
+  pub word : 4 ≤ size
+  pub whole : size ≤ length bytes
+  pub as_is : (f : Frame) → AsIs (in_block f phases.ExtWord) (take size bytes) (in_block f phases.ExtWord)
 
 -- So many bytes are those of a block of the hunk, or of its END, after which this one stands so.
 pub record IsBlock (o : OpenHunk) (bytes : List ℕ) (size : ℕ) (is_end : Bool) (next : OpenHunk) : Type 0 where
@@ -86,15 +118,18 @@ pub record IsBlock (o : OpenHunk) (bytes : List ℕ) (size : ℕ) (is_end : Bool
   pub whole : size ≤ length bytes
   pub as_is : AsIs (load_at (word_at o false)) (take size bytes) (load_at (word_at next is_end))
 
--- a longword of an object file at this position
-abbrev pub object_at : ObjectPosition → Spot
-object_at p = Long (files.Object p)
-
--- So many bytes, a longword or more, are given out as they are, and what follows them is for this.
-pub record IsPart (s : Spot) (bytes : List ℕ) (size : ℕ) (next : Spot) : Type 0 where
+-- So many bytes are those of a block of an object file, or of the header of a unit, whose word stands at this place; the next
+-- word stands at that one.
+pub record IsUnitBlock (place : WordPlace) (bytes : List ℕ) (size : ℕ) (next : WordPlace) : Type 0 where
   pub word : 4 ≤ size
   pub whole : size ≤ length bytes
-  pub as_is : AsIs s (take size bytes) next
+  pub as_is : AsIs (object_at (places.Word place)) (take size bytes) (object_at (places.Word next))
+
+-- The same of what comes after its word, which leads to this position.
+pub record IsUnitBody (p : ObjectPosition) (bytes : List ℕ) (size : ℕ) (next : WordPlace) : Type 0 where
+  pub whole : size ≤ length bytes
+  pub begins : object.run p ≡ 0
+  pub as_is : AsIs (object_at p) (take size bytes) (object_at (places.Word next))
 
 -- a header that is whole up to its table, with the number of hunks, of which there are some
 pub record IsHeader (bytes : List ℕ) (hunks : ℕ) : Type 0 where

@@ -6,10 +6,10 @@
 #![tactic(auto)]
 
 mod behind;
+mod entries;
 mod expander;
 mod halves;
 mod laws;
-mod longs;
 mod parts;
 mod place;
 mod plain;
@@ -17,6 +17,7 @@ mod position;
 mod ready;
 mod spelling;
 mod spot;
+mod unit_blocks;
 mod units;
 mod writing;
 

@@ -9,10 +9,11 @@ ghost use Rattle.hunk_wide.specs.Parts.{AsIs, IsBlock, IsBody, IsHeader, IsNext,
 ghost use Rattle.hunk_wide.specs.Parts.{front_word, is_content, load_at, word_at};
 ghost use Rattle.hunk_wide.specs.declared.spot.Spot.TheVariants.{Long};
 
-use crate::longs::longs_at;
+use crate::entries::entries_size;
 use crate::position::FilePosition;
 use crate::spot::Given;
-use hunk_grammar::{OpenHunk, Phase, Position, TABLE_AT, TABLE_SIZE_AT};
+use crate::unit_blocks::unit_blocks_at;
+use hunk_grammar::{ObjectPosition, OpenHunk, Phase, Position, TABLE_AT, TABLE_SIZE_AT};
 use hunk_words::{BlockWord, CONTENT_LIMIT, HEADER_WORD, NAME_LIMIT, SizeWord};
 
 /// The number of the bytes of a header up to its table.
@@ -37,7 +38,8 @@ struct Block {
 }
 
 /// The header with its table, rows of that, or blocks, that the bytes begin with, where a longword
-/// stands at this position; in an object file longwords. It may be none, also where some are whole.
+/// stands at this position. In an object file it is blocks and headers of units. It may be none,
+/// also where some longwords are whole.
 #[inline(always)]
 pub(crate) fn run_at(position: FilePosition, bytes: &[u8]) -> Run
     ensures inside { result.size ≤ length bytes.now }
@@ -45,7 +47,8 @@ pub(crate) fn run_at(position: FilePosition, bytes: &[u8]) -> Run
 {
     match position {
         FilePosition::Load(position) => load_run_at(position, bytes),
-        FilePosition::Object(position) => longs_at(position, bytes),
+        FilePosition::Object(ObjectPosition::Word(place)) => unit_blocks_at(place, bytes),
+        FilePosition::Object(_) => nothing(position),
     }
 }
 
@@ -269,7 +272,7 @@ fn has_content_after(phase: Phase, has_content: bool) -> bool
 
 /// How many bytes come after the word of a block, where they are all there.
 #[inline(always)]
-fn body_size(phase: Phase, bytes: &[u8]) -> Option<usize>
+pub(crate) fn body_size(phase: Phase, bytes: &[u8]) -> Option<usize>
     requires { 4 ≤ length bytes.now }
     ensures { IfSome result (λ size. IsBody phase bytes.now size) }
 {
@@ -280,13 +283,14 @@ fn body_size(phase: Phase, bytes: &[u8]) -> Option<usize>
         Phase::LongCount => counted_size(front_word(bytes), bytes),
         Phase::EntryWord => symbols_size(bytes),
         Phase::GroupCount => groups_size(bytes),
+        Phase::ExtWord => entries_size(bytes),
         _ => None,
     }
 }
 
 /// The size of a count, and of so many longwords, where they are all there.
 #[inline(always)]
-fn counted_size(longs: u32, bytes: &[u8]) -> Option<usize>
+pub(crate) fn counted_size(longs: u32, bytes: &[u8]) -> Option<usize>
     ensures { IfSome result (λ size. (size ≡ 4 + 4 * longs) × (size ≤ length bytes.now)) }
 {
     let size = 4 + 4 * longs as usize;

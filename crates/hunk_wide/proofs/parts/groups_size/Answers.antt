@@ -1,8 +1,6 @@
 use Rattle.std.proofs.Common.{◌≡◌, ℕ, ◌+◌, ◌-◌, ◌*◌, ◌≤◌, List, length, take, drop, refl, sym, subst, ◌∙◌, arith}
 use Rattle.hunk_grammar.specs.declared.phase.Phase.TheVariants as phases
-use Rattle.hunk_grammar.specs.declared.position.OpenHunk.{OpenHunk}
-use Rattle.hunk_grammar.specs.declared.position.Position.TheVariants as positions
-use Rattle.hunk_wide.specs.Parts.{AsIs, front_word, load_at}
+use Rattle.hunk_wide.specs.Parts.{AsIs, Frame, front_word, in_block}
 use Rattle.hunk_wide.proofs.AsIs.{group_as_is, groups_end, part_as_is}
 use Rattle.hunk_wide.proofs.Written.{part_length}
 use Rattle.hunk_wide.proofs.parts.groups_size.Goals as goal
@@ -14,7 +12,7 @@ returns-then-count-eq0 c =
     record {
       whole = omega arith;
       begins = refl;
-      as_is = λ o. part_as_is _ _ _ c.args.bytes.now at 4 (c.groups.invariant.as_is o) (groups_end o rest (omega (arith, part_length at c.args.bytes.now)) (sym c.front_word-count.ensures ∙ c.if-count-eq0.true));
+      as_is = λ f. part_as_is _ _ _ c.args.bytes.now at 4 (c.groups.invariant.as_is f) (groups_end f rest (omega (arith, part_length at c.args.bytes.now)) (sym c.front_word-count.ensures ∙ c.if-count-eq0.true));
     }
 
 pub groups-preserved : goal.groups-preserved
@@ -23,11 +21,11 @@ groups-preserved c =
     let rest : List ℕ = take (length c.args.bytes.now - at) (drop at c.args.bytes.now) in
     record {
       inside = omega arith;
-      as_is = λ o. part_as_is _ _ _ c.args.bytes.now at _ (c.groups.invariant.as_is o) (one o rest c.front_word-count.result c.front_word-count.ensures c.if-count-eq0.false (omega (arith, part_length at c.args.bytes.now)));
+      as_is = λ f. part_as_is _ _ _ c.args.bytes.now at _ (c.groups.invariant.as_is f) (one f rest c.front_word-count.result c.front_word-count.ensures c.if-count-eq0.false (omega (arith, part_length at c.args.bytes.now)));
     }
   where
-    one : (o : OpenHunk) (rest : List ℕ) (w : ℕ) → w ≡ front_word rest → (w ≡ 0 → ⊥) → 8 + 4 * (w) ≤ length rest
-        → AsIs (load_at (positions.Body o phases.GroupCount)) (take (8 + 4 * (w)) rest) (load_at (positions.Body o phases.GroupCount))
-    one o rest w e some whole =
-        subst (λ (w : ℕ). AsIs (load_at (positions.Body o phases.GroupCount)) (take (8 + 4 * (w)) rest) (load_at (positions.Body o phases.GroupCount))) (sym e)
-        (group_as_is o rest (λ none. some (e ∙ none)) (subst (λ (w : ℕ). 8 + 4 * (w) ≤ length rest) e whole))
+    one : (f : Frame) (rest : List ℕ) (w : ℕ) → w ≡ front_word rest → (w ≡ 0 → ⊥) → 8 + 4 * (w) ≤ length rest
+        → AsIs (in_block f phases.GroupCount) (take (8 + 4 * (w)) rest) (in_block f phases.GroupCount)
+    one f rest w e some whole =
+        subst (λ (w : ℕ). AsIs (in_block f phases.GroupCount) (take (8 + 4 * (w)) rest) (in_block f phases.GroupCount)) (sym e)
+        (group_as_is f rest (λ none. some (e ∙ none)) (subst (λ (w : ℕ). 8 + 4 * (w) ≤ length rest) e whole))
