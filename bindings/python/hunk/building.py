@@ -5,11 +5,15 @@ from __future__ import annotations
 import struct
 from functools import lru_cache
 from itertools import accumulate
-from typing import Any, NamedTuple, Sequence, Tuple
 
 from hunk.errors import HunkError
 from hunk.library import BYTES, OK, ROOM, address_of, bytes_of, call, number_of, refusal, room, rows_of
 from hunk.rows import MEMORY, Data
+from hunk.tuples import NamedTuple
+
+TYPE_CHECKING = False
+if TYPE_CHECKING:
+    from typing import Any, Sequence, Tuple
 
 _parts = call("hunk_parts", *BYTES, *ROOM)
 
@@ -56,7 +60,7 @@ class Part(NamedTuple):
     word: int = 0
     value: int = 0
     content: bytes = b""
-    offsets: Tuple[int, ...] = ()
+    offsets: tuple[int, ...] = ()
 
     @classmethod
     def hunk(cls, longs: int, memory: str = "any", attributes: int = 0) -> Part:

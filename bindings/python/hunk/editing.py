@@ -2,11 +2,14 @@
 
 from __future__ import annotations
 
-from typing import Iterable, Iterator, List, NamedTuple, Tuple
-
 from hunk.building import BSS, Part, build, parts
 from hunk.library import bytes_of, number_of
 from hunk.rows import MEMORY, Data, Kind
+from hunk.tuples import NamedTuple
+
+TYPE_CHECKING = False
+if TYPE_CHECKING:
+    from typing import Iterable, Iterator, List, Tuple
 
 LONGS, KIND = (1 << 30) - 1, (1 << 29) - 1
 CONTENTS = (Kind.CODE, Kind.DATA, Kind.BSS)

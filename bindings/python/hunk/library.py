@@ -11,14 +11,16 @@ import ctypes
 import os
 import sys
 from ctypes import c_char_p, c_uint8, c_uint32, c_uint64, c_void_p
-from typing import TYPE_CHECKING, Any, Callable, Optional, Union
 
 from hunk.errors import HunkError
 from hunk.rows import Data
 
+TYPE_CHECKING = False
 if TYPE_CHECKING:
     import mmap
+    from typing import Any, Callable, Optional, Union
 
+    Call = Callable[..., Any]
     Memory = Union[bytearray, mmap.mmap]
 
 # The number of the interface, which the names of shared libraries have where a system has several side by side.
@@ -30,9 +32,6 @@ OK, TRUNCATED, NO_BASE, NO_ROOM = 0, 26, 29, 32
 
 class _Answer(ctypes.Structure):
     _fields_ = [("number", c_uint32), ("hunk", c_uint32), ("place", c_uint64), ("count", c_uint64)]
-
-
-Call = Callable[..., Any]
 
 
 def found() -> str:

@@ -6,8 +6,8 @@ from __future__ import annotations
 import bisect
 import itertools
 import struct
+import sys
 from operator import eq
-from typing import TYPE_CHECKING, Any, Callable, ClassVar, Dict, Iterable, Iterator, Sequence, Tuple, TypeVar, Union, overload
 
 from hunk.rows import (
     FAULTS,
@@ -26,26 +26,39 @@ from hunk.rows import (
     row_of,
 )
 
+TYPE_CHECKING = False
 if TYPE_CHECKING:
+    from typing import Any, Callable, ClassVar, Dict, Iterable, Iterator, Tuple, Union, overload
+
     from hunk.library import Memory
 
-_Row = TypeVar("_Row")
-_Number = TypeVar("_Number", bound=int)
-Numbers = Iterable[Tuple[int, ...]]
+    Numbers = Iterable[Tuple[int, ...]]
+
+# Before 3.9 only the sequences of `typing` take the type of a row; the others take whatever it is.
+if TYPE_CHECKING or sys.version_info < (3, 9):
+    from typing import Sequence, TypeVar
+
+    _Row = TypeVar("_Row")
+else:
+    from collections.abc import Sequence
+
+    _Row = object
 
 
-class _Members(Dict[int, _Number]):
+class _Members(dict):  # type: ignore[type-arg]
     """The members of an enumeration by their numbers: it is slow to look them up itself."""
 
-    def __init__(self, kind: Callable[[int], _Number]) -> None:
+    def __init__(self, kind: Callable[[int], int]) -> None:
         self._kind = kind
 
-    def __missing__(self, number: int) -> _Number:
+    def __missing__(self, number: int) -> int:
         self[number] = member = self._kind(number)
         return member
 
 
-KINDS, ENTRY_KINDS, FLAGS = _Members(Kind), _Members(EntryKind), _Members(Flags)
+KINDS: Dict[int, Kind] = _Members(Kind)
+ENTRY_KINDS: Dict[int, EntryKind] = _Members(EntryKind)
+FLAGS: Dict[int, Flags] = _Members(Flags)
 
 
 class Layout:
@@ -102,11 +115,13 @@ class Rows(Sequence[_Row]):
     def __len__(self) -> int:
         return len(self._which)
 
-    @overload
-    def __getitem__(self, which: int) -> _Row: ...
+    if TYPE_CHECKING:
 
-    @overload
-    def __getitem__(self, which: slice) -> Rows[_Row]: ...
+        @overload
+        def __getitem__(self, which: int) -> _Row: ...
+
+        @overload
+        def __getitem__(self, which: slice) -> Rows[_Row]: ...
 
     def __getitem__(self, which: Union[int, slice]) -> Union[_Row, Rows[_Row]]:
         if isinstance(which, slice):

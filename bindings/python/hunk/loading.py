@@ -3,13 +3,15 @@
 from __future__ import annotations
 
 from ctypes import c_uint8, c_uint32, c_uint64
-from typing import TYPE_CHECKING, Any, Sequence, Union
 
 from hunk.library import BYTES, FEW, NO_ROOM, ROOM, accepted, address_of, bytes_of, call, number_of, room
 from hunk.rows import BUDGET, MEMORY, Data, Hunk, row_of
 from hunk.spellings import by_plain
 
+TYPE_CHECKING = False
 if TYPE_CHECKING:
+    from typing import Any, Sequence, Union
+
     from hunk.library import Memory
 
 # So many longwords has a row of hunk.h.

@@ -4,7 +4,6 @@ from __future__ import annotations
 
 import bisect
 from functools import cached_property
-from typing import Any, Optional, Type, TypeVar
 
 from hunk.errors import HunkError
 from hunk.library import BYTES, NO_ROOM, ROOM, accepted, address_of, bytes_of, call, room, rows_of
@@ -29,7 +28,11 @@ from hunk.rows import (
 )
 from hunk.spellings import by_plain, in_input, spelling
 
-_List = TypeVar("_List", bound=Rows[Any])
+TYPE_CHECKING = False
+if TYPE_CHECKING:
+    from typing import Any, Optional, Type, TypeVar
+
+    _List = TypeVar("_List", bound=Rows[Any])
 
 _check = call("hunk_check", *BYTES, *ROOM)
 _warnings = call("hunk_warnings", *BYTES, *ROOM, *ROOM)

@@ -1,10 +1,24 @@
 """What stands in a hunk file: the rows that the lists of a file have, and the numbers that have names."""
 
-# Annotations of named tuples are evaluated here: as texts, each is compiled when the package is imported.
-import enum
-from typing import Any, NamedTuple, Optional, Sequence, Union
+from __future__ import annotations
 
-Data = Union[bytes, bytearray, memoryview]
+import enum
+import sys
+from collections.abc import Sequence
+
+from hunk.tuples import NamedTuple
+
+TYPE_CHECKING = False
+if TYPE_CHECKING:
+    from typing import Any
+
+# Before 3.10 nothing but `typing` has a type that stands for several.
+if TYPE_CHECKING or sys.version_info < (3, 10):
+    from typing import Union
+
+    Data = Union[bytes, bytearray, memoryview]
+else:
+    Data = bytes | bytearray | memoryview
 # The most bytes that the hunks of a file may have in memory together, where a caller does not say.
 BUDGET = 1 << 24
 # The row of a class and its fields, some four times as quick as by the name of the class.
@@ -29,7 +43,7 @@ class _Number(enum.IntEnum):
     """A number of a file that has a name there. One without a name gets a member of its own."""
 
     @classmethod
-    def _missing_(cls, value: object) -> "Optional[_Number]":
+    def _missing_(cls, value: object) -> _Number | None:
         if not isinstance(value, int):
             return None
         member = int.__new__(cls, value)
@@ -75,7 +89,7 @@ class Hunk(NamedTuple):
     attributes: int
     unit: int = 0
     number: int = 0
-    kind: Optional[Kind] = None
+    kind: Kind | None = None
 
 
 class Unit(NamedTuple):

@@ -4,11 +4,16 @@ from __future__ import annotations
 
 import ctypes
 from ctypes import c_uint64
-from typing import Callable, TypeVar
 
 from hunk.errors import HunkError
 from hunk.library import BYTES, ROOM, accepted, address_of, bytes_of, call, number_of, room
 from hunk.rows import Data, Spelling
+
+TYPE_CHECKING = False
+if TYPE_CHECKING:
+    from typing import Callable, TypeVar
+
+    _Made = TypeVar("_Made")
 
 
 class _Spelling(ctypes.Structure):
@@ -19,7 +24,6 @@ _spelling_of = call("hunk_spelling_of", *BYTES, answer=_Spelling)
 _plain = call("hunk_plain", *BYTES, *ROOM)
 _input_place = call("hunk_input_place", *BYTES, c_uint64, answer=c_uint64)
 _strip = call("hunk_strip", *BYTES, *ROOM)
-_Made = TypeVar("_Made")
 
 
 def spelling(data: Data) -> Spelling:

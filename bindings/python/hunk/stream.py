@@ -10,13 +10,15 @@ from __future__ import annotations
 
 import itertools
 from ctypes import c_uint32, c_uint64, c_void_p
-from typing import TYPE_CHECKING, Any, BinaryIO
 
 from hunk.library import BYTES, NO_BASE, NO_ROOM, ROOM, TRUNCATED, accepted, address_of, bytes_of, call, number_of, refusal, room
 from hunk.loading import ROW, header_of, read_header, segments_of
 from hunk.rows import BUDGET, Data
 
+TYPE_CHECKING = False
 if TYPE_CHECKING:
+    from typing import Any, BinaryIO
+
     from hunk.library import Memory
 
 _LOADER_WORDS = 96 // 8

@@ -16,10 +16,13 @@ import contextlib
 import importlib
 import os
 import sys
-from typing import Any, Iterator, Optional, Sequence
 
 import hunk
 from hunk.command import inputs, streams
+
+TYPE_CHECKING = False
+if TYPE_CHECKING:
+    from typing import Any, Iterator, Optional, Sequence
 
 # The commands, by what people want.
 GROUPS = (

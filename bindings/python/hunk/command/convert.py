@@ -4,12 +4,15 @@ from __future__ import annotations
 
 import argparse
 import os
-from typing import Iterable, List, Optional
 
 import hunk
 from hunk.command import inputs, outputs, records, words
 from hunk.command.layout import Layout
 from hunk.command.sections import NoForm, are_zero, program, relocatable
+
+TYPE_CHECKING = False
+if TYPE_CHECKING:
+    from typing import Iterable, List, Optional
 
 NAME = "convert"
 HELP = "write a file as ELF, for gdb and Ghidra, or its memory as bytes, S-records or Intel hex"

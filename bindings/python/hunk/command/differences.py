@@ -5,13 +5,19 @@ from __future__ import annotations
 import argparse
 import collections
 import os
-from typing import Any, Hashable, Iterator, NamedTuple, Sequence, Tuple
 
 import hunk
 from hunk.command import inputs, show
 from hunk.command.documents import taking
 from hunk.command.layout import Layout, Place
 from hunk.command.words import counted, flag_words, hunk_text, kind_word, printed, text_of
+from hunk.tuples import NamedTuple
+
+TYPE_CHECKING = False
+if TYPE_CHECKING:
+    from typing import Any, Hashable, Iterator, Sequence, Tuple
+
+    Items = Sequence[Tuple[Hashable, str]]
 
 NAME = "diff"
 HELP = "what differs between two files: hunks, blocks, symbols, relocations, content"
@@ -24,7 +30,6 @@ SAME, DIFFER, TROUBLE = 0, 1, 2
 # Blocks whose content is in no other list.
 OWN = ("NAME", "DEBUG", "ADVISORY")
 PIECE = 4096
-Items = Sequence[Tuple[Hashable, str]]
 
 
 def add_arguments(parser: argparse.ArgumentParser) -> None:

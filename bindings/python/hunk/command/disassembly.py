@@ -3,13 +3,17 @@
 from __future__ import annotations
 
 from bisect import bisect_left, bisect_right
-from typing import Any, Iterator, NamedTuple
 
 import capstone
 
 import hunk
 from hunk.command.layout import Layout, Place
 from hunk.command.words import place_text, text_of
+from hunk.tuples import NamedTuple
+
+TYPE_CHECKING = False
+if TYPE_CHECKING:
+    from typing import Any, Iterator
 
 # Capstone may look at a few bytes after an instruction that is cut off.
 SPARE = 24

@@ -5,11 +5,16 @@ Each block is taken once, by the first file that it belongs to. So a damaged ima
 from __future__ import annotations
 
 import itertools
-import mmap
 from bisect import bisect_right
-from typing import Dict, Iterator, List, NamedTuple, Sequence, Set, Tuple, Union
 
-Bytes = Union[bytes, mmap.mmap]
+from hunk.tuples import NamedTuple
+
+TYPE_CHECKING = False
+if TYPE_CHECKING:
+    import mmap
+    from typing import Dict, Iterator, List, Sequence, Set, Tuple, Union
+
+    Bytes = Union[bytes, mmap.mmap]
 
 BLOCK, ENTRIES, LONGEST_NAME = 512, 72, 30
 # What the first longword of a block says that it is, and the last longword of a header.

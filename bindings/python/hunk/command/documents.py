@@ -8,13 +8,18 @@ import json
 import os
 import pkgutil
 import sys
-from typing import Any, Callable, Dict, Iterable, Iterator, List, Sequence
 
 import hunk
 from hunk.command import inputs
 from hunk.command.layout import CONTENTS
 from hunk.command.parted import of_part
 from hunk.command.words import flag_words, kind_word
+
+TYPE_CHECKING = False
+if TYPE_CHECKING:
+    from typing import Any, Callable, Dict, Iterable, Iterator, List, Sequence
+
+    Document = Dict[str, Any]
 
 NAME = "json"
 HELP = "what stands in files, a document of JSON each"
@@ -24,7 +29,6 @@ that is spelled otherwise (--wide) places are those of the plain spelling. Of a 
 --partial writes what stands before the fault, with its `refusal`. --parts adds all that the file says,
 as one flat list."""
 
-Document = Dict[str, Any]
 # The bytes that are kept free while a document is made, and how much of its text is written at once.
 SPARE, PIECE = 1 << 22, 1 << 16
 

@@ -3,7 +3,12 @@
 from __future__ import annotations
 
 import html
-from typing import Iterator, NamedTuple, Sequence
+
+from hunk.tuples import NamedTuple
+
+TYPE_CHECKING = False
+if TYPE_CHECKING:
+    from typing import Iterator, Sequence
 
 LEFT, WIDTH, HIGH, STEP, LINES = 84, 960, 26, 40, 40
 ALL_WIDE = LEFT + WIDTH + 16

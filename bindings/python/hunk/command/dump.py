@@ -4,11 +4,14 @@ from __future__ import annotations
 
 import argparse
 import sys
-from typing import Iterator, Optional
 
 import hunk
 from hunk.command import inputs, words
 from hunk.command.layout import Layout, Place, patches
+
+TYPE_CHECKING = False
+if TYPE_CHECKING:
+    from typing import Iterator, Optional
 
 NAME = "dump"
 HELP = "the bytes of each hunk in hexadecimal digits and as text, or disassembled"

@@ -4,11 +4,15 @@ from __future__ import annotations
 
 import argparse
 import os
-from typing import Any, Callable, Iterator, List, NamedTuple, Tuple
 
 import hunk
 from hunk.command import inputs, making, outputs, words
 from hunk.rows import MEMORY
+from hunk.tuples import NamedTuple
+
+TYPE_CHECKING = False
+if TYPE_CHECKING:
+    from typing import Any, Callable, Iterator, List, Tuple
 
 NAME = "edit"
 HELP = "write a file with other memory, symbols or contents of its hunks, or with more hunks"

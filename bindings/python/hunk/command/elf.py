@@ -5,7 +5,12 @@ bindings/javascript/elf.js writes the same bytes."""
 from __future__ import annotations
 
 import struct
-from typing import Dict, List, NamedTuple, Sequence
+
+from hunk.tuples import NamedTuple
+
+TYPE_CHECKING = False
+if TYPE_CHECKING:
+    from typing import Dict, List, Sequence
 
 RELOCATABLE, EXECUTABLE = 1, 2
 PROGBITS, SYMTAB, STRTAB, RELA, NOBITS = 1, 2, 3, 4, 8

@@ -3,11 +3,14 @@
 from __future__ import annotations
 
 import argparse
-from typing import Dict, Iterator, List
 
 from hunk.command.judging import FINDINGS as OF_FINDINGS
 from hunk.command.reasons import AT_0, AT_WORD, FINDINGS, ROWS, Reason
 from hunk.command.warning_kinds import KINDS, Kind
+
+TYPE_CHECKING = False
+if TYPE_CHECKING:
+    from typing import Dict, Iterator, List
 
 NAME = "explain"
 HELP = "what a reason or a warning means, and what to do about it"

@@ -7,7 +7,10 @@ import contextlib
 import os
 import re
 import stat
-from typing import Set
+
+TYPE_CHECKING = False
+if TYPE_CHECKING:
+    from typing import Set
 
 # What a name may have, and how much of what it is made from.
 OTHER = re.compile(r"[^A-Za-z0-9._!-]")

@@ -7,12 +7,17 @@ import ctypes
 import mmap
 import re
 from ctypes import c_uint8, c_uint64, c_void_p
-from typing import Callable, Iterator, List, NamedTuple, Optional, Tuple
 
 import hunk
-from hunk.command.disks import Bytes
 from hunk.command.layout import CONTENTS
 from hunk.library import NO_ROOM, OK, ROOM, TRUNCATED, accepted, address_of, call, room
+from hunk.tuples import NamedTuple
+
+TYPE_CHECKING = False
+if TYPE_CHECKING:
+    from typing import Callable, Iterator, List, Optional, Tuple
+
+    from hunk.command.disks import Bytes
 
 # The first longwords of a load file as far as it may be accepted: at most 65,536 hunks, of which the first is 0. The first longword
 # of an object file, and that of the length of its name.

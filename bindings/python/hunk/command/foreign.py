@@ -3,11 +3,14 @@ from docs/foreign.tsv: the first row that fits counts."""
 
 from __future__ import annotations
 
-from typing import NamedTuple, Optional
-
 import hunk
 from hunk.command.inputs import FIRST
 from hunk.command.layout import CONTENTS
+from hunk.tuples import NamedTuple
+
+TYPE_CHECKING = False
+if TYPE_CHECKING:
+    from typing import Optional
 
 
 class Sign(NamedTuple):

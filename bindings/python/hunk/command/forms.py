@@ -6,15 +6,18 @@ from __future__ import annotations
 
 import json
 import re
-from typing import Any, Dict, List, Optional, Sequence
+
+TYPE_CHECKING = False
+if TYPE_CHECKING:
+    from typing import Any, Dict, List, Optional, Sequence
+
+    Row = Dict[str, Any]
 
 NUMBERS = ("byte", "rest")
 DIGITS = 20
 # What CSV has quotes around, as that of the page; a field as it is read, with what ends it: a comma, or the end of the line.
 QUOTED = '",\r\n'
 FIELD = re.compile(r'(?:"((?:[^"]|"")*)"|([^",\r\n]*))(?:,(?!\r\n)|\r\n\Z)')
-
-Row = Dict[str, Any]
 
 
 class Form:

@@ -10,10 +10,15 @@ import io
 import os
 import stat
 import sys
-from typing import BinaryIO, Callable, Iterator, List, Optional, Tuple, Union
 
 import hunk
 from hunk.command import reasons, words
+
+TYPE_CHECKING = False
+if TYPE_CHECKING:
+    from typing import BinaryIO, Callable, Iterator, List, Optional, Tuple, Union
+
+    Failure = Union[hunk.HunkError, OSError, "NoFile", MemoryError]
 
 # The library itself has no limit; this is that of the program hunkinfo.
 LIMIT = 67108864
@@ -37,9 +42,6 @@ class LargeError(hunk.HunkError):
     def __init__(self, error: hunk.HunkError, first: bytes) -> None:
         super().__init__(error.reason, error.number, error.place, error.hunk, error.meaning)
         self.first = first
-
-
-Failure = Union[hunk.HunkError, OSError, NoFile, MemoryError]
 
 
 class Found:

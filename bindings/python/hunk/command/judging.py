@@ -4,10 +4,14 @@ from __future__ import annotations
 
 import hashlib
 import os
-from typing import Callable, NamedTuple, Optional, Tuple
 
 import hunk
 from hunk.command import inputs, reasons
+from hunk.tuples import NamedTuple
+
+TYPE_CHECKING = False
+if TYPE_CHECKING:
+    from typing import Callable, Optional, Tuple
 
 LOAD, OBJECT, FINDINGS, WIDE = "load", "object", "findings", "wide"
 CLASSES = (LOAD, OBJECT, FINDINGS, WIDE, *reasons.CLASSES)

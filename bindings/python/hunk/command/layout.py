@@ -3,9 +3,13 @@
 from __future__ import annotations
 
 import itertools
-from typing import Dict, Iterator, List, NamedTuple, Tuple, Union
 
 import hunk
+from hunk.tuples import NamedTuple
+
+TYPE_CHECKING = False
+if TYPE_CHECKING:
+    from typing import Dict, Iterator, List, Tuple, Union
 
 CONTENTS = (hunk.Kind.CODE, hunk.Kind.DATA, hunk.Kind.BSS)
 COMMON = (hunk.EntryKind.COMMON, hunk.EntryKind.RELCOMMON)

@@ -3,13 +3,16 @@
 from __future__ import annotations
 
 import argparse
-from typing import Any, Dict, Iterator, Sequence
 
 import hunk
 from hunk.command import inputs, jsonlines, words
 from hunk.command.reasons import FINDINGS
 from hunk.command.warning_kinds import KINDS
 from hunk.rows import MEMORY
+
+TYPE_CHECKING = False
+if TYPE_CHECKING:
+    from typing import Any, Dict, Iterator, Sequence
 
 NAME = "lint"
 HELP = "what is suspicious in load files, and wrong in object files: a line each"

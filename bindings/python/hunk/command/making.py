@@ -4,10 +4,13 @@ from __future__ import annotations
 
 import os
 import sys
-from typing import Callable, Sequence
 
 import hunk
 from hunk.command import inputs, outputs, words
+
+TYPE_CHECKING = False
+if TYPE_CHECKING:
+    from typing import Callable, Sequence
 
 NOT_MADE, NO_CALL = 1, 2
 

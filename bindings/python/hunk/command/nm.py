@@ -3,11 +3,15 @@
 from __future__ import annotations
 
 import argparse
-from typing import Any, Dict, Iterator, NamedTuple, Optional
 
 import hunk
 from hunk.command import inputs, jsonlines, words
 from hunk.command.layout import COMMON, Layout
+from hunk.tuples import NamedTuple
+
+TYPE_CHECKING = False
+if TYPE_CHECKING:
+    from typing import Any, Dict, Iterator, Optional
 
 NAME = "nm"
 HELP = "the names of files with their values, as GNU nm prints them"

@@ -9,9 +9,12 @@ import itertools
 import os
 import stat
 import sys
-from typing import Iterable, Iterator, Tuple
 
 from hunk.command import inputs, streams, words
+
+TYPE_CHECKING = False
+if TYPE_CHECKING:
+    from typing import Iterable, Iterator, Tuple
 
 STANDARD_OUTPUT = b"-"
 WRITTEN, NOT_WRITTEN = 0, 3

@@ -5,15 +5,18 @@ hexadecimal digits. What is 0 or empty in most files stands there only where it 
 
 from __future__ import annotations
 
-from typing import Any, Callable, Dict
-
 import hunk
 from hunk.command.layout import CONTENTS
 from hunk.command.words import flag_words, kind_word
 from hunk.lists import FLAGS, KINDS
 from hunk.rows import MEMORY
 
-Made = Dict[str, Any]
+TYPE_CHECKING = False
+if TYPE_CHECKING:
+    from typing import Any, Callable, Dict
+
+    Made = Dict[str, Any]
+
 LONGS = (1 << 30) - 1
 DEFINITIONS, COMMONS = (0, 1, 2), (130, 137)
 

@@ -3,12 +3,15 @@
 from __future__ import annotations
 
 import argparse
-from typing import Iterator
 
 import hunk
 from hunk.command import drawing, inputs, words
 from hunk.command.drawing import Part, Strip
 from hunk.command.layout import Layout, Place, patches
+
+TYPE_CHECKING = False
+if TYPE_CHECKING:
+    from typing import Iterator
 
 NAME = "map"
 HELP = "a picture of the hunks, in the file and in memory, as SVG"

@@ -1,8 +1,13 @@
 """The reasons for which files are refused, by their numbers. `docs/reasons` writes both tables from docs/reasons.tsv."""
 
-from typing import NamedTuple, Optional
+from __future__ import annotations
 
 import hunk
+from hunk.tuples import NamedTuple
+
+TYPE_CHECKING = False
+if TYPE_CHECKING:
+    from typing import Optional
 
 
 class Reason(NamedTuple):

@@ -2,10 +2,13 @@
 
 from __future__ import annotations
 
-from typing import Iterable, Iterator, Tuple
+TYPE_CHECKING = False
+if TYPE_CHECKING:
+    from typing import Iterable, Iterator, Tuple
 
-# Bytes, and the address of the first.
-Part = Tuple[int, bytes]
+    # Bytes, and the address of the first.
+    Part = Tuple[int, bytes]
+
 S_BYTES, HEX_BYTES = 32, 16
 HEAD = b"HUNK"
 

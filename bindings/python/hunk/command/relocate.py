@@ -3,11 +3,14 @@
 from __future__ import annotations
 
 import argparse
-from typing import Iterator
 
 import hunk
 from hunk.command import inputs, outputs, words
 from hunk.command.layout import Layout
+
+TYPE_CHECKING = False
+if TYPE_CHECKING:
+    from typing import Iterator
 
 NAME = "relocate"
 HELP = "the bytes of hunks that are loaded at an address, as hunkinfo relocate, or as they are"

@@ -3,12 +3,15 @@
 from __future__ import annotations
 
 import argparse
-from typing import Any, Dict, Iterator, Sequence
 
 import hunk
 from hunk.command import inputs, jsonlines
 from hunk.command.layout import Layout, Patch, patches
 from hunk.command.words import hunk_text, place_text, text_of
+
+TYPE_CHECKING = False
+if TYPE_CHECKING:
+    from typing import Any, Dict, Iterator, Sequence
 
 NAME = "relocs"
 HELP = "each relocation, with its target and the symbol that stands there"

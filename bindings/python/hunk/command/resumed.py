@@ -8,11 +8,16 @@ import contextlib
 import io
 import os
 import stat
-from typing import Any, Callable, Iterator, Sequence, Tuple
 
 from hunk.command import streams
-from hunk.command.forms import NUMBERS, Form, Row
+from hunk.command.forms import NUMBERS, Form
 from hunk.command.judging import CLASSES
+
+TYPE_CHECKING = False
+if TYPE_CHECKING:
+    from typing import Any, Callable, Iterator, Sequence, Tuple
+
+    from hunk.command.forms import Row
 
 # More than any row has. A name of the command line may have 128 KiB, and there may be two, with five characters for a byte.
 LONGEST = 1 << 21

@@ -4,11 +4,14 @@ from __future__ import annotations
 
 import argparse
 import os
-from typing import List
 
 import hunk
 from hunk.command import inputs
 from hunk.command.inputs import Opened
+
+TYPE_CHECKING = False
+if TYPE_CHECKING:
+    from typing import List
 
 NAME = "same"
 HELP = "in what two files are the same: bytes, program, memory"

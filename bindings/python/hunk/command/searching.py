@@ -9,13 +9,18 @@ import mmap
 import os
 import stat
 import sys
-from typing import BinaryIO, Iterator, Set, Tuple, Union
 
 import hunk
 from hunk.command import extracting, inputs, reasons, words
-from hunk.command.disks import Bytes, Disk, is_image
+from hunk.command.disks import Disk, is_image
 from hunk.command.finding import Finder, Hit
 from hunk.command.progress import Progress
+
+TYPE_CHECKING = False
+if TYPE_CHECKING:
+    from typing import BinaryIO, Iterator, Set, Tuple, Union
+
+    from hunk.command.disks import Bytes
 
 NONE_FOUND, CANNOT_WRITE = 1, 3
 # Of what can't be mapped.

@@ -2,11 +2,13 @@
 
 from __future__ import annotations
 
-from typing import Dict, Iterator, List, Sequence
-
 import hunk
 from hunk.command import elf, words
 from hunk.command.layout import COMMON, Layout, Patch, patches
+
+TYPE_CHECKING = False
+if TYPE_CHECKING:
+    from typing import Dict, Iterator, List, Sequence
 
 # The name of a hunk's section, and its flags.
 FORMS = {hunk.Kind.CODE: (b".text", elf.ALLOC | elf.CODE), hunk.Kind.DATA: (b".data", elf.ALLOC | elf.WRITE),

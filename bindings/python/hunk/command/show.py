@@ -4,12 +4,15 @@ from __future__ import annotations
 
 import argparse
 import itertools
-from typing import Any, Iterator
 
 import hunk
 from hunk.command import inputs
 from hunk.command.layout import COMMON
 from hunk.command.words import flag_words, kind_word, text_of
+
+TYPE_CHECKING = False
+if TYPE_CHECKING:
+    from typing import Any, Iterator
 
 NAME = "show"
 HELP = "list the hunks and blocks of files, as hunkinfo show does"

@@ -3,12 +3,14 @@
 from __future__ import annotations
 
 import argparse
-from typing import TYPE_CHECKING, Any, Dict, Iterable, Iterator, Optional
 
 import hunk
 from hunk.command import inputs, jsonlines, words
 
+TYPE_CHECKING = False
 if TYPE_CHECKING:
+    from typing import Any, Dict, Iterable, Iterator, Optional
+
     from hunk.command.layout import Place
 
 NAME = "size"

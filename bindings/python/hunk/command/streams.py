@@ -6,7 +6,10 @@ import contextlib
 import io
 import os
 import sys
-from typing import Any, Optional
+
+TYPE_CHECKING = False
+if TYPE_CHECKING:
+    from typing import Any, Optional
 
 # Each descriptor, and what it gets where it is closed, so that no file gets its number: what can't be read, what can't be
 # written, and what goes nowhere.

@@ -4,10 +4,14 @@ from __future__ import annotations
 
 import hashlib
 import struct
-from typing import Dict, Iterator, List, NamedTuple, Optional, Sequence
 
 import hunk
 from hunk.command.layout import CONTENTS
+from hunk.tuples import NamedTuple
+
+TYPE_CHECKING = False
+if TYPE_CHECKING:
+    from typing import Dict, Iterator, List, Optional, Sequence
 
 
 class Sums(NamedTuple):

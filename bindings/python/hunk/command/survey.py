@@ -11,7 +11,6 @@ import itertools
 import os
 import sys
 import time
-from typing import Generator, Iterable, Iterator, List, Optional
 
 from hunk.command import inputs, words
 from hunk.command.inputs import Found
@@ -22,6 +21,10 @@ from hunk.command.reasons import MEANINGS, NOT_JUDGED, OUT_OF_MEMORY
 from hunk.command.resumed import TableError
 from hunk.command.table import Table
 from hunk.command.workers import MOST, Part, Workers
+
+TYPE_CHECKING = False
+if TYPE_CHECKING:
+    from typing import Generator, Iterable, Iterator, List, Optional
 
 NAME = "survey"
 HELP = "sort folders of unknown files by what they are: a row a file"

@@ -7,12 +7,16 @@ import contextlib
 import io
 import os
 import sys
-from typing import Any, Dict, List, Optional, Sequence, Set, Tuple
 
 from hunk.command import resumed, words
 from hunk.command.forms import Form
-from hunk.command.forms import Row as Fields
 from hunk.command.judging import Asked, Row
+
+TYPE_CHECKING = False
+if TYPE_CHECKING:
+    from typing import Any, Dict, List, Optional, Sequence, Set, Tuple
+
+    from hunk.command.forms import Row as Fields
 
 KEYS = ("class", "reason", "byte", "rest")
 SUMS = ("file", "program", "memory")

@@ -2,11 +2,14 @@
 
 from __future__ import annotations
 
-from typing import Any, Callable, Dict, List, Mapping, Tuple
-
 import hunk
-from hunk.command.parted import Made
 from hunk.rows import MEMORY
+
+TYPE_CHECKING = False
+if TYPE_CHECKING:
+    from typing import Any, Callable, Dict, List, Mapping, Tuple
+
+    from hunk.command.parted import Made
 
 KINDS, ENTRIES = {it.name: it for it in hunk.Kind}, {it.name: it for it in hunk.EntryKind}
 FLAGS = {"advisory": 1, "chip": 2, "fast": 4}

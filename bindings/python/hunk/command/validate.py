@@ -3,10 +3,13 @@
 from __future__ import annotations
 
 import argparse
-from typing import Any, Dict, Iterator
 
 import hunk
 from hunk.command import inputs, jsonlines, show
+
+TYPE_CHECKING = False
+if TYPE_CHECKING:
+    from typing import Any, Dict, Iterator
 
 NAME = "validate"
 HELP = "whether files are good, and the findings of object files, as hunkinfo validate"

@@ -7,9 +7,12 @@ import os
 import signal
 import sys
 import threading
-from typing import Any, Callable, Iterator, List, Optional, Sequence
 
 from hunk.command import streams
+
+TYPE_CHECKING = False
+if TYPE_CHECKING:
+    from typing import Any, Callable, Iterator, List, Optional, Sequence
 
 # As many as Windows can wait for at once.
 MOST = 61
