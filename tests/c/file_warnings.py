@@ -9,7 +9,7 @@ from unittest import mock
 
 sys.path.insert(0, str(pathlib.Path(__file__).resolve().parents[2] / "bindings/python"))
 import hunk
-from hunk.rows import WARNINGS
+from hunk.items import WARNINGS
 
 NAMES = ("OddOffset", "Twice", "Overlap", "InBss", "OutsideTarget", "SymbolOutside", "NoEntry", "MemoryIgnored")
 # A hunk of a longword, whose relocation leads a byte too far; and what is told of it.

@@ -5,11 +5,12 @@ import copy
 import pathlib
 import pickle
 import sys
+import typing
 from unittest import mock
 
 sys.path.insert(0, str(pathlib.Path(__file__).resolve().parents[2] / "bindings/python"))
 import hunk
-import hunk.lists
+import hunk.items
 import hunk.loading
 import hunk.reading
 
@@ -102,7 +103,7 @@ def wrong_calls():
         "places of names": ([OBJECT[it : it + 2] for it in names.column("name")], [b"_a", b"_b", b"_c"]),
         "references": ([[it.offset for it in entry.references] for entry in names], [[], [0, 4], [2]]),
         "entries of references": ([*hunk.read(OBJECT).references.column("entry")], [1, 1, 2]),
-        "rows that are made": (counted(hunk.lists, "row_of", opened_and_one), ((7, 99, 6), 2)),
+        "rows that are made": (counted(hunk.items, "row_of", opened_and_one), ((7, 99, 6), 2)),
         "read asks for no list": (counted(asked, "_symbols", lambda: hunk.read(NAMED).size)[1], 0),
         "a list asks once": (counted(asked, "_relocations", lambda: hunk.read(OBJECT).relocations)[1], 1),
         "a list is kept": (counted(asked, "_symbols", lambda: [it.symbols for it in [hunk.read(OBJECT)] * 3])[1], 1),
@@ -119,9 +120,32 @@ def wrong_calls():
             pass
 
 
+def wrong_tuples():
+    """Where the named tuples of the package are not as those of `typing`."""
+    kinds = (hunk.Hunk, hunk.Unit, hunk.Block, hunk.Symbol, hunk.Relocation, hunk.Reference, hunk.Entry, hunk.Finding, hunk.Warning,
+             hunk.Spelling, hunk.Part)
+    fields = {"size": 4, "memory": "any", "attributes": 0, "unit": 0, "number": 0, "kind": None}
+    it = hunk.Hunk(4, "any", 0)
+    parts = {
+        "fields": ((it._asdict(), it), (fields, (4, "any", 0, 0, 0, None))),
+        "defaults": (hunk.Hunk._field_defaults, {"unit": 0, "number": 0, "kind": None}),
+        "text": (repr(hunk.Reference(1, offset=2, width=3)), "Reference(place=1, offset=2, width=3)"),
+        "another field": (it._replace(size=8), (8, *it[1:])),
+        "pickled": (pickle.loads(pickle.dumps(it)), it),
+        "names": ([(kind.__name__, getattr(hunk, kind.__name__)) for kind in kinds], [(kind.__name__, kind) for kind in kinds]),
+        "what is told of each": ([kind.__name__ for kind in kinds if kind.__doc__.startswith(kind.__name__)], []),
+        "methods": (hunk.Part.end(), hunk.Part("block", hunk.Kind.END)),
+    }
+    # Before 3.10 Python has no `|` of types.
+    if sys.version_info >= (3, 10):
+        parts["types"] = [[*typing.get_type_hints(kind)] for kind in kinds], [[*kind._fields] for kind in kinds]
+    return [f"{name}: {got} where {wanted} is wanted" for name, (got, wanted) in parts.items() if got != wanted]
+
+
 def main():
     files = (OBJECT, NAMED, NAMED[:-4] + bytes(4))
-    wrong = [it for data in files for it in wrong_lists(hunk.read(data, partial=True))] + [*wrong_calls(), *wrong_large()]
+    wrong = [it for data in files for it in wrong_lists(hunk.read(data, partial=True))]
+    wrong += [*wrong_calls(), *wrong_large(), *wrong_tuples()]
     pickled = pickle.loads(pickle.dumps(hunk.read(OBJECT)))
     if pickled.entries != hunk.read(OBJECT).entries:
         wrong.append("a File that was pickled has other entries")

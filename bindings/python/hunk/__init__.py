@@ -27,26 +27,11 @@ if TYPE_CHECKING:
     from hunk.building import BuildError, Part, build, parts
     from hunk.editing import Edit, EditError
     from hunk.errors import HunkError
+    from hunk.items import Entry, EntryKind, Finding, Reference, Relocation, Symbol, Unit, Warning
     from hunk.loading import load, load_at, table
     from hunk.reading import File, check, read
     from hunk.lists import Rows
-    from hunk.rows import (
-        BUDGET,
-        Block,
-        Data,
-        Entry,
-        EntryKind,
-        Finding,
-        Flags,
-        Hunk,
-        Kind,
-        Reference,
-        Relocation,
-        Spelling,
-        Symbol,
-        Unit,
-        Warning,
-    )
+    from hunk.rows import BUDGET, Block, Data, Flags, Hunk, Kind, Spelling
     from hunk.spellings import input_place, plain, spelling, strip
 
 __version__ = "0.3.0"
@@ -91,26 +76,11 @@ _NAMES = {
     "building": ("BuildError", "Part", "build", "parts"),
     "editing": ("Edit", "EditError"),
     "errors": ("HunkError",),
+    "items": ("Entry", "EntryKind", "Finding", "Reference", "Relocation", "Symbol", "Unit", "Warning"),
     "lists": ("Rows",),
     "loading": ("load", "load_at", "table"),
     "reading": ("File", "check", "read"),
-    "rows": (
-        "BUDGET",
-        "Block",
-        "Data",
-        "Entry",
-        "EntryKind",
-        "Finding",
-        "Flags",
-        "Hunk",
-        "Kind",
-        "Reference",
-        "Relocation",
-        "Spelling",
-        "Symbol",
-        "Unit",
-        "Warning",
-    ),
+    "rows": ("BUDGET", "Block", "Data", "Flags", "Hunk", "Kind", "Spelling"),
     "spellings": ("input_place", "plain", "spelling", "strip"),
 }
 _PLACES = {name: module for module, names in _NAMES.items() for name in names}

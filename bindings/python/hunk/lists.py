@@ -3,28 +3,11 @@ millions. The numbers of one field stand side by side in a column."""
 
 from __future__ import annotations
 
-import bisect
-import itertools
 import struct
 import sys
 from operator import eq
 
-from hunk.rows import (
-    FAULTS,
-    WARNINGS,
-    Block,
-    Entry,
-    EntryKind,
-    Finding,
-    Flags,
-    Kind,
-    Reference,
-    Relocation,
-    Symbol,
-    Unit,
-    Warning,
-    row_of,
-)
+from hunk.rows import Block, Flags, Kind, row_of
 
 TYPE_CHECKING = False
 if TYPE_CHECKING:
@@ -45,7 +28,7 @@ else:
     _Row = object
 
 
-class _Members(dict):  # type: ignore[type-arg]
+class Members(dict):  # type: ignore[type-arg]
     """The members of an enumeration by their numbers: it is slow to look them up itself."""
 
     def __init__(self, kind: Callable[[int], int]) -> None:
@@ -56,9 +39,8 @@ class _Members(dict):  # type: ignore[type-arg]
         return member
 
 
-KINDS: Dict[int, Kind] = _Members(Kind)
-ENTRY_KINDS: Dict[int, EntryKind] = _Members(EntryKind)
-FLAGS: Dict[int, Flags] = _Members(Flags)
+KINDS: Dict[int, Kind] = Members(Kind)
+FLAGS: Dict[int, Flags] = Members(Flags)
 
 
 class Layout:
@@ -153,71 +135,9 @@ class Rows(Sequence[_Row]):
         return repr([*self])
 
 
-class Units(Rows[Unit]):
-    LAYOUT = Layout("place 8 name 8 name_bytes 8 hunks 8 reserved 8")
-
-    def _made(self, first: int, rows: Numbers) -> Iterator[Unit]:
-        data, = self._given
-        for place, at, count, hunks in rows:
-            yield row_of(Unit, (place, data[at : at + count], hunks))
-
-
 class Blocks(Rows[Block]):
     LAYOUT = Layout("place 8 bytes 8 unit 8 hunk 8 content 8 content_bytes 8 memory 8 items 8 kind 4 flags 4 reserved 8")
 
     def _made(self, first: int, rows: Numbers) -> Iterator[Block]:
         for place, size, unit, hunk, content, count, memory, items, kind, flags in rows:
             yield row_of(Block, (place, size, unit, hunk, KINDS[kind], FLAGS[flags], content, count, memory, items))
-
-
-class Symbols(Rows[Symbol]):
-    LAYOUT = Layout("place 8 unit 8 hunk 8 name 8 name_bytes 8 value 4 reserved 4")
-
-    def _made(self, first: int, rows: Numbers) -> Iterator[Symbol]:
-        data, = self._given
-        for place, unit, hunk, at, count, value in rows:
-            yield row_of(Symbol, (place, unit, hunk, value, data[at : at + count]))
-
-
-class Relocations(Rows[Relocation]):
-    LAYOUT = Layout("place 8 unit 8 hunk 8 kind 4 width 4 target 4 offset 4 reserved 8")
-
-    def _made(self, first: int, rows: Numbers) -> Iterator[Relocation]:
-        for place, unit, hunk, kind, width, target, offset in rows:
-            yield row_of(Relocation, (place, unit, hunk, KINDS[kind], width, target, offset))
-
-
-class References(Rows[Reference]):
-    LAYOUT = Layout("entry 8 place 8 offset 4 width 4 reserved 8")
-
-    def _made(self, first: int, rows: Numbers) -> Iterator[Reference]:
-        for row in rows:
-            yield row_of(Reference, row[1:])
-
-
-class Entries(Rows[Entry]):
-    LAYOUT = Layout("place 8 unit 8 hunk 8 name 8 name_bytes 8 references 8 value 4 kind 4 reserved 8")
-
-    def _made(self, first: int, rows: Numbers) -> Iterator[Entry]:
-        data, references = self._given
-        # References stand in the order of the entries, whose numbers they have.
-        left = iter(references[bisect.bisect_left(references.column("entry"), first) :])
-        for place, unit, hunk, at, size, count, value, kind in rows:
-            its = [*itertools.islice(left, count)]
-            yield row_of(Entry, (place, unit, hunk, ENTRY_KINDS[kind], value, data[at : at + size], its))
-
-
-class Findings(Rows[Finding]):
-    LAYOUT = Layout("place 8 unit 8 hunk 8 offset 4 fault 4 reserved 8")
-
-    def _made(self, first: int, rows: Numbers) -> Iterator[Finding]:
-        for place, unit, hunk, offset, fault in rows:
-            yield row_of(Finding, (place, unit, hunk, offset, FAULTS[fault]))
-
-
-class Warnings(Rows[Warning]):
-    LAYOUT = Layout("place 8 hunk 8 kind 4 offset 4 target 4 value 4 other 4 reserved 4")
-
-    def _made(self, first: int, rows: Numbers) -> Iterator[Warning]:
-        for place, hunk, kind, offset, target, value, other in rows:
-            yield row_of(Warning, (place, hunk, WARNINGS[kind], offset, target, value, other))

@@ -5,32 +5,21 @@ from __future__ import annotations
 import bisect
 from functools import cached_property
 
+# `hunk.items` is imported where one of its lists is first asked for.
+import hunk
 from hunk.errors import HunkError
 from hunk.library import BYTES, NO_ROOM, ROOM, accepted, address_of, bytes_of, call, room, rows_of
-from hunk.lists import KINDS, Blocks, Entries, Findings, References, Relocations, Rows, Symbols, Units, Warnings
+from hunk.lists import KINDS, Blocks, Rows
 from hunk.loading import table
-from hunk.rows import (
-    MEMORY,
-    WARNINGS,
-    Block,
-    Data,
-    Entry,
-    Finding,
-    Hunk,
-    Kind,
-    Reference,
-    Relocation,
-    Spelling,
-    Symbol,
-    Unit,
-    Warning,
-    row_of,
-)
+from hunk.rows import MEMORY, Block, Data, Hunk, Kind, Spelling, row_of
 from hunk.spellings import by_plain, in_input, spelling
 
 TYPE_CHECKING = False
 if TYPE_CHECKING:
     from typing import Any, Optional, Type, TypeVar
+
+    import hunk.items
+    from hunk.items import Entry, Finding, Reference, Relocation, Symbol, Unit, Warning
 
     _List = TypeVar("_List", bound=Rows[Any])
 
@@ -46,7 +35,8 @@ CONTENTS = (Kind.CODE, Kind.DATA, Kind.BSS)
 
 def check(data: Data) -> Rows[Finding]:
     """What is wrong with the offsets of an object file; of a load file nothing, or it is refused."""
-    return Findings(rows_of(_check, Findings.LAYOUT.size, bytes_of(data)))
+    findings = hunk.items.Findings
+    return findings(rows_of(_check, findings.LAYOUT.size, bytes_of(data)))
 
 
 class File:
@@ -92,7 +82,7 @@ class File:
 
     @cached_property
     def units(self) -> Rows[Unit]:
-        return self._rows(Units, _units, self.data)
+        return self._rows(hunk.items.Units, _units, self.data)
 
     @cached_property
     def _listed_blocks(self) -> Blocks:
@@ -106,40 +96,40 @@ class File:
 
     @cached_property
     def symbols(self) -> Rows[Symbol]:
-        return self._rows(Symbols, _symbols, self.data)
+        return self._rows(hunk.items.Symbols, _symbols, self.data)
 
     @cached_property
     def relocations(self) -> Rows[Relocation]:
-        return self._rows(Relocations, _relocations)
+        return self._rows(hunk.items.Relocations, _relocations)
 
     @cached_property
     def entries(self) -> Rows[Entry]:
         """The entries of EXT blocks, each with its references."""
-        return self._rows(Entries, _entries, self.data, self.references)
+        return self._rows(hunk.items.Entries, _entries, self.data, self.references)
 
     @cached_property
     def references(self) -> Rows[Reference]:
         """The references of all entries. Its column `entry` has the number of the entry that each is of."""
-        return self._rows(References, _references)
+        return self._rows(hunk.items.References, _references)
 
     @cached_property
     def findings(self) -> Rows[Finding]:
         """None of a file that is refused, as the target of a relocation may be a hunk after the fault."""
-        return Findings(bytearray()) if self.refusal else check(self.data)
+        return hunk.items.Findings(bytearray()) if self.refusal else check(self.data)
 
     @cached_property
     def warnings(self) -> Rows[Warning]:
         """What is suspicious in a load file. An object file has none, and, as above, a file that is refused has none."""
+        warnings, known = hunk.items.Warnings, hunk.items.WARNINGS
         if self.is_object or self.refusal:
-            return Warnings(bytearray())
-        longs, size = room(len(self.data) // 4 * 4), Warnings.LAYOUT.size
+            return warnings(bytearray())
+        longs, size = room(len(self.data) // 4 * 4), warnings.LAYOUT.size
         rows = rows_of(_warnings, size, self.data, address_of(longs), len(longs) // 4)
-        kinds = Warnings(rows).column("kind")
-        if WARNINGS.keys() >= {*kinds}:
-            return Warnings(rows)
+        kinds = warnings(rows).column("kind")
+        if known.keys() >= {*kinds}:
+            return warnings(rows)
         # A library that is newer than this package may have more kinds.
-        known = (rows[i * size : (i + 1) * size] for i, kind in enumerate(kinds) if kind in WARNINGS)
-        return Warnings(bytearray().join(known))
+        return warnings(bytearray().join(rows[i * size : (i + 1) * size] for i, kind in enumerate(kinds) if kind in known))
 
 
 def _before_fault(data: Data) -> File:

@@ -1,10 +1,9 @@
-"""What stands in a hunk file: the rows that the lists of a file have, and the numbers that have names."""
+"""What stands in a hunk file: its hunks and blocks as rows, and the numbers there that have names."""
 
 from __future__ import annotations
 
 import enum
 import sys
-from collections.abc import Sequence
 
 from hunk.tuples import NamedTuple
 
@@ -23,27 +22,15 @@ else:
 BUDGET = 1 << 24
 # The row of a class and its fields, some four times as quick as by the name of the class.
 row_of: Any = tuple.__new__
-# How the library numbers what a hunk asks for, and what is wrong with an offset.
+# How the library numbers what a hunk asks for.
 MEMORY = ("any", "chip", "fast", "attributes")
-FAULTS = {1: "BadTarget", 2: "OutsideHunk"}
-# How it numbers what is suspicious in a load file. `docs/warnings` writes this from docs/warnings.tsv.
-WARNINGS = {
-    1: "OddOffset",
-    2: "Twice",
-    3: "Overlap",
-    4: "InBss",
-    5: "OutsideTarget",
-    6: "SymbolOutside",
-    7: "NoEntry",
-    8: "MemoryIgnored",
-}
 
 
-class _Number(enum.IntEnum):
+class Number(enum.IntEnum):
     """A number of a file that has a name there. One without a name gets a member of its own."""
 
     @classmethod
-    def _missing_(cls, value: object) -> _Number | None:
+    def _missing_(cls, value: object) -> Number | None:
         if not isinstance(value, int):
             return None
         member = int.__new__(cls, value)
@@ -54,7 +41,7 @@ class _Number(enum.IntEnum):
         return self.name
 
 
-class Kind(_Number):
+class Kind(Number):
     """The type of a block. An advisory block may have any other number."""
 
     NAME, CODE, DATA, BSS = 0x3E8, 0x3E9, 0x3EA, 0x3EB
@@ -62,15 +49,6 @@ class Kind(_Number):
     EXT, SYMBOL, DEBUG, END = 0x3EF, 0x3F0, 0x3F1, 0x3F2
     DREL32, DREL16, DREL8 = 0x3F7, 0x3F8, 0x3F9
     RELRELOC32, ABSRELOC16 = 0x3FD, 0x3FE
-
-
-class EntryKind(_Number):
-    """The type of an EXT entry: SYMB, DEF and ABS define their name, all others refer to it."""
-
-    SYMB, DEF, ABS = 0, 1, 2
-    REF32, COMMON, REF16, REF8 = 129, 130, 131, 132
-    DEXT32, DEXT16, DEXT8 = 133, 134, 135
-    RELREF32, RELCOMMON, ABSREF16, ABSREF8 = 136, 137, 138, 139
 
 
 class Flags(enum.IntFlag):
@@ -92,14 +70,6 @@ class Hunk(NamedTuple):
     kind: Kind | None = None
 
 
-class Unit(NamedTuple):
-    """A unit of an object file, and how many hunks it has."""
-
-    place: int
-    name: bytes
-    hunks: int
-
-
 class Block(NamedTuple):
     """A block of a hunk: `bytes` from `place` on in the file, of which `content_bytes` from `content` on are its data or name.
 
@@ -115,73 +85,6 @@ class Block(NamedTuple):
     content_bytes: int
     memory: int
     items: int
-
-
-class Symbol(NamedTuple):
-    """A symbol of a SYMBOL block. Its value counts from the start of the hunk."""
-
-    place: int
-    unit: int
-    hunk: int
-    value: int
-    name: bytes
-
-
-class Relocation(NamedTuple):
-    """An offset of a hunk at which `width` bytes get the base of the hunk `target`."""
-
-    place: int
-    unit: int
-    hunk: int
-    kind: Kind
-    width: int
-    target: int
-    offset: int
-
-
-class Reference(NamedTuple):
-    """An offset of a hunk at which `width` bytes refer to what an entry names."""
-
-    place: int
-    offset: int
-    width: int
-
-
-class Entry(NamedTuple):
-    """An entry of an EXT block. `value` is that of a definition, or the bytes of a common block, else 0."""
-
-    place: int
-    unit: int
-    hunk: int
-    kind: EntryKind
-    value: int
-    name: bytes
-    references: Sequence[Reference]
-
-
-class Finding(NamedTuple):
-    """What is wrong with an offset of an object file: "BadTarget" or "OutsideHunk"."""
-
-    place: int
-    unit: int
-    hunk: int
-    offset: int
-    fault: str
-
-
-class Warning(NamedTuple):
-    """Something suspicious in a load file that is accepted, by its kind: docs/FORMAT.md has what each means.
-
-    `offset` is what is relocated, and `value` the longword there before, the value of a symbol, or the memory that a block
-    asks for, by its place in MEMORY. `other` is the other offset of an Overlap. What a kind does not have is 0."""
-
-    place: int
-    hunk: int
-    kind: str
-    offset: int
-    target: int
-    value: int
-    other: int
 
 
 class Spelling(NamedTuple):
