@@ -283,6 +283,8 @@ impl ObjectView<'_> {
             hunks: 0,
             bytes: 0,
         };
+        // The unit that is open, until its hunks are counted: only a relocation needs their number.
+        let mut uncounted = None;
         'checking: for item in self.items() {
             match item {
                 Item::Unit { number, view } => {
@@ -290,9 +292,10 @@ impl ObjectView<'_> {
                     spot = HunkContext {
                         unit: number,
                         hunk: 0,
-                        hunks: view.hunks(),
+                        hunks: 0,
                         bytes: 0,
                     };
+                    uncounted = Some(view);
                 }
                 Item::Hunk { unit, number, view } => {
                     spot = HunkContext {
@@ -302,7 +305,14 @@ impl ObjectView<'_> {
                         bytes: view.content_bytes(),
                     };
                 }
-                Item::Block { view, .. } => check_block(taker, spot, view),
+                Item::Block { view, .. } => {
+                    if let BodyView::Reloc(_) = view.body()
+                        && let Some(unit) = uncounted.take()
+                    {
+                        spot.hunks = unit.hunks();
+                    }
+                    check_block(taker, spot, view);
+                }
             }
         }
         units

@@ -1,12 +1,14 @@
-use Rattle.std.proofs.Common.{List, [], length, Some, ap, subst, arith, ◌∙◌}
+use Rattle.std.proofs.Common.{◌≡◌, rules, Option, None, ℕ, refl, sym, ap₂, List, [], length, Some, ap, subst, arith, ◌∙◌}
 use Rattle.std.proofs.lemmas.List.{length-map}
-use Rattle.hunk_blocks.specs.Placed.{Placed}
-use Rattle.hunk_files.specs.{Findings.{FindingValue, HunkContext}, InPlace.GivesPart, Items.{ItemValue, BlockItem, item_text}, ItemViews.{GivesItem, item_seen}}
-use Rattle.hunk_files.specs.{PlacedFindings.{block_findings_at, placed_findings}, declared.items.Item.Item}
+use Rattle.hunk_blocks.specs.{Placed.Placed, Values.{BlockBody, RelocGroup, Reloc}}
+use Rattle.hunk_files.specs.{Findings.{FindingValue, HunkContext}, InPlace.GivesPart, Items.{ItemValue, BlockItem, item_text}, ObjectFile.UnitValue, ItemViews.{GivesItem, item_seen}}
+use Rattle.hunk_files.specs.{PlacedFindings.{PlacedFinding, block_findings_at, body_findings_at, placed_findings}, declared.items.Item.Item}
 use Rattle.hunk_files.proofs.{findings.FindingCounts.findings_few, findings.FindingSteps.taken_on}
 use Rattle.hunk_files.proofs.findings.PlacedFindingLaws.{findings_placed, item_given, items_findings_at, items_found}
 use Rattle.hunk_files.proofs.cuts.UnitCounts.{begins_unit, fewer_units, units_counted, units_left}
 use Rattle.hunk_files.proofs.object.view.ObjectView.check_in_place.Goals as goal
+use Rattle.hunk_files.proofs.object.view.ObjectView.check_in_place.Goals.{in-Reloc+in-Some-take, in_default, in_default-via-in-Name-1, in_default-via-in-Reloc+in-None-1}
+use Rattle.hunk_files.proofs.object.view.ObjectView.check_in_place.Invariants.{counted}
 
 pub checking-init : goal.checking-init
 checking-init g c =
@@ -29,18 +31,42 @@ overflow_add-units g c =
       fewer_units c.args.self.now,
     )
 
+-- but for relocations, what is wrong does not depend on how many hunks the unit has
+same_uncounted : (s : HunkContext) (u : Option (Placed UnitValue)) (place word : ℕ) (body : BlockBody) → ((groups : List RelocGroup) → body ≡ Reloc groups → ⊥) → body_findings_at s place word body ≡ body_findings_at (counted s u) place word body
+same_uncounted s None place word body other = refl
+same_uncounted s (Some u) place word (Reloc groups) other = absurd (other groups refl)
+same_uncounted s (Some u) place word _ other = refl
+
 -- a block's findings are taken
 pub checking-preserved : goal.checking-preserved
 checking-preserved g c =
     let old = c.checking.item-iterator in
     let new = c.next.new.self in
     let block = c.in-Block.view in
-    let gives : GivesPart item_text old (Some (record { place = block.place; value = BlockItem c.in-Block.unit c.in-Block.hunk block.value })) new = subst (λ (item : Item). GivesItem old (Some item) new) c.in-Block.is c.in-Some.ensures.steps in (
+    let gives : GivesPart item_text old (Some (record { place = block.place; value = BlockItem c.in-Block.unit c.in-Block.hunk block.value })) new = subst (λ (item : Item). GivesItem old (Some item) new) c.in-Block.is c.in-Some.ensures.steps in
+    let spot = counted c.checking.spot c.checking.uncounted in
+    let found : HunkContext → List PlacedFinding = λ s. block_findings_at s block.place block.value in
+    let same : (counted c.match-body.spot c.match-body.uncounted ≡ spot) × (found c.match-body.spot ≡ found spot) = elim c.match-body.branch [
+      | in-Reloc+in-Some-take w ↦
+          let unit : Some w.in-Some-take.unit ≡ c.checking.uncounted = sym w.in-Some-take.is ∙ w.take.ensures.value in
+          let now : c.match-body.spot ≡ spot = w.spot-is ∙ ap (λ (n : ℕ). record { unit = c.checking.spot.unit; hunk = c.checking.spot.hunk; hunks = n; bytes = c.checking.spot.bytes }) w.hunks.ensures ∙ ap (counted c.checking.spot) unit in
+          (ap₂ counted now (w.uncounted-is ∙ w.take.ensures.after), ap found now)
+      | in_default w ↦ elim w.in_default.branch [
+        | in_default-via-in-Name-1 w' ↦
+            let other : (groups : List RelocGroup) → block.value.body ≡ Reloc groups → ⊥ = search rules in
+            (ap₂ counted w.spot-is (w.uncounted-is ∙ w'.uncounted-is), ap found w.spot-is ∙ same_uncounted c.checking.spot c.checking.uncounted block.place block.value.word block.value.body other)
+        | in_default-via-in-Reloc+in-None-1 w' ↦
+            let none : c.checking.uncounted ≡ None = search rules in
+            let now : c.match-body.spot ≡ spot = w.spot-is ∙ ap (counted c.checking.spot) (sym none) in
+            (ap₂ counted now (w.uncounted-is ∙ w'.uncounted-is ∙ w'.take.ensures.after), ap found now)
+      ]
+    ] in (
       tt,
       tt,
       omega (arith, c.checking.invariant.2, ap (λ (p : Placed (List ItemValue)). units_left p.value) gives.0),
-      taken_on g.T.Takes.takes g.met.T.Takes.more _ _ _ (block_findings_at c.checking.spot block.place block.value) (items_findings_at c.checking.spot new.place new.value) (items_findings_at c.checking.spot old.place old.value)
-          (placed_findings c.args.self.now) (item_given c.checking.spot old new _ gives) c.checking.invariant.3 c.check_block.ensures,
+      rw same.0
+          (taken_on g.T.Takes.takes g.met.T.Takes.more _ _ _ (found spot) (items_findings_at spot new.place new.value) (items_findings_at spot old.place old.value) (placed_findings c.args.self.now)
+          (item_given spot old new _ gives) c.checking.invariant.3 (subst (λ (fs : List PlacedFinding). g.T.Takes.takes c.checking.taker fs c.check_block.new.taker) same.1 c.check_block.ensures)),
     )
 
 pub returns-clause-few : goal.returns-clause-few
