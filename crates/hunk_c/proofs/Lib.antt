@@ -34,3 +34,4 @@ pub mod TableSizes
 pub mod Tabulated
 pub mod BlockRows
 pub mod Warned
+pub mod UnitRows

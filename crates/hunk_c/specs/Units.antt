@@ -1,7 +1,8 @@
 -- The units of an object file, in the caller's rows.
-use Rattle.std.specs.Prelude.{ℕ, ◌+◌, ◌*◌, List, [], ◌∷◌, length}
+use Rattle.std.specs.Prelude.{ℕ, ◌+◌, ◌*◌, List, [], ◌∷◌, length, Option, Some, None}
 use Rattle.hunk_words.specs.Longs.{bytes_of}
 use Rattle.hunk_blocks.specs.NameText.{before_zero}
+use Rattle.hunk_blocks.specs.Placed.{Placed}
 use Rattle.hunk_files.specs.Items.{ItemValue, UnitItem, item_text}
 use Rattle.hunk_files.specs.ObjectFile.{UnitValue, unit_header}
 use Rattle.hunk_files.specs.StandingBlocks.{file_items}
@@ -17,6 +18,15 @@ unit_row place u = record {
   hunks = length u.hunks;
   reserved = 0;
 }
+
+-- how many hunks the unit has that is open, where one is, and its row
+abbrev pub open_hunks : Option (Placed UnitValue) → ℕ
+open_hunks None = 0
+open_hunks (Some u) = length u.value.hunks
+
+abbrev pub open_rows : Option (Placed UnitValue) → List UnitRow
+open_rows None = []
+open_rows (Some u) = unit_row u.place u.value ∷ []
 
 -- those of the units among items, from this byte of the file on
 abbrev pub items_units : ℕ → List ItemValue → List UnitRow
