@@ -11,6 +11,7 @@ pub mod FromWide
 pub mod FromWords
 pub mod Leads
 pub mod AsIs
+pub mod Bodies
 pub mod BehindEnds
 pub mod ShortWords
 pub mod Placing

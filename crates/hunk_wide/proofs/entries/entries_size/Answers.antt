@@ -1,5 +1,6 @@
 use Rattle.std.proofs.Common.{ℕ, ◌-◌, List, length, take, drop, refl, sym, ◌∙◌, arith}
-use Rattle.hunk_wide.proofs.AsIs.{entries_end, part_as_is}
+use Rattle.hunk_wide.proofs.AsIs.{part_as_is}
+use Rattle.hunk_wide.proofs.Bodies.{entries_end}
 use Rattle.hunk_wide.proofs.Written.{part_length}
 use Rattle.hunk_wide.proofs.entries.entries_size.Goals as goal
 

@@ -2,7 +2,7 @@ use Rattle.std.proofs.Common.{suc, ◌∙◌, Some, refl, sym, ap, arith}
 use Rattle.hunk_words.specs.Bits.{name_longs}
 use Rattle.hunk_grammar.specs.declared.ext_shape.ExtShape.{ExtShape}
 use Rattle.hunk_grammar.specs.declared.ext_shape.ExtShape.TheVariants.{References, Common}
-use Rattle.hunk_wide.proofs.AsIs.{definition_over, referring_over}
+use Rattle.hunk_wide.proofs.Bodies.{definition_over, referring_over}
 use Rattle.hunk_wide.proofs.entries.entry_size.Goals as goal
 
 pub returns-in-Definition-2 : goal.returns-in-Definition-2

@@ -3,7 +3,7 @@ use Rattle.hunk_words.specs.Bits.{size_longs}
 use Rattle.hunk_grammar.specs.declared.phase.Phase.{Phase}
 use Rattle.hunk_grammar.specs.declared.phase.Phase.TheVariants as phases
 use Rattle.hunk_wide.specs.Parts.{IsBody, front_word}
-use Rattle.hunk_wide.proofs.AsIs.{bss_as_is, content_as_is, counted_as_is, counted_body, name_as_is}
+use Rattle.hunk_wide.proofs.Bodies.{bss_as_is, content_as_is, counted_as_is, counted_body, name_as_is}
 use Rattle.hunk_wide.proofs.parts.body_size.Goals as goal
 
 pub returns-in-ContentSize : goal.returns-in-ContentSize

@@ -1,7 +1,8 @@
 use Rattle.std.proofs.Common.{◌≡◌, ℕ, ◌+◌, ◌-◌, ◌*◌, ◌≤◌, List, length, take, drop, refl, sym, subst, ◌∙◌, arith}
 use Rattle.hunk_grammar.specs.declared.phase.Phase.TheVariants as phases
 use Rattle.hunk_wide.specs.Parts.{AsIs, Frame, front_word, in_block}
-use Rattle.hunk_wide.proofs.AsIs.{group_as_is, groups_end, part_as_is}
+use Rattle.hunk_wide.proofs.AsIs.{part_as_is}
+use Rattle.hunk_wide.proofs.Bodies.{group_as_is, groups_end}
 use Rattle.hunk_wide.proofs.Written.{part_length}
 use Rattle.hunk_wide.proofs.parts.groups_size.Goals as goal
 

@@ -2,7 +2,8 @@ use Rattle.std.proofs.Common.{◌≡◌, ℕ, ◌+◌, ◌-◌, ◌*◌, ◌≤�
 use Rattle.hunk_words.specs.Bits.{name_longs}
 use Rattle.hunk_grammar.specs.declared.phase.Phase.TheVariants as phases
 use Rattle.hunk_wide.specs.Parts.{AsIs, Frame, front_word, in_block}
-use Rattle.hunk_wide.proofs.AsIs.{symbol_as_is, symbols_end, part_as_is}
+use Rattle.hunk_wide.proofs.AsIs.{part_as_is}
+use Rattle.hunk_wide.proofs.Bodies.{symbol_as_is, symbols_end}
 use Rattle.hunk_wide.proofs.Written.{part_length}
 use Rattle.hunk_wide.proofs.parts.symbols_size.Goals as goal
 
