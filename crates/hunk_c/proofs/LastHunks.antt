@@ -6,9 +6,10 @@ use Rattle.hunk_grammar.specs.declared.phase.Phase.TheVariants as phases
 use Rattle.hunk_grammar.specs.declared.position.{OpenHunk.OpenHunk, Position.Position}
 use Rattle.hunk_grammar.specs.declared.position.Position.TheVariants as positions
 use Rattle.hunk_files.specs.Machines.{load_at}
-use Rattle.hunk_c.specs.FrontPlaces.{FindsNone, IsLast, find_hunk, hunk_between, longest_run, pass_longest_run}
+use Rattle.hunk_c.specs.FrontPlaces.{FindsNone, IsLast, PassesRows, find_hunk, hunk_between, longest_run, pass_longest_run}
 use Rattle.hunk_c.specs.declared.front.LoadPlace.{LoadPlace}
 use Rattle.hunk_c.proofs.LastPlaces.{FindsNoneIn, last_here, still_last, still_none}
+use Rattle.hunk_c.proofs.PassedRows.{none_before, none_in_rows, rows_on, rows_to}
 use Rattle.hunk_c.proofs.PassedRuns.{HasRuns, none_to, none_within, past_stride}
 
 -- ---- the last place so far
@@ -68,18 +69,25 @@ module _ (ws : List ℕ) (at end : ℕ) (p : Position) (last : Option LoadPlace)
       still_hunk ws at end last (omega (arith, inside)) h
       (none_within load.step longest_run pass_longest_run hunk_between load_runs positions.FirstLong ws at p here all w word n n_is after after_is end less whole)
 
-  -- It is passed.
-  module _ (less : at + 1 + n ≤ end) where
-    pub leads_on : after ≡ load_at (take (at + 1 + n) ws)
-    leads_on = past_stride load.step longest_run pass_longest_run hunk_between load_runs positions.FirstLong ws at p here all w word n n_is after after_is (omega (arith, less, whole))
+  -- It is passed, and rows of the table after it.
+  module _ (less : at + 1 + n ≤ end) (to : ℕ) (next : Position) (rows : PassesRows ws (at + 1 + n) after end to next) where
+    abbrev from : ℕ
+    from = at + 1 + n
 
-    pub at_hunk : (o : OpenHunk) → hunk_between after ≡ Some o → LastHunk ws (at + 1 + n) (Some (record { longs = at + 1 + n; hunk = o }))
-    at_hunk o e = last_here (find_hunk ws) (at + 1 + n) o (ap hunk_between (sym leads_on) ∙ e)
+    ends : after ≡ load_at (take from ws)
+    ends = past_stride load.step longest_run pass_longest_run hunk_between load_runs positions.FirstLong ws at p here all w word n n_is after after_is (omega (arith, less, whole))
 
-    pub at_none : hunk_between after ≡ None → LastHunk ws (at + 1 + n) last
+    pub leads_on : next ≡ load_at (take to ws)
+    leads_on = rows_to ws from end after ends whole to next rows
+
+    pub at_hunk : (o : OpenHunk) → hunk_between next ≡ Some o → LastHunk ws to (Some (record { longs = to; hunk = o }))
+    at_hunk o e = last_here (find_hunk ws) to o (ap hunk_between (sym leads_on) ∙ e)
+
+    pub at_none : hunk_between next ≡ None → LastHunk ws to last
     at_none e =
-        still_hunk ws at (at + 1 + n) last (omega arith) h
-        (none_to load.step longest_run pass_longest_run hunk_between load_runs positions.FirstLong ws at p here all w word n n_is after after_is (omega (arith, less, whole)) e)
+        let run = none_to load.step longest_run pass_longest_run hunk_between load_runs positions.FirstLong ws at p here all w word n n_is after after_is (omega (arith, less, whole)) (none_before ws from end after to next rows e) in
+        still_hunk ws from to last (rows_on ws from end after to next less rows).0 (still_hunk ws at from last (omega arith) h run)
+        (none_in_rows ws from end after ends whole to next rows)
 
 -- ---- what the walk comes to
 

@@ -27,6 +27,7 @@ pub mod PlacedHunks
 pub mod Readying
 pub mod Refused
 pub mod Streamed
+pub mod PassedRows
 pub mod PassedRuns
 pub mod Succeeding
 pub mod TableRows

@@ -1,5 +1,6 @@
 -- How a front is found: by the last of the places between blocks that stand before the fault.
-use Rattle.std.specs.Prelude.{◌≡◌, ℕ, ◌-◌, ◌*◌, ◌<◌, ◌≤◌, true, List, ◌++◌, length, take, Option, Some, None}
+use Rattle.std.specs.Prelude.{◌≡◌, ℕ, ◌+◌, ◌-◌, ◌*◌, ◌<◌, ◌≤◌, true, false, List, ◌++◌, length, slice_index, take, Option, Some, None}
+use Rattle.hunk_words.specs.Bits.{has_both_bits}
 use Rattle.hunk_words.specs.Longs.{longs, bytes_of}
 use Rattle.hunk_grammar.specs.declared.object_position.ObjectPosition.{ObjectPosition}
 use Rattle.hunk_grammar.specs.declared.object_position.ObjectPosition.TheVariants as places
@@ -69,6 +70,16 @@ longest_run position = 0
 abbrev pub pass_longest_run : Position → Position
 pass_longest_run (positions.Body hunk phase) = load.onward hunk (load.after hunk phase) (inside.pass_longest_run phase)
 pass_longest_run position = position
+
+-- So many size words stand from the longword on, and no attributes follow any of them.
+abbrev pub AreShort : List ℕ → ℕ → ℕ → Type 0
+AreShort ws from count = (i : ℕ) → i < count → has_both_bits (slice_index ws (from + i)) ≡ false
+
+-- From the longword on, at this position, nothing is passed, or rows of the table of one longword each, but for its last. They
+-- stand before the end, and the other longword and position come after them.
+pub data PassesRows (ws : List ℕ) (at : ℕ) (p : Position) (end : ℕ) : ℕ → Position → Type 0 where
+  no_rows : PassesRows ws at p end at p
+  rows : (hunks owed count : ℕ) → p ≡ positions.SizeWord hunks owed → count ≤ owed → at + count ≤ end → AreShort ws at count → PassesRows ws at p end (at + count) (positions.SizeWord hunks (owed - count))
 
 -- ---- what is found
 

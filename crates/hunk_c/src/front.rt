@@ -1,11 +1,13 @@
 //! What of a refused file stands before its fault, as a whole file.
-ghost use Rattle.std.specs.Prelude.{◌≡◌, ◌*◌, ◌<◌, ◌≤◌, ◌^◌, ◌++◌, IfNone, IfSome, length, take, drop};
+ghost use Rattle.std.specs.Prelude.{◌≡◌, ◌+◌, ◌*◌, ◌<◌, ◌≤◌, ◌^◌, ◌++◌, IfNone, IfSome, true};
+ghost use Rattle.std.specs.Prelude.{drop, length, slice_index, take};
+ghost use Rattle.hunk_words.specs.Bits.{has_both_bits};
 ghost use Rattle.hunk_words.specs.Longs.{longs, bytes_of};
 ghost use Rattle.hunk_files.specs.Fault.{load_files};
 ghost use Rattle.hunk_files.specs.ObjectFault.{objects};
 ghost use Rattle.hunk_c.specs.Fronts.{EndsBetweenBlocks, Fronts, HasNoFront, HasNoFrontWhere};
 ghost use Rattle.hunk_c.specs.Fronts.{InLoadText, InObjectText, empty_hunks, hunk_end, open_at};
-ghost use Rattle.hunk_c.specs.FrontPlaces.{FindsNone, IsFrontOf, IsLast};
+ghost use Rattle.hunk_c.specs.FrontPlaces.{AreShort, FindsNone, IsFrontOf, IsLast, PassesRows};
 ghost use Rattle.hunk_c.specs.FrontPlaces.{ReadsUpTo, before_last_end, closed_bytes, closing, front_at};
 ghost use Rattle.hunk_c.specs.FrontPlaces.{find_hunk, find_place, hunk_between, place_between};
 
@@ -14,7 +16,7 @@ use crate::strides::{load_stride, object_stride};
 use hunk_files::{LoadView, ObjectView, Sniff, TakesBytes, sniff};
 use hunk_grammar::{ObjectPosition, OpenHunk, Phase, Position, WordPlace};
 use hunk_parts::Copier;
-use hunk_words::word_at;
+use hunk_words::{SizeWord, word_at};
 
 /// The bytes of END.
 const END: [u8; 4] = [0, 0, 3, 0xF2];
@@ -132,13 +134,49 @@ fn last_hunk(bytes: &[u8], end: usize) -> Option<LoadPlace>
         if stride.run > (end - at) as u64 {
             return last;
         }
-        position = stride.after;
-        at += stride.run as usize;
+        let (after, next) = pass_rows(bytes, at + stride.run as usize, stride.after, end);
+        at = after;
+        position = next;
         if let Some(hunk) = hunk_between(position) {
             last = Some(LoadPlace { longs: at, hunk });
         }
     }
     last
+}
+
+/// Goes over the rows of the table that stand from this longword on, up to the first that has
+/// attributes, the table's last, or the end: the longword after them, and the position there.
+/// No block ends within them.
+#[inline(always)]
+fn pass_rows(bytes: &[u8], at: usize, position: Position, end: usize) -> (usize, Position)
+    requires before { at ≤ end }
+    requires inside { 4 * end ≤ length bytes.now }
+    ensures { PassesRows (longs bytes.now) at position end result.0 result.1 }
+{
+    let Position::SizeWord { hunks, owed } = position else {
+        return (at, position);
+    };
+    let count = short_rows(bytes, at, (owed as usize).min(end - at));
+    let owed = owed - count as u32;
+    (at + count, Position::SizeWord { hunks, owed })
+}
+
+/// How many of so many longwords from this one on stand before the first size word that attributes
+/// follow.
+#[inline(never)]
+fn short_rows(bytes: &[u8], from: usize, most: usize) -> usize
+    requires { 4 * (from + most) ≤ length bytes.now }
+    ensures few { result ≤ most }
+    ensures short { AreShort (longs bytes.now) from result }
+    ensures first { result < most
+        → has_both_bits (slice_index (longs bytes.now) (from + result)) ≡ true }
+{
+    'rows: for count in 0..most {
+        if SizeWord::has_extra(word_at(bytes, from + count)) {
+            return count;
+        }
+    }
+    most
 }
 
 /// The hunk that is open at this position, where it is between two blocks.
