@@ -1,5 +1,6 @@
 -- The bytes that close a file.
-use Rattle.std.proofs.Common.{◌≡◌, ℕ, zero, suc, ◌+◌, ◌*◌, Bool, true, false, List, [], ◌∷◌, ◌++◌, length, refl, ap, ◌∙◌, append_assoc, length-append, length-take-le, take_at, arith, take, Option, Some, None}
+use Rattle.std.proofs.Common.{◌≡◌, ℕ, zero, suc, ◌+◌, ◌-◌, ◌*◌, ◌≤◌, Bool, true, false, List, [], ◌∷◌, ◌++◌, length, refl, sym, ap, ap₂, ◌∙◌, append_assoc, length-append, length-take-le, take_at, replicate, arith, take, Option, Some, None}
+use Rattle.std.specs.List.{flat_map}
 use Rattle.hunk_words.specs.{Longs.bytes_of}
 use Rattle.hunk_words.proofs.LongLaws.{bytes_of-append, bytes_of-nil, length-bytes_of, length-longs}
 use Rattle.hunk_files.specs.HunkFile.{file_bytes}
@@ -12,22 +13,25 @@ pub end_bytes : bytes_of (hunk_end (Some true)) ≡ 0 ∷ 0 ∷ 3 ∷ 0xF2 ∷ [
 unfolding bytes_of
 end_bytes = refl
 
-pub empty_bytes : bytes_of (hunk_end (Some false)) ≡ 0 ∷ 0 ∷ 3 ∷ 0xEB ∷ 0 ∷ 0 ∷ 0 ∷ 0 ∷ 0 ∷ 0 ∷ 3 ∷ 0xF2 ∷ []
+abbrev pub empty_hunk : List ℕ
+empty_hunk = 0 ∷ 0 ∷ 3 ∷ 0xEB ∷ 0 ∷ 0 ∷ 0 ∷ 0 ∷ 0 ∷ 0 ∷ 3 ∷ 0xF2 ∷ []
+
+pub empty_bytes : bytes_of (hunk_end (Some false)) ≡ empty_hunk
 unfolding bytes_of
 empty_bytes = refl
 
 pub none_bytes : bytes_of (hunk_end None) ≡ []
 none_bytes = bytes_of-nil
 
--- one empty hunk more, before the others or after them
-after_others : (n : ℕ) → empty_hunks (suc n) ≡ empty_hunks n ++ hunk_end (Some false)
-after_others zero = refl
-after_others (suc n) = ap (λ (xs : List ℕ). hunk_end (Some false) ++ xs) (after_others n)
+-- empty hunks after others
+hunks_after : (m n : ℕ) → empty_hunks (m + n) ≡ empty_hunks m ++ empty_hunks n
+hunks_after zero n = ap empty_hunks (let e : 0 + n ≡ n = omega arith in e)
+hunks_after (suc m) n =
+    let on : suc m + n ≡ suc (m + n) = omega arith in
+    ap empty_hunks on ∙ ap (λ (xs : List ℕ). hunk_end (Some false) ++ xs) (hunks_after m n)
 
-pub one_more : (n : ℕ) → bytes_of (empty_hunks (n + 1)) ≡ bytes_of (empty_hunks n) ++ bytes_of (hunk_end (Some false))
-one_more n =
-    let on : n + 1 ≡ suc n = omega arith in
-    ap (λ (k : ℕ). bytes_of (empty_hunks k)) on ∙ ap bytes_of (after_others n) ∙ bytes_of-append (empty_hunks n) (hunk_end (Some false))
+pub more_hunks : (m n : ℕ) → bytes_of (empty_hunks (m + n)) ≡ bytes_of (empty_hunks m) ++ bytes_of (empty_hunks n)
+more_hunks m n = ap bytes_of (hunks_after m n) ∙ bytes_of-append (empty_hunks m) (empty_hunks n)
 
 pub empty_size : (n : ℕ) → length (empty_hunks n) ≡ 3 * n
 empty_size zero = refl
@@ -35,6 +39,18 @@ empty_size (suc n) = omega (arith, empty_size n)
 
 pub closing_bytes : (o : Option Bool) (left : ℕ) → length (bytes_of (hunk_end o ++ empty_hunks left)) ≡ 4 * length (hunk_end o) + 12 * left
 closing_bytes o left = omega (arith, length-bytes_of (hunk_end o ++ empty_hunks left), length-append (hunk_end o) (empty_hunks left), empty_size left)
+
+-- the bytes of so many of them, and of the first of these
+pub hunks_bytes : (n : ℕ) → flat_map (λ xs. xs) (replicate n empty_hunk) ≡ bytes_of (empty_hunks n)
+hunks_bytes zero = sym bytes_of-nil
+hunks_bytes (suc n) = ap₂ (λ (xs ys : List ℕ). xs ++ ys) (sym empty_bytes) (hunks_bytes n) ∙ sym (bytes_of-append (hunk_end (Some false)) (empty_hunks n))
+
+pub first_hunks : (all n : ℕ) → n ≤ all → take (12 * n) (bytes_of (empty_hunks all)) ≡ bytes_of (empty_hunks n)
+first_hunks all n less =
+    let sum : all ≡ n + (all - n) = omega (arith, less) in
+    ap (λ (k : ℕ). take (12 * n) (bytes_of (empty_hunks k))) sum
+    ∙ ap (take (12 * n)) (more_hunks n (all - n))
+    ∙ take_at (bytes_of (empty_hunks n)) (bytes_of (empty_hunks (all - n))) (12 * n) (omega (arith, length-bytes_of (empty_hunks n), empty_size n))
 
 -- ---- how long it is
 

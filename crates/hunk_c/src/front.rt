@@ -24,6 +24,12 @@ const END: [u8; 4] = [0, 0, 3, 0xF2];
 /// The bytes of a hunk that has nothing: an empty BSS block, and END.
 const EMPTY_HUNK: [u8; 12] = [0, 0, 3, 0xEB, 0, 0, 0, 0, 0, 0, 3, 0xF2];
 
+/// How many such hunks are handed over at once.
+const AT_ONCE: usize = 64;
+
+/// So many of them.
+const EMPTY_HUNKS: [[u8; 12]; AT_ONCE] = [EMPTY_HUNK; AT_ONCE];
+
 /// What of a file stands before its fault, up to the last place between two blocks.
 #[derive(Clone, Copy)]
 struct Front {
@@ -343,7 +349,10 @@ fn put_hunk_end<T: TakesBytes>(taker: &mut T, open_hunk: Option<bool>)
 fn put_empty_hunks<T: TakesBytes>(taker: &mut T, count: u32)
     ensures { T.takes taker.old (bytes_of (empty_hunks count)) taker.new }
 {
-    'hunks: for _ in 0..count {
-        taker.take(&EMPTY_HUNK);
+    let hunks = EMPTY_HUNKS.as_flattened();
+    let count = count as usize;
+    'hunks: for _ in 0..count / AT_ONCE {
+        taker.take(hunks);
     }
+    taker.take(&hunks[..EMPTY_HUNK.len() * (count % AT_ONCE)]);
 }
