@@ -1,13 +1,15 @@
 -- Entries of a header's table that are a longword each, passed at once.
-use Rattle.std.proofs.Common.{◌≡◌, ℕ, zero, suc, ◌+◌, ◌-◌, ◌*◌, ◌<◌, ◌≤◌, Bool, false, if◌then◌else◌, List, length, drop, get_or, refl, sym, ap, subst, ◌∙◌, arith, None}
+use Rattle.std.proofs.Common.{◌≡◌, ℕ, zero, suc, ◌+◌, ◌-◌, ◌*◌, ◌<◌, ◌≤◌, ◌/◌, ◌^◌, Bool, false, if◌then◌else◌, List, length, drop, get_or, refl, sym, ap, subst, ◌∙◌, arith, None}
+use Rattle.std.proofs.lemmas.Bool.{eqb-false, ne_eqb}
+use Rattle.hunk_words.specs.Limits.{content_limit}
 use Rattle.hunk_words.specs.{Bits.{has_both_bits, size_longs}, Longs.longs}
 use Rattle.hunk_grammar.specs.{Positions.owe_entries, declared.position.Position.Position}
 use Rattle.hunk_grammar.specs.declared.position.Position.TheVariants as positions
 use Rattle.hunk_grammar.specs.{Positions.role_at, Roles.refuse}
 use Rattle.hunk_files.specs.Passing.{HasHeaderFront}
-use Rattle.hunk_words.proofs.PartLaws.{longs-drop}
+use Rattle.hunk_words.proofs.{LongLaws.length-longs, PartLaws.longs-drop}
 use Rattle.std.proofs.lemmas.List.{get_or-drop}
-use Rattle.hunk_scatter.specs.{declared.header_state.HeaderState.HeaderState, HeaderLoaderFields.{PassesWord, PassesWords, at_start}}
+use Rattle.hunk_scatter.specs.{declared.header_state.HeaderState.HeaderState, HeaderLoaderFields.{HasShortEntries, PassesWord, PassesWords, at_start, no_entry, one_entry}}
 
 -- the state at an entry, after which so many come
 abbrev pub at_entry : ℕ → ℕ → ℕ → HeaderState
@@ -55,6 +57,21 @@ one_passed budget bytes from state hunks at owed total p some word size here is 
       total_is = ap (λ (n : ℕ). total + n) is;
     }
 
+-- Where no attributes follow the largest size word, none follow another.
+pub none_below : (word largest : ℕ) → word ≤ largest → largest < 2 ^ 32 → has_both_bits largest ≡ false → has_both_bits word ≡ false
+none_below word largest less bound none = ne_eqb (word / content_limit) 3 (λ e. eqb-false (largest / content_limit) 3 none (omega (arith, e, less, bound)))
+
+pub one_short : (ws : List ℕ) (i total largest word : ℕ) → (has_both_bits largest ≡ false → HasShortEntries ws (i - 5) total) → (most : ℕ) → most < 2 ^ 32 → largest ≤ most → word ≤ most → word ≡ get_or ws i 0 → 5 ≤ i → i < length ws → (size : ℕ) → size ≡ 4 * size_longs word →
+    has_both_bits most ≡ false → HasShortEntries ws (i + 1 - 5) (total + size)
+one_short ws i total largest word so_far most bound less here is from inside size size_is none =
+    let place : 5 + (i - 5) ≡ i = omega (arith, from) in
+    let word_is : word ≡ get_or ws (5 + (i - 5)) 0 = is ∙ ap (λ (n : ℕ). get_or ws n 0) (sym place) in
+    let short = ap has_both_bits (sym word_is) ∙ none_below word most here bound none in
+    let next = one_entry (i - 5) total (so_far (none_below largest most less bound none)) (omega (arith, place, inside)) short in
+    let count : suc (i - 5) ≡ i + 1 - 5 = omega (arith, from) in
+    let sum : total + 4 * size_longs (get_or ws (5 + (i - 5)) 0) ≡ total + size = ap (λ (n : ℕ). total + n) (ap (λ (w : ℕ). 4 * size_longs w) (sym word_is) ∙ sym size_is) in
+    subst (λ (n : ℕ). HasShortEntries ws n (total + size)) count (subst (λ (n : ℕ). HasShortEntries ws (suc (i - 5)) n) sum next)
+
 -- ---- the longwords before the table
 
 module _ (budget : ℕ) (bytes : List ℕ) where
@@ -83,3 +100,24 @@ module _ (budget : ℕ) (bytes : List ℕ) where
           let first = front_word 3 (at (positions.FirstHunk (suc k))) (at (positions.LastHunk (suc k))) (record { accepted = f.first; within = omega arith; position_is = refl; total_is = refl }) in
           let end = front_word 4 (at (positions.LastHunk (suc k))) (at_entry (suc k) (suc k - 1) 0) (record { accepted = last; within = omega arith; position_is = ap (λ (n : ℕ). positions.SizeWord (suc k) n) (sym left); total_is = refl }) in
           (at (positions.LastHunk (suc k)), (at (positions.FirstHunk (suc k)), (at positions.TableSize, (at positions.ResidentName, (at_start, refl, refl, word), refl, names), refl, sized), refl, first), refl, end)
+
+  -- So do the first entries, where each is a longword.
+  pub short_passed : (hunks : ℕ) → HasHeaderFront (longs bytes) hunks → (count total : ℕ) → HasShortEntries (longs bytes) count total → count < hunks → total ≤ budget → EntriesPassed budget bytes 0 at_start hunks (20 + 4 * count) (hunks - 1 - count) total
+  short_passed hunks f _ _ no_entry some fits =
+      let all : hunks - 1 ≡ hunks - 1 - 0 = omega arith in record {
+        count = 5;
+        at_is = omega arith;
+        inside = omega (arith, f.whole, length-longs bytes);
+        within = omega arith;
+        passes = subst (λ (n : ℕ). PassesWords budget bytes 0 at_start 5 (at_entry hunks n 0)) all (front_passes hunks f);
+      }
+  short_passed hunks f _ _ (one_entry count total before stands short) some fits =
+      let word = get_or (longs bytes) (5 + count) 0 in
+      let place : 0 + 4 * (5 + count) ≡ 20 + 4 * count = omega arith in
+      let here = sym (long_at (5 + count)) ∙ ap (λ (n : ℕ). get_or (longs (drop n bytes)) 0 0) place in
+      let so_far = short_passed hunks f count total before (omega (arith, some)) (omega (arith, fits)) in
+      let next = one_passed budget bytes 0 at_start hunks _ _ total so_far (omega (arith, some)) word (4 * size_longs word) here refl short (omega (arith, stands, length-longs bytes)) fits in
+      let end : 20 + 4 * count + 4 ≡ 20 + 4 * suc count = omega arith in
+      let left : hunks - 1 - count - 1 ≡ hunks - 1 - suc count = omega arith in
+      subst (λ (n : ℕ). EntriesPassed budget bytes 0 at_start hunks n (hunks - 1 - suc count) (total + 4 * size_longs word)) end
+      (subst (λ (n : ℕ). EntriesPassed budget bytes 0 at_start hunks (20 + 4 * count + 4) n (total + 4 * size_longs word)) left next)

@@ -1,5 +1,5 @@
 -- What the fields of the loader of a header keep of what was read.
-use Rattle.std.specs.Prelude.{◌≡◌, ℕ, zero, suc, ◌+◌, ◌*◌, ◌<◌, ◌≤◌, true, false, List, [], ◌∷◌, ◌++◌, length, map, drop, get_or, if◌then◌else◌, Option, None, Some, Result, Ok, IfOk, IfErr, OnOk, IsTrue, ◌⊎◌}
+use Rattle.std.specs.Prelude.{◌≡◌, ℕ, zero, suc, ◌+◌, ◌*◌, ◌<◌, ◌≤◌, true, false, List, [], ◌∷◌, ◌++◌, length, map, drop, get_or, slice_index, if◌then◌else◌, Option, None, Some, Result, Ok, IfOk, IfErr, OnOk, IsTrue, ◌⊎◌}
 use Rattle.hunk_words.specs.Limits.{most_hunks}
 use Rattle.hunk_words.specs.Bits.{has_both_bits, size_longs}
 use Rattle.hunk_words.specs.Longs.{bytes_of, longs, IsLong}
@@ -63,6 +63,11 @@ PassesWords budget bytes at s (suc count) next =
     × PassesWords budget bytes at s count here
     × (is_after_header here.position ≡ false)
     × PassesWord budget here (get_or (longs (drop (at + 4 * count) bytes)) 0 0) next
+
+-- So many entries of the table, the first of it, stand in the longwords, each is one of them, and they declare so many bytes.
+pub data HasShortEntries (ws : List ℕ) : ℕ → ℕ → Type 0 where
+  no_entry : HasShortEntries ws 0 0
+  one_entry : (count total : ℕ) → HasShortEntries ws count total → 5 + count < length ws → has_both_bits (slice_index ws (5 + count)) ≡ false → HasShortEntries ws (suc count) (total + 4 * size_longs (slice_index ws (5 + count)))
 
 -- ---- a stop
 

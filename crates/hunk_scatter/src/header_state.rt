@@ -3,6 +3,7 @@
 ghost use Rattle.std.specs.Prelude.{◌≡◌, ◌+◌, ◌<◌, ◌≤◌, ◌^◌, ◌++◌, IfOk, IfErr, OnOk, IfSome, IfNone, []};
 ghost use Rattle.std.specs.Prelude.{ℕ, ◌*◌, ◌∷◌, length, map, false};
 ghost use Rattle.hunk_words.specs.declared.reason.Reason.TheVariants as reasons;
+ghost use Rattle.hunk_words.specs.Longs.{longs};
 ghost use Rattle.hunk_grammar.specs.Positions.{is_after_header};
 ghost use Rattle.hunk_scatter.specs.HeaderLoaderFields as heading;
 ghost use Rattle.hunk_scatter.specs.HeaderSizes.{HasHeaderInFront, HasHeaderSize, RefusesHeader, TellsOwed};
@@ -133,8 +134,40 @@ pub(crate) fn take_header_word(
     by_size_word!(state, take)
 }
 
-/// Passes over the longwords before the table at once, where none of them is refused: the byte after
-/// them, and the state there. Else it is the start.
+/// The bytes that so many entries of the table declare together, the first of it, where they stand
+/// in the bytes, and each is a longword.
+///
+/// No test stands in the loop, so the compiler makes it some longwords wide.
+#[inline(never)]
+fn short_total(bytes: &[u8], entries: u32) -> Option<u64>
+    ensures { IfSome result (heading.HasShortEntries (longs bytes.now) entries) }
+{
+    let end = TABLE_AT + entries as usize;
+    if end > bytes.len() / 4 {
+        return None;
+    }
+    let mut largest = 0;
+    let mut total = 0;
+    'entries: for i in TABLE_AT..end {
+        let start = 4 * i;
+        let word = u32::from_be_bytes([
+            bytes[start],
+            bytes[start + 1],
+            bytes[start + 2],
+            bytes[start + 3],
+        ]);
+        largest = largest.max(word);
+        total += SizeWord { word, extra: 0 }.bytes();
+    }
+    if SizeWord::has_extra(largest) {
+        return None;
+    }
+    Some(total)
+}
+
+/// Passes over the longwords before the table at once, where none of them is refused, and over its
+/// entries but the last, where each is a longword and they keep to the budget: the byte after them,
+/// and the state there. Else it is the start.
 #[inline(always)]
 fn pass_front(bytes: &[u8], budget: u64) -> (usize, HeaderState)
     ensures passes { (count : ℕ) × (result.0 ≡ 0 + 4 * count)
@@ -149,6 +182,13 @@ fn pass_front(bytes: &[u8], budget: u64) -> (usize, HeaderState)
         return (0, start);
     };
     let owed = hunks - 1;
+    if let Some(total) = short_total(bytes, owed) {
+        if total <= budget {
+            let position = Position::SizeWord { hunks, owed: 0 };
+            let at = 4 * (TABLE_AT + owed as usize);
+            return (at, HeaderState { position, total });
+        }
+    }
     let position = Position::SizeWord { hunks, owed };
     (4 * TABLE_AT, HeaderState { position, total: 0 })
 }
