@@ -1,4 +1,4 @@
-use Rattle.std.proofs.Common.{◌≡◌, List, ℕ, ◌+◌, ◌*◌, ◌/◌, ◌%◌, ◌++◌, arith, subst, sym, ap, ◌∙◌, take}
+use Rattle.std.proofs.Common.{◌≡◌, List, ℕ, ◌+◌, ◌*◌, ◌%◌, ◌++◌, arith, subst, sym, ap, ◌∙◌, take}
 use Rattle.hunk_words.specs.Longs.{bytes_of}
 use Rattle.hunk_words.proofs.LongLaws.{bytes_of-nil}
 use Rattle.hunk_c.specs.Fronts.{empty_hunks}
