@@ -134,13 +134,17 @@ pub(crate) fn take_header_word(
     by_size_word!(state, take)
 }
 
+/// The number of entries from which on `short_total` is worth its call.
+const MANY_ENTRIES: u32 = 8;
+
 /// The bytes that so many entries of the table declare together, the first of it, where they stand
-/// in the bytes, and each is a longword.
+/// in the bytes, each is a longword, and they keep to the budget.
 ///
 /// No test stands in the loop, so the compiler makes it some longwords wide.
 #[inline(never)]
-fn short_total(bytes: &[u8], entries: u32) -> Option<u64>
-    ensures { IfSome result (heading.HasShortEntries (longs bytes.now) entries) }
+fn short_total(bytes: &[u8], entries: u32, budget: u64) -> Option<u64>
+    ensures short { IfSome result (heading.HasShortEntries (longs bytes.now) entries) }
+    ensures within { IfSome result (λ total. total ≤ budget) }
 {
     let end = TABLE_AT + entries as usize;
     if end > bytes.len() / 4 {
@@ -159,7 +163,7 @@ fn short_total(bytes: &[u8], entries: u32) -> Option<u64>
         largest = largest.max(word);
         total += SizeWord { word, extra: 0 }.bytes();
     }
-    if SizeWord::has_extra(largest) {
+    if SizeWord::has_extra(largest) || total > budget {
         return None;
     }
     Some(total)
@@ -182,8 +186,8 @@ fn pass_front(bytes: &[u8], budget: u64) -> (usize, HeaderState)
         return (0, start);
     };
     let owed = hunks - 1;
-    if let Some(total) = short_total(bytes, owed) {
-        if total <= budget {
+    if owed >= MANY_ENTRIES {
+        if let Some(total) = short_total(bytes, owed, budget) {
             let position = Position::SizeWord { hunks, owed: 0 };
             let at = 4 * (TABLE_AT + owed as usize);
             return (at, HeaderState { position, total });

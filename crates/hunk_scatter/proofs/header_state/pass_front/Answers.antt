@@ -6,13 +6,13 @@ use Rattle.hunk_scatter.specs.HeaderLoaderFields.{PassesWords, at_start}
 use Rattle.hunk_scatter.proofs.HeaderEntries.{at_entry, front_passes, short_passed}
 use Rattle.hunk_scatter.proofs.header_state.pass_front.Goals as goal
 
-pub returns-then-total-budget : goal.returns-then-total-budget
-returns-then-total-budget c =
+pub returns-in-Some-short_total : goal.returns-in-Some-short_total
+returns-in-Some-short_total c =
     let bytes = c.args.bytes.now in
     let hunks : ℕ = c.in-Some.hunks in
     let total : ℕ = c.in-Some-short_total.total in
     let header : HasHeaderFront (longs bytes) hunks = c.in-Some.ensures in
-    let p = short_passed c.args.budget bytes hunks header (hunks - 1) total c.in-Some-short_total.ensures (omega (arith, header.some)) (omega (arith, c.if-total-budget.true)) in
+    let p = short_passed c.args.budget bytes hunks header (hunks - 1) total c.in-Some-short_total.ensures.short (omega (arith, header.some)) c.in-Some-short_total.ensures.within in
     let place : 4 * (5 + (hunks - 1)) ≡ 20 + 4 * (hunks - 1) = omega arith in
     let none : hunks - 1 - (hunks - 1) ≡ 0 = omega arith in
     record {
