@@ -75,11 +75,12 @@ pass_longest_run position = position
 abbrev pub AreShort : List ℕ → ℕ → ℕ → Type 0
 AreShort ws from count = (i : ℕ) → i < count → has_both_bits (slice_index ws (from + i)) ≡ false
 
--- From the longword on, at this position, nothing is passed, or rows of the table of one longword each, but for its last. They
--- stand before the end, and the other longword and position come after them.
+-- From the longword on, at this position, nothing is passed, or rows of the table of one longword each, but for its
+-- last. They stand before the end, and the other longword and position come after them.
 pub data PassesRows (ws : List ℕ) (at : ℕ) (p : Position) (end : ℕ) : ℕ → Position → Type 0 where
   no_rows : PassesRows ws at p end at p
-  rows : (hunks owed count : ℕ) → p ≡ positions.SizeWord hunks owed → count ≤ owed → at + count ≤ end → AreShort ws at count → PassesRows ws at p end (at + count) (positions.SizeWord hunks (owed - count))
+  rows : (hunks owed count : ℕ) → p ≡ positions.SizeWord hunks owed → count ≤ owed → at + count ≤ end
+      → AreShort ws at count → PassesRows ws at p end (at + count) (positions.SizeWord hunks (owed - count))
 
 -- ---- what is found
 

@@ -61,15 +61,18 @@ one_passed budget bytes from state hunks at owed total p some word size here is 
 pub none_below : (word largest : ℕ) → word ≤ largest → largest < 2 ^ 32 → has_both_bits largest ≡ false → has_both_bits word ≡ false
 none_below word largest less bound none = ne_eqb (word / content_limit) 3 (λ e. eqb-false (largest / content_limit) 3 none (omega (arith, e, less, bound)))
 
-pub one_short : (ws : List ℕ) (i total largest word : ℕ) → (has_both_bits largest ≡ false → HasShortEntries ws (i - 5) total) → (most : ℕ) → most < 2 ^ 32 → largest ≤ most → word ≤ most → word ≡ get_or ws i 0 → 5 ≤ i → i < length ws → (size : ℕ) → size ≡ 4 * size_longs word →
-    has_both_bits most ≡ false → HasShortEntries ws (i + 1 - 5) (total + size)
+-- One entry more is a longword, where no attributes follow the largest size word up to it.
+pub one_short : (ws : List ℕ) (i total largest word : ℕ) → (has_both_bits largest ≡ false → HasShortEntries ws (i - 5) total) →
+    (most : ℕ) → most < 2 ^ 32 → largest ≤ most → word ≤ most → word ≡ get_or ws i 0 → 5 ≤ i → i < length ws →
+    (size : ℕ) → size ≡ 4 * size_longs word → has_both_bits most ≡ false → HasShortEntries ws (i + 1 - 5) (total + size)
 one_short ws i total largest word so_far most bound less here is from inside size size_is none =
     let place : 5 + (i - 5) ≡ i = omega (arith, from) in
     let word_is : word ≡ get_or ws (5 + (i - 5)) 0 = is ∙ ap (λ (n : ℕ). get_or ws n 0) (sym place) in
     let short = ap has_both_bits (sym word_is) ∙ none_below word most here bound none in
     let next = one_entry (i - 5) total (so_far (none_below largest most less bound none)) (omega (arith, place, inside)) short in
     let count : suc (i - 5) ≡ i + 1 - 5 = omega (arith, from) in
-    let sum : total + 4 * size_longs (get_or ws (5 + (i - 5)) 0) ≡ total + size = ap (λ (n : ℕ). total + n) (ap (λ (w : ℕ). 4 * size_longs w) (sym word_is) ∙ sym size_is) in
+    let sum : total + 4 * size_longs (get_or ws (5 + (i - 5)) 0) ≡ total + size =
+    ap (λ (n : ℕ). total + n) (ap (λ (w : ℕ). 4 * size_longs w) (sym word_is) ∙ sym size_is) in
     subst (λ (n : ℕ). HasShortEntries ws n (total + size)) count (subst (λ (n : ℕ). HasShortEntries ws (suc (i - 5)) n) sum next)
 
 -- ---- the longwords before the table
@@ -102,7 +105,8 @@ module _ (budget : ℕ) (bytes : List ℕ) where
           (at (positions.LastHunk (suc k)), (at (positions.FirstHunk (suc k)), (at positions.TableSize, (at positions.ResidentName, (at_start, refl, refl, word), refl, names), refl, sized), refl, first), refl, end)
 
   -- So do the first entries, where each is a longword.
-  pub short_passed : (hunks : ℕ) → HasHeaderFront (longs bytes) hunks → (count total : ℕ) → HasShortEntries (longs bytes) count total → count < hunks → total ≤ budget → EntriesPassed budget bytes 0 at_start hunks (20 + 4 * count) (hunks - 1 - count) total
+  pub short_passed : (hunks : ℕ) → HasHeaderFront (longs bytes) hunks → (count total : ℕ) → HasShortEntries (longs bytes) count total →
+      count < hunks → total ≤ budget → EntriesPassed budget bytes 0 at_start hunks (20 + 4 * count) (hunks - 1 - count) total
   short_passed hunks f _ _ no_entry some fits =
       let all : hunks - 1 ≡ hunks - 1 - 0 = omega arith in record {
         count = 5;

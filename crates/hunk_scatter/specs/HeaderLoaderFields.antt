@@ -64,10 +64,13 @@ PassesWords budget bytes at s (suc count) next =
     × (is_after_header here.position ≡ false)
     × PassesWord budget here (get_or (longs (drop (at + 4 * count) bytes)) 0 0) next
 
--- So many entries of the table, the first of it, stand in the longwords, each is one of them, and they declare so many bytes.
+-- The first so many entries of the table stand in the longwords, each is one of them, and together they declare so
+-- many bytes.
 pub data HasShortEntries (ws : List ℕ) : ℕ → ℕ → Type 0 where
   no_entry : HasShortEntries ws 0 0
-  one_entry : (count total : ℕ) → HasShortEntries ws count total → 5 + count < length ws → has_both_bits (slice_index ws (5 + count)) ≡ false → HasShortEntries ws (suc count) (total + 4 * size_longs (slice_index ws (5 + count)))
+  one_entry : (count total : ℕ) → HasShortEntries ws count total → 5 + count < length ws
+      → has_both_bits (slice_index ws (5 + count)) ≡ false
+      → HasShortEntries ws (suc count) (total + 4 * size_longs (slice_index ws (5 + count)))
 
 -- ---- a stop
 

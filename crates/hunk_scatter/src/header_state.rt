@@ -137,8 +137,8 @@ pub(crate) fn take_header_word(
 /// The number of entries from which on `short_total` is worth its call.
 const MANY_ENTRIES: u32 = 8;
 
-/// The bytes that so many entries of the table declare together, the first of it, where they stand
-/// in the bytes, each is a longword, and they keep to the budget.
+/// The bytes that the first `entries` of the table declare together, where these stand in the bytes,
+/// each is a longword, and they keep to the budget.
 ///
 /// No test stands in the loop, so the compiler makes it some longwords wide.
 #[inline(never)]
