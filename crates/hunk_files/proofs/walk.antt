@@ -12,6 +12,7 @@ pub mod LoadWalks
 pub mod Machines
 pub mod Memory
 pub mod Passed
+pub mod ShortRows
 pub mod PassedWalks
 pub mod Positions
 pub mod ReadFiles

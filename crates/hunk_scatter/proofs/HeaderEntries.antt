@@ -1,12 +1,11 @@
 -- Entries of a header's table that are a longword each, passed at once.
-use Rattle.std.proofs.Common.{◌≡◌, ℕ, zero, suc, ◌+◌, ◌-◌, ◌*◌, ◌<◌, ◌≤◌, ◌/◌, ◌^◌, Bool, false, if◌then◌else◌, List, length, drop, get_or, refl, sym, ap, subst, ◌∙◌, arith, None}
-use Rattle.std.proofs.lemmas.Bool.{eqb-false, ne_eqb}
-use Rattle.hunk_words.specs.Limits.{content_limit}
+use Rattle.std.proofs.Common.{◌≡◌, ℕ, zero, suc, ◌+◌, ◌-◌, ◌*◌, ◌<◌, ◌≤◌, ◌^◌, Bool, false, if◌then◌else◌, List, length, drop, get_or, refl, sym, ap, subst, ◌∙◌, arith, None}
 use Rattle.hunk_words.specs.{Bits.{has_both_bits, size_longs}, Longs.longs}
 use Rattle.hunk_grammar.specs.{Positions.owe_entries, declared.position.Position.Position}
 use Rattle.hunk_grammar.specs.declared.position.Position.TheVariants as positions
 use Rattle.hunk_grammar.specs.{Positions.role_at, Roles.refuse}
 use Rattle.hunk_files.specs.Passing.{HasHeaderFront}
+use Rattle.hunk_files.proofs.walk.ShortRows.{none_below}
 use Rattle.hunk_words.proofs.{LongLaws.length-longs, PartLaws.longs-drop}
 use Rattle.std.proofs.lemmas.List.{get_or-drop}
 use Rattle.hunk_scatter.specs.{declared.header_state.HeaderState.HeaderState, HeaderLoaderFields.{HasShortEntries, PassesWord, PassesWords, at_start, no_entry, one_entry}}
@@ -56,10 +55,6 @@ one_passed budget bytes from state hunks at owed total p some word size here is 
       position_is = sym (ap (λ (both : Bool). if both then positions.Attributes hunks word owed else owe_entries hunks owed) one ∙ owe_next hunks owed some);
       total_is = ap (λ (n : ℕ). total + n) is;
     }
-
--- Where no attributes follow the largest size word, none follow another.
-pub none_below : (word largest : ℕ) → word ≤ largest → largest < 2 ^ 32 → has_both_bits largest ≡ false → has_both_bits word ≡ false
-none_below word largest less bound none = ne_eqb (word / content_limit) 3 (λ e. eqb-false (largest / content_limit) 3 none (omega (arith, e, less, bound)))
 
 -- One entry more is a longword, where no attributes follow the largest size word up to it.
 pub one_short : (ws : List ℕ) (i total largest word : ℕ) → (has_both_bits largest ≡ false → HasShortEntries ws (i - 5) total) →

@@ -1,5 +1,5 @@
 //! Parts of a load file that are passed over at once.
-ghost use Rattle.std.specs.Prelude.{◌≡◌, ◌≤◌, ◌<◌, ◌+◌, ◌*◌, IfNone, IfSome, length, slice_index};
+ghost use Rattle.std.specs.Prelude.{◌≡◌, ◌≤◌, ◌<◌, ◌+◌, ◌*◌, IfNone, IfSome, length, slice_index, true};
 ghost use Rattle.hunk_words.specs.Longs.{longs};
 ghost use Rattle.hunk_files.specs.Passing.{AreBlocks, AreGroups, AreRows, AreSymbols, IsList};
 ghost use Rattle.hunk_files.specs.Passing.{IsBlock, IsContent, IsCounted, IsGroup, IsOpened, IsPassed, past, position_at};
@@ -214,6 +214,9 @@ pub(crate) fn after_counted(bytes: &[u8], at: usize) -> Option<usize>
     Some(at + 1 + count)
 }
 
+/// The number of rows from which on `are_short_rows` is worth its call.
+const MANY_ROWS: u32 = 8;
+
 /// The longword after the rows of a table that stand from `from` on and end in the bytes, and how
 /// many these are, at most `most`.
 #[inline(never)]
@@ -221,6 +224,9 @@ pub(super) fn after_rows(bytes: &[u8], from: usize, most: u32) -> (usize, u32)
     ensures rows { AreRows (longs bytes.now) from result.1 result.0 }
     ensures few { result.1 ≤ most }
 {
+    if most >= MANY_ROWS && are_short_rows(bytes, from, most) {
+        return (from + most as usize, most);
+    }
     // From here on a row of two longwords may not end in the bytes.
     let last = (bytes.len() / 4).saturating_sub(1);
     let mut at = from;
@@ -230,6 +236,32 @@ pub(super) fn after_rows(bytes: &[u8], from: usize, most: u32) -> (usize, u32)
         count += 1;
     }
     (at, count)
+}
+
+/// Whether so many rows that are a longword each stand from `from` on in the bytes.
+///
+/// No test stands in the loop, so the compiler makes it four longwords wide.
+#[inline(never)]
+fn are_short_rows(bytes: &[u8], from: usize, count: u32) -> bool
+    ensures rows { result ≡ true → AreRows (longs bytes.now) from count (from + count) }
+    ensures inside { result ≡ true → 4 * (from + count) ≤ length bytes.now }
+{
+    let whole = bytes.len() / 4;
+    if from > whole || count as usize > whole - from {
+        return false;
+    }
+    let mut largest = 0;
+    'rows: for i in from..from + count as usize {
+        let start = 4 * i;
+        let long = u32::from_be_bytes([
+            bytes[start],
+            bytes[start + 1],
+            bytes[start + 2],
+            bytes[start + 3],
+        ]);
+        largest = largest.max(long);
+    }
+    !SizeWord::has_extra(largest)
 }
 
 /// The longword after the groups that stand from `from` on and the 0 that ends them, where they end
