@@ -184,21 +184,21 @@ block_same Same o w = refl
 block_same BehindEnd o w = refl
 block_same AsLong o w = refl
 
-first_gives : (o : OpenHunk) (bytes : List ℕ) → 4 ≤ length bytes → plain_from (load_at (positions.Body o phases.FirstBlock)) bytes ≡ plain_from (load_at (positions.Body o phases.BlockWord)) bytes
+pub first_gives : (o : OpenHunk) (bytes : List ℕ) → 4 ≤ length bytes → plain_from (load_at (positions.Body o phases.FirstBlock)) bytes ≡ plain_from (load_at (positions.Body o phases.BlockWord)) bytes
 unfolding plain_from
 first_gives o (a ∷ b ∷ c ∷ d ∷ rest) word =
     let w : ℕ = from_be_bytes w32 (a ∷ b ∷ c ∷ d ∷ []) in
     ap (λ (s : Spot). out_long (given_block o w) (a ∷ b ∷ c ∷ d ∷ []) w ++ plain_from s rest) (block_same (given_block o w) o w)
 first_gives o _ word = absurd (omega arith)
 
-first_leads : (o : OpenHunk) (bytes : List ℕ) → 4 ≤ length bytes → spot_after (load_at (positions.Body o phases.FirstBlock)) bytes ≡ spot_after (load_at (positions.Body o phases.BlockWord)) bytes
+pub first_leads : (o : OpenHunk) (bytes : List ℕ) → 4 ≤ length bytes → spot_after (load_at (positions.Body o phases.FirstBlock)) bytes ≡ spot_after (load_at (positions.Body o phases.BlockWord)) bytes
 unfolding spot_after
 first_leads o (a ∷ b ∷ c ∷ d ∷ rest) word =
     let w : ℕ = from_be_bytes w32 (a ∷ b ∷ c ∷ d ∷ []) in
     ap (λ (s : Spot). spot_after s rest) (block_same (given_block o w) o w)
 first_leads o _ word = absurd (omega arith)
 
-first_counted : (f : Given → ℕ) (e : FilePosition → ℕ) (o : OpenHunk) (bytes : List ℕ) → 4 ≤ length bytes
+pub first_counted : (f : Given → ℕ) (e : FilePosition → ℕ) (o : OpenHunk) (bytes : List ℕ) → 4 ≤ length bytes
     → counted f e (load_at (positions.Body o phases.FirstBlock)) bytes ≡ counted f e (load_at (positions.Body o phases.BlockWord)) bytes
 unfolding counted
 first_counted f e o (a ∷ b ∷ c ∷ d ∷ rest) word =
@@ -206,7 +206,7 @@ first_counted f e o (a ∷ b ∷ c ∷ d ∷ rest) word =
     ap (λ (s : Spot). f (given_block o w) + counted f e s rest) (block_same (given_block o w) o w)
 first_counted f e o _ word = absurd (omega arith)
 
-first_places : (o : OpenHunk) (bytes : List ℕ) (n : ℕ) → 4 ≤ length bytes
+pub first_places : (o : OpenHunk) (bytes : List ℕ) (n : ℕ) → 4 ≤ length bytes
     → place_from (load_at (positions.Body o phases.FirstBlock)) bytes n ≡ place_from (load_at (positions.Body o phases.BlockWord)) bytes n
 unfolding place_from
 first_places o (a ∷ b ∷ c ∷ d ∷ rest) n word =

@@ -1,7 +1,7 @@
--- Where END is left out before a content: it is put in, and then blocks of the next hunk are given out as they are.
-use Rattle.std.proofs.Common.{◌≡◌, ℕ, suc, ◌+◌, ◌-◌, ◌*◌, ◌<◌, ◌≤◌, ◌&&◌, Bool, true, false, cond, ltb, List, [], ◌∷◌, ◌++◌, length, length-append, take, drop, refl, sym, ap, ap₂, ◌∙◌, arith}
+-- Where END is left out before a content: it is put in, and then the first block of the next hunk is given out as it is.
+use Rattle.std.proofs.Common.{◌≡◌, ℕ, suc, ◌+◌, ◌-◌, ◌*◌, ◌<◌, ◌≤◌, ◌&&◌, Bool, true, false, cond, ltb, List, [], ◌∷◌, ◌++◌, length, length-append, take, refl, sym, ap, ap₂, ◌∙◌, arith}
 use Rattle.std.specs.Int.{from_be_bytes, to_be_bytes, w32}
-use Rattle.std.proofs.lemmas.{Bool.{ltb-false, ltb-true}, List.{length-take, take-append-drop, take-take}}
+use Rattle.std.proofs.lemmas.{Bool.{ltb-false, ltb-true}, List.length-take}
 use Rattle.hunk_words.specs.Bits.{end_word, has_both_bits, kind}
 use Rattle.hunk_words.specs.declared.block_word.Kind.{Kind}
 use Rattle.hunk_words.specs.declared.block_word.Kind.TheVariants as kinds
@@ -13,16 +13,16 @@ use Rattle.hunk_grammar.specs.Positions.{close, open_next, step}
 use Rattle.hunk_wide.specs.declared.position.FilePosition.{FilePosition}
 use Rattle.hunk_wide.specs.declared.position.FilePosition.TheVariants as files
 use Rattle.hunk_wide.specs.declared.spot.Spot.{Spot}
-use Rattle.hunk_wide.specs.declared.spot.Spot.TheVariants.{Long}
 use Rattle.hunk_wide.specs.declared.spot.Given.{Given}
-use Rattle.hunk_wide.specs.declared.spot.Given.TheVariants.{Same, BehindEnd, AsLong}
+use Rattle.hunk_wide.specs.declared.spot.Given.TheVariants.{Same, BehindEnd}
 use Rattle.hunk_wide.specs.FileEnds.{ends}
-use Rattle.hunk_wide.specs.InFile.{LeadsTo, spot_after}
+use Rattle.hunk_wide.specs.InFile.{spot_after}
 use Rattle.hunk_wide.specs.Longwords.{behind_block, given_block, given_kind, go_on, out_long}
-use Rattle.hunk_wide.specs.Parts.{AsIs, AsIsBehind, IsNext, front_word, load_at, put_before}
-use Rattle.hunk_wide.specs.Places.{GoesBy, count_long, here_or, place_from}
-use Rattle.hunk_wide.specs.Plain.{GivesFor, plain_from}
-use Rattle.hunk_wide.specs.Spellings.{BeginsWith, counted, ends_from, has_end, is_short, one_if, short_blocks_from}
+use Rattle.hunk_wide.specs.Parts.{AsIs, AsIsBehind, IsBlock, IsNext, IsSpelled, front_word, load_at, word_at}
+use Rattle.hunk_wide.specs.Places.{count_long, here_or, place_from}
+use Rattle.hunk_wide.specs.Plain.{plain_from}
+use Rattle.hunk_wide.specs.Spellings.{counted, has_end, is_short, one_if}
+use Rattle.hunk_wide.proofs.AsIs.{block_from, first_counted, first_gives, first_leads, first_places}
 
 -- ---- END before
 
@@ -122,8 +122,8 @@ module _ (o next : OpenHunk) (is_next : IsNext o next) (a b c d : ℕ) (rest : L
       ∙ here_put n (place_from after rest)
       ∙ sym (ap (λ (g : Given). here_or 4 (count_long g) (n - 4) (place_from after rest (n - 4 - count_long g))) same)
 
-pub end_behind : (o next : OpenHunk) (bytes : List ℕ) (size : ℕ) (t : Spot) → IsNext o next → given_block o (front_word bytes) ≡ BehindEnd → 4 ≤ size → size ≤ length bytes
-    → AsIs (load_at (positions.Body next phases.FirstBlock)) (take size bytes) t → AsIsBehind (load_at (positions.Body o phases.BlockWord)) (take size bytes) BehindEnd t
+end_behind : (o next : OpenHunk) (bytes : List ℕ) (size : ℕ) (t : Spot) → IsNext o next → given_block o (front_word bytes) ≡ BehindEnd → 4 ≤ size → size ≤ length bytes
+    → AsIs (load_at (positions.Body next phases.FirstBlock)) (take size bytes) t → AsIsBehind (load_at (positions.Body o phases.BlockWord)) (take size bytes) true t
 end_behind o next (a ∷ b ∷ c ∷ d ∷ rest) (suc (suc (suc (suc size)))) t is_next behind word whole part = record {
   gives = λ more. end_gives o next is_next a b c d (take size rest ++ more) behind ∙ ap (λ (x : List ℕ). to_be_bytes w32 end_word ++ x) (part.gives more);
   leads = λ more. end_leads o next is_next a b c d (take size rest ++ more) behind ∙ part.leads more;
@@ -148,57 +148,46 @@ end_behind o next (a ∷ b ∷ c ∷ d ∷ rest) (suc (suc (suc (suc size)))) t 
 }
 end_behind o next _ _ t is_next behind word whole part = absurd (omega arith)
 
--- ---- in front of an input
+-- the first block of the next hunk
+pub spelled_behind : (o next after : OpenHunk) (bytes : List ℕ) (size : ℕ) (is_end : Bool) → IsNext o next → given_block o (front_word bytes) ≡ BehindEnd → IsBlock next bytes size is_end after
+    → IsSpelled o bytes size true is_end after
+spelled_behind o next after bytes size is_end is_next behind block = record {
+  word = block.word;
+  whole = block.whole;
+  as_is = end_behind o next bytes size (load_at (word_at after is_end)) is_next behind block.word block.whole (block_from next after true is_end bytes size block);
+}
 
-pub part_goes : (s t : Spot) (bytes : List ℕ) (put_in : Given) (n size count : ℕ) → 0 < size → size ≤ length bytes → count ≡ 4 * one_if (has_end put_in) + size → AsIsBehind s (take size bytes) put_in t → GoesBy s bytes n size count t
-part_goes s t bytes put_in n size count some whole e part = record {
-  some = some;
-  whole = whole;
-  goes =
-      ap (λ (x : List ℕ). place_from s x n) (sym (take-append-drop size bytes))
-      ∙ part.places (drop size bytes) n
-      ∙ ap₂ (λ (j k : ℕ). here_or j k n (place_from t (drop size bytes) (n - k))) len (omega (arith, len, e));
+-- ---- none before
+
+none_behind : (s t : Spot) (bytes : List ℕ) → AsIs s bytes t → AsIsBehind s bytes false t
+none_behind s t bytes part = record {
+  gives = part.gives;
+  leads = part.leads;
+  short_blocks = part.short_blocks;
+  ends = λ more. omega (arith, part.ends more);
+  places = λ more n.
+      let same : length bytes ≡ 4 * one_if false + length bytes = omega arith in
+      part.places more n ∙ ap (λ (k : ℕ). here_or (length bytes) k n (place_from t more (n - k))) same;
+}
+
+pub spelled_as_is : (o next : OpenHunk) (bytes : List ℕ) (size : ℕ) (is_end : Bool) → IsBlock o bytes size is_end next → IsSpelled o bytes size false is_end next
+spelled_as_is o next bytes size is_end block = record { word = block.word; whole = block.whole; as_is = none_behind _ _ (take size bytes) block.as_is }
+
+-- from the first block of a hunk on too
+first_behind : (o : OpenHunk) (is_first is_behind : Bool) (bytes : List ℕ) (t : Spot) → 4 ≤ length bytes → AsIsBehind (load_at (word_at o false)) bytes is_behind t → AsIsBehind (load_at (word_at o is_first)) bytes is_behind t
+first_behind o false is_behind bytes t word part = part
+first_behind o true is_behind bytes t word part = record {
+  gives = λ more. first_gives o (bytes ++ more) (whole more) ∙ part.gives more;
+  leads = λ more. first_leads o (bytes ++ more) (whole more) ∙ part.leads more;
+  short_blocks = λ more. first_counted (λ g. one_if (is_short g)) (λ p. 0) o (bytes ++ more) (whole more) ∙ part.short_blocks more;
+  ends = λ more. first_counted (λ g. one_if (has_end g)) (λ p. one_if (ends p)) o (bytes ++ more) (whole more) ∙ part.ends more;
+  places = λ more n. first_places o (bytes ++ more) n (whole more) ∙ part.places more n;
 }
   where
-    len : length (take size bytes) ≡ size
-    len = omega (arith, length-take size bytes)
+    whole : (more : List ℕ) → 4 ≤ length (bytes ++ more)
+    whole more = omega (arith, word, length-append bytes more)
 
-pub part_begins : (s t : Spot) (bytes : List ℕ) (put_in : Given) (size count : ℕ) → 0 < size → size ≤ length bytes → count ≡ 4 * one_if (has_end put_in) + size → AsIsBehind s (take size bytes) put_in t → BeginsWith s bytes size count put_in t
-part_begins s t bytes put_in size count some whole e part = record {
-  some = some;
-  whole = whole;
-  len = omega (arith, long, length-append (put_before put_in ++ take size bytes) (plain_from t (drop size bytes)), length-append (put_before put_in) (take size bytes), put_length put_in, length-take size bytes, e);
-  short_blocks = ap (short_blocks_from s) all ∙ part.short_blocks (drop size bytes);
-  ends = ap (ends_from s) all ∙ part.ends (drop size bytes);
-}
-  where
-    all : bytes ≡ take size bytes ++ drop size bytes
-    all = sym (take-append-drop size bytes)
-
-    long : length (plain_from s bytes) ≡ length ((put_before put_in ++ take size bytes) ++ plain_from t (drop size bytes))
-    long = ap (λ (x : List ℕ). length (plain_from s x)) all ∙ ap length (part.gives (drop size bytes))
-
-    put_length : (g : Given) → length (put_before g) ≡ 4 * one_if (has_end g)
-    put_length Same = refl
-    put_length BehindEnd = refl
-    put_length AsLong = refl
-
--- ---- at the front of a piece, where they are copied to the front of a buffer
-
-pub part_there : (s : Spot) (p : FilePosition) (put_in : Given) (n room taken given : ℕ) (next : Spot) (piece buf : List ℕ) → n ≤ length (take room piece) → AsIsBehind s (take n (take room piece)) put_in (Long p)
-    → taken ≡ n → take given buf ≡ put_before put_in ++ take n piece → next ≡ Long p → GivesFor s (take taken piece) (take given buf) next
-part_there s p put_in n room taken given next piece buf fits part t copied e more =
-    let front : take n (take room piece) ≡ take n piece = take-take n room piece (omega (arith, fits, length-take room piece)) in
-    (λ j. plain_from s (take (t j) piece ++ more))
-    ∙ ap (λ (x : List ℕ). plain_from s (x ++ more)) (sym front)
-    ∙ part.gives more
-    ∙ ap (λ (x : List ℕ). x ++ plain_from (Long p) more) (ap (λ (x : List ℕ). put_before put_in ++ x) front ∙ sym copied)
-    ∙ sym (ap (λ (x : Spot). take given buf ++ plain_from x more) e)
-
-pub part_leads : (s : Spot) (p : FilePosition) (put_in : Given) (n room taken : ℕ) (next : Spot) (piece : List ℕ) → n ≤ length (take room piece) → AsIsBehind s (take n (take room piece)) put_in (Long p)
-    → taken ≡ n → next ≡ Long p → LeadsTo s (take taken piece) next
-part_leads s p put_in n room taken next piece fits part t e more =
-    (λ j. spot_after s (take (t j) piece ++ more))
-    ∙ ap (λ (x : List ℕ). spot_after s (x ++ more)) (sym (take-take n room piece (omega (arith, fits, length-take room piece))))
-    ∙ part.leads more
-    ∙ sym (λ j. spot_after (e j) more)
+pub spelled_from : (o next : OpenHunk) (is_first is_behind is_end : Bool) (bytes : List ℕ) (size : ℕ) → IsSpelled o bytes size is_behind is_end next
+    → AsIsBehind (load_at (word_at o is_first)) (take size bytes) is_behind (load_at (word_at next is_end))
+spelled_from o next is_first is_behind is_end bytes size block =
+    first_behind o is_first is_behind (take size bytes) _ (omega (arith, block.word, block.whole, length-take size bytes)) block.as_is

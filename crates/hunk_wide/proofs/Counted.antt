@@ -99,7 +99,12 @@ ends_after p = one_if (ends p)
 
 -- ---- units in front
 
-pub long_begins : (p : FilePosition) (bytes : List ℕ) → 4 ≤ length bytes → BeginsWith (Long p) bytes 4 (count_long (given p (front_word bytes))) (given p (front_word bytes)) (behind_long p (front_word bytes))
+few_counts : (g : Given) → one_if (is_short g) + one_if (has_end g) ≤ 4
+few_counts Same = omega arith
+few_counts BehindEnd = omega arith
+few_counts AsLong = omega arith
+
+pub long_begins : (p : FilePosition) (bytes : List ℕ) → 4 ≤ length bytes → BeginsWith (Long p) bytes 4 (count_long (given p (front_word bytes))) (one_if (is_short (given p (front_word bytes)))) (one_if (has_end (given p (front_word bytes)))) (behind_long p (front_word bytes))
 unfolding plain_from counted
 long_begins p (a ∷ b ∷ c ∷ d ∷ rest) whole =
     let w : ℕ = from_be_bytes w32 (a ∷ b ∷ c ∷ d ∷ []) in
@@ -107,32 +112,42 @@ long_begins p (a ∷ b ∷ c ∷ d ∷ rest) whole =
     record {
       some = omega arith;
       whole = whole;
+      few = few_counts (given p w);
       len = length-append out (plain_from (behind_long p w) rest) ∙ ap (λ (n : ℕ). n + length (plain_from (behind_long p w) rest)) (out_length (given p w) a b c d w);
       short_blocks = refl;
-      ends = refl;
+      count = refl;
     }
 long_begins p _ whole = absurd (omega arith)
 
+-- by other names of the numbers
+pub counts_are : (s : Spot) (bytes : List ℕ) (size given given2 short short2 ends ends2 : ℕ) (next next2 : Spot) → given2 ≡ given → short2 ≡ short → ends2 ≡ ends → next2 ≡ next
+    → BeginsWith s bytes size given short ends next → BeginsWith s bytes size given2 short2 ends2 next2
+counts_are s bytes size given given2 short short2 ends ends2 next next2 g h e n b =
+    subst (λ (x : ℕ). BeginsWith s bytes size x short2 ends2 next2) (sym g)
+    (subst (λ (x : ℕ). BeginsWith s bytes size given x ends2 next2) (sym h)
+    (subst (λ (x : ℕ). BeginsWith s bytes size given short x next2) (sym e) (subst (λ (x : Spot). BeginsWith s bytes size given short ends x) (sym n) b)))
+
 filler_begins : (after : FilePosition) (bytes : List ℕ) → 2 ≤ length bytes
-    → BeginsWith (Filler after) bytes 2 (length (out_filler (get_or bytes 0 0) (get_or bytes 1 0))) Same (behind_filler after (get_or bytes 0 0) (get_or bytes 1 0))
+    → BeginsWith (Filler after) bytes 2 (length (out_filler (get_or bytes 0 0) (get_or bytes 1 0))) 0 0 (behind_filler after (get_or bytes 0 0) (get_or bytes 1 0))
 unfolding plain_from counted
 filler_begins after (a ∷ b ∷ rest) whole = record {
   some = omega arith;
   whole = whole;
+  few = omega arith;
   len = length-append (out_filler a b) (plain_from (behind_filler after a b) rest);
   short_blocks = omega arith;
-  ends = omega arith;
+  count = omega arith;
 }
 filler_begins after _ whole = absurd (omega arith)
 
-pub zero_begins : (after : FilePosition) (bytes : List ℕ) → 2 ≤ length bytes → front_half bytes ≡ 0 → BeginsWith (Filler after) bytes 2 0 Same (Long after)
+pub zero_begins : (after : FilePosition) (bytes : List ℕ) → 2 ≤ length bytes → front_half bytes ≡ 0 → BeginsWith (Filler after) bytes 2 0 0 0 (Long after)
 zero_begins after bytes whole e =
-    subst (λ (b : Bool). BeginsWith (Filler after) bytes 2 (length (cond b [] (0 ∷ 0 ∷ 3 ∷ 252 ∷ get_or bytes 0 0 ∷ get_or bytes 1 0 ∷ []))) Same (cond b (Long after) Passing))
+    subst (λ (b : Bool). BeginsWith (Filler after) bytes 2 (length (cond b [] (0 ∷ 0 ∷ 3 ∷ 252 ∷ get_or bytes 0 0 ∷ get_or bytes 1 0 ∷ []))) 0 0 (cond b (Long after) Passing))
     (eq-eqb (front_half bytes) 0 e) (filler_begins after bytes whole)
 
-pub other_begins : (after : FilePosition) (bytes : List ℕ) → 2 ≤ length bytes → (front_half bytes ≡ 0 → ⊥) → BeginsWith (Filler after) bytes 2 6 Same Passing
+pub other_begins : (after : FilePosition) (bytes : List ℕ) → 2 ≤ length bytes → (front_half bytes ≡ 0 → ⊥) → BeginsWith (Filler after) bytes 2 6 0 0 Passing
 other_begins after bytes whole e =
-    subst (λ (b : Bool). BeginsWith (Filler after) bytes 2 (length (cond b [] (0 ∷ 0 ∷ 3 ∷ 252 ∷ get_or bytes 0 0 ∷ get_or bytes 1 0 ∷ []))) Same (cond b (Long after) Passing))
+    subst (λ (b : Bool). BeginsWith (Filler after) bytes 2 (length (cond b [] (0 ∷ 0 ∷ 3 ∷ 252 ∷ get_or bytes 0 0 ∷ get_or bytes 1 0 ∷ []))) 0 0 (cond b (Long after) Passing))
     (ne_eqb (front_half bytes) 0 e) (filler_begins after bytes whole)
 
 straight_len : (owed : ℕ) (next : FilePosition) (bytes : List ℕ) → owed < length bytes → length (plain_from (Straight owed next) bytes) ≡ suc owed + length (plain_from (Long next) (drop (suc owed) bytes))
@@ -147,13 +162,14 @@ straight_counted f e owed next [] whole = absurd (omega arith)
 straight_counted f e zero next (b ∷ rest) whole = refl
 straight_counted f e (suc owed) next (b ∷ rest) whole = straight_counted f e owed next rest (omega arith)
 
-pub straight_begins : (owed : ℕ) (next : FilePosition) (bytes : List ℕ) → owed < length bytes → BeginsWith (Straight owed next) bytes (suc owed) (suc owed) Same (Long next)
+pub straight_begins : (owed : ℕ) (next : FilePosition) (bytes : List ℕ) → owed < length bytes → BeginsWith (Straight owed next) bytes (suc owed) (suc owed) 0 0 (Long next)
 straight_begins owed next bytes whole = record {
   some = omega arith;
   whole = omega arith;
+  few = omega arith;
   len = straight_len owed next bytes whole;
   short_blocks = omega (arith, straight_counted shorts at_no_end owed next bytes whole);
-  ends = omega (arith, straight_counted ends_before ends_after owed next bytes whole);
+  count = omega (arith, straight_counted ends_before ends_after owed next bytes whole);
 }
 
 halves_counted : (f : Given → ℕ) (e : FilePosition → ℕ) (front back : List ℕ) (s t : Spot) → HalvesLead front s t → counted f e s (front ++ back) ≡ counted f e t back
@@ -162,7 +178,7 @@ halves_counted f e [] back s t h = ap (λ (x : Spot). counted f e x back) h
 halves_counted f e (a ∷ b ∷ rest) back (Half after part odd) t h = halves_counted f e rest back (behind_half after part odd (half_of a b)) t h
 halves_counted f e _ back _ t h = absurd h
 
-pub halves_begin : (s t : Spot) (bytes : List ℕ) (count : ℕ) → 0 < count → 2 * count ≤ length bytes → HalvesLead (take (2 * count) bytes) s t → BeginsWith s bytes (2 * count) (4 * count) Same t
+pub halves_begin : (s t : Spot) (bytes : List ℕ) (count : ℕ) → 0 < count → 2 * count ≤ length bytes → HalvesLead (take (2 * count) bytes) s t → BeginsWith s bytes (2 * count) (4 * count) 0 0 t
 halves_begin s t bytes count some whole h =
     let front : List ℕ = take (2 * count) bytes in
     let back : List ℕ = drop (2 * count) bytes in
@@ -174,9 +190,10 @@ halves_begin s t bytes count some whole h =
     record {
       some = omega arith;
       whole = whole;
+      few = omega arith;
       len = omega (arith, long, length-append (widened front) (plain_from t back), widened_length front s t h, length-take (2 * count) bytes);
       short_blocks = omega (arith, shorts_same);
-      ends = omega (arith, ends_same);
+      count = omega (arith, ends_same);
     }
 
 -- ---- no whole unit

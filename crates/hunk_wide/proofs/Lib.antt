@@ -13,6 +13,7 @@ pub mod Leads
 pub mod AsIs
 pub mod Bodies
 pub mod BehindEnds
+pub mod ManyEnds
 pub mod ShortWords
 pub mod Placing
 pub mod Places

@@ -4,7 +4,7 @@ use Rattle.std.proofs.lemmas.{List.{append-nil, length-drop, length-take, take-a
 use borrow.Rule.Slice.PartMut.{post_of, put_mid}
 use Rattle.hunk_wide.specs.declared.spot.Spot.{Spot}
 use Rattle.hunk_wide.specs.declared.spot.Spot.TheVariants.{Passing}
-use Rattle.hunk_wide.specs.{Held.{Held, left_of, wanted, wanted_by}, Plain.{plain, plain_from}}
+use Rattle.hunk_wide.specs.{Held.{Held, left_of, wanted, wanted_by}, Plain.{GivesFor, plain_from}}
 use Rattle.hunk_wide.proofs.{Straight.take_over, Stretches.front_more}
 
 -- Where bytes are wanted, none is ready.
@@ -90,10 +90,8 @@ none_held h rest n room len fits = go h.ready refl
     go (x ∷ xs) e = fits (omega (arith, len, ap length e, length-append h.ready (plain_from h.spot (h.begun ++ rest))))
 
 -- Behind a first part of the input, the rest of it is what is left.
-pub first_part : (h after : Held) (bytes buf : List ℕ) (taken given : ℕ) → ((more : List ℕ) → left_of h more ≡ plain more) → ((more : List ℕ) → left_of h (take taken bytes ++ more) ≡ take given buf ++ left_of after more)
-    → take given buf ++ left_of after (take (length bytes - taken) (drop taken bytes)) ≡ plain bytes
-first_part h after bytes buf taken given new left =
-    ap (λ (x : List ℕ). take given buf ++ left_of after x) (take_rest bytes taken)
-    ∙ sym (left (drop taken bytes))
-    ∙ ap (left_of h) (take-append-drop taken bytes)
-    ∙ new bytes
+pub first_part : (s t : Spot) (bytes buf : List ℕ) (taken given : ℕ) → GivesFor s (take taken bytes) (take given buf) t → take given buf ++ plain_from t (take (length bytes - taken) (drop taken bytes)) ≡ plain_from s bytes
+first_part s t bytes buf taken given gives =
+    ap (λ (x : List ℕ). take given buf ++ plain_from t x) (take_rest bytes taken)
+    ∙ sym (gives (drop taken bytes))
+    ∙ ap (plain_from s) (take-append-drop taken bytes)

@@ -16,11 +16,10 @@ use Rattle.hunk_wide.specs.declared.position.FilePosition.{FilePosition}
 use Rattle.hunk_wide.specs.declared.position.FilePosition.TheVariants as files
 use Rattle.hunk_wide.specs.declared.spot.Spot.{Spot}
 use Rattle.hunk_wide.specs.declared.spot.Spot.TheVariants.{Long}
-use Rattle.hunk_wide.specs.declared.spot.Given.{Given}
 use Rattle.hunk_wide.specs.InFile.{LeadsTo}
 use Rattle.hunk_wide.specs.Places.{here_or, place_from}
-use Rattle.hunk_wide.specs.Plain.{GivesFor}
-use Rattle.hunk_wide.specs.Spellings.{ends_from, has_end, is_short, one_if, short_blocks_from}
+use Rattle.hunk_wide.specs.Plain.{GivesFor, plain_from}
+use Rattle.hunk_wide.specs.Spellings.{ends_from, one_if, short_blocks_from}
 
 -- These bytes are given out as they are, whatever follows them, and what follows is for this. None of them is counted, and each
 -- has its own place.
@@ -31,18 +30,28 @@ pub record AsIs (s : Spot) (bytes : List ℕ) (next : Spot) : Type 0 where
   pub ends : (more : List ℕ) → ends_from s (bytes ++ more) ≡ ends_from next more
   pub places : (more : List ℕ) (n : ℕ) → place_from s (bytes ++ more) n ≡ here_or (length bytes) (length bytes) n (place_from next more (n - length bytes))
 
--- what is put in
-abbrev pub put_before : Given → List ℕ
-put_before g = if has_end g then to_be_bytes w32 end_word else []
+-- what is put in: END, or nothing
+abbrev pub put_before : Bool → List ℕ
+put_before is_behind = if is_behind then to_be_bytes w32 end_word else []
 
--- The same, where this may be put in before them: END, or nothing.
-pub record AsIsBehind (s : Spot) (bytes : List ℕ) (put_in : Given) (next : Spot) : Type 0 where
-  pub gives : GivesFor s bytes (put_before put_in ++ bytes) next
+-- The same, where END may be put in before them.
+pub record AsIsBehind (s : Spot) (bytes : List ℕ) (is_behind : Bool) (next : Spot) : Type 0 where
+  pub gives : GivesFor s bytes (put_before is_behind ++ bytes) next
   pub leads : LeadsTo s bytes next
-  pub short_blocks : (more : List ℕ) → short_blocks_from s (bytes ++ more) ≡ one_if (is_short put_in) + short_blocks_from next more
-  pub ends : (more : List ℕ) → ends_from s (bytes ++ more) ≡ one_if (has_end put_in) + ends_from next more
+  pub short_blocks : (more : List ℕ) → short_blocks_from s (bytes ++ more) ≡ short_blocks_from next more
+  pub ends : (more : List ℕ) → ends_from s (bytes ++ more) ≡ one_if is_behind + ends_from next more
   pub places : (more : List ℕ) (n : ℕ) → place_from s (bytes ++ more) n
-      ≡ here_or (length bytes) (4 * one_if (has_end put_in) + length bytes) n (place_from next more (n - (4 * one_if (has_end put_in) + length bytes)))
+      ≡ here_or (length bytes) (4 * one_if is_behind + length bytes) n (place_from next more (n - (4 * one_if is_behind + length bytes)))
+
+-- These bytes are given out as they are, but for so many END that are put in before some of them. Whatever follows them, what
+-- follows is for this.
+pub record WithEnds (s : Spot) (bytes : List ℕ) (count : ℕ) (next : Spot) : Type 0 where
+  pub few : 4 * count ≤ length bytes
+  pub len : (more : List ℕ) → length (plain_from s (bytes ++ more)) ≡ 4 * count + length bytes + length (plain_from next more)
+  pub short_blocks : (more : List ℕ) → short_blocks_from s (bytes ++ more) ≡ short_blocks_from next more
+  pub ends : (more : List ℕ) → ends_from s (bytes ++ more) ≡ count + ends_from next more
+  pub places : (more : List ℕ) (n : ℕ) → 4 * count + length bytes ≤ n
+      → place_from s (bytes ++ more) n ≡ length bytes + place_from next more (n - (4 * count + length bytes))
 
 -- a longword of a load file at this position
 abbrev pub load_at : Position → Spot
@@ -117,6 +126,12 @@ pub record IsBlock (o : OpenHunk) (bytes : List ℕ) (size : ℕ) (is_end : Bool
   pub word : 4 ≤ size
   pub whole : size ≤ length bytes
   pub as_is : AsIs (load_at (word_at o false)) (take size bytes) (load_at (word_at next is_end))
+
+-- The same, where END may be left out before the block.
+pub record IsSpelled (o : OpenHunk) (bytes : List ℕ) (size : ℕ) (is_behind is_end : Bool) (next : OpenHunk) : Type 0 where
+  pub word : 4 ≤ size
+  pub whole : size ≤ length bytes
+  pub as_is : AsIsBehind (load_at (word_at o false)) (take size bytes) is_behind (load_at (word_at next is_end))
 
 -- So many bytes are those of a block of an object file, or of the header of a unit, whose word stands at this place; the next
 -- word stands at that one.

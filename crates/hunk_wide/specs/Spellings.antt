@@ -56,13 +56,15 @@ ends_of bytes = ends_from (Long (files.Load positions.FirstLong)) bytes
 
 -- ---- one step over an input
 
--- So many bytes are in front, and these numbers for them; what is counted after them is by what they lead to.
-pub record BeginsWith (s : Spot) (bytes : List ℕ) (size given : ℕ) (put_in : Given) (next : Spot) : Type 0 where
+-- So many bytes are in front, and these numbers for them, of short blocks and of END no more than bytes; what is counted after
+-- them is by what they lead to.
+pub record BeginsWith (s : Spot) (bytes : List ℕ) (size given short ends : ℕ) (next : Spot) : Type 0 where
   pub some : 0 < size
   pub whole : size ≤ length bytes
+  pub few : short + ends ≤ size
   pub len : length (plain_from s bytes) ≡ given + length (plain_from next (drop size bytes))
-  pub short_blocks : short_blocks_from s bytes ≡ one_if (is_short put_in) + short_blocks_from next (drop size bytes)
-  pub ends : ends_from s bytes ≡ one_if (has_end put_in) + ends_from next (drop size bytes)
+  pub short_blocks : short_blocks_from s bytes ≡ short + short_blocks_from next (drop size bytes)
+  pub count : ends_from s bytes ≡ ends + ends_from next (drop size bytes)
 
 -- an END is put in at the end of the input
 abbrev pub ends_last : Spot → List ℕ → Bool

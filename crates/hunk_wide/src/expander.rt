@@ -60,9 +60,17 @@ impl Expander {
         ensures spot { (more : List ℕ) → spot_of result more
             ≡ spot_after (Long (Load FirstLong)) more }
     {
+        Expander::at(Spot::Long(FilePosition::Load(Position::FirstLong)))
+    }
+
+    /// Where nothing is held, and the next bytes are for this.
+    #[inline(always)]
+    pub(crate) fn at(spot: Spot) -> Expander
+        ensures { result ≡ record { ready = []; spot = spot; begun = [] } }
+    {
         Expander {
             ready: Ready::none(),
-            spot: Spot::Long(FilePosition::Load(Position::FirstLong)),
+            spot,
             begun: Pending::NONE,
         }
     }

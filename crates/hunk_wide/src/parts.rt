@@ -30,11 +30,11 @@ pub(crate) struct Run {
 
 /// A block that was passed over.
 #[derive(Clone, Copy)]
-struct Block {
+pub(crate) struct Block {
     /// The number of its bytes.
-    size: usize,
+    pub(crate) size: usize,
     /// Whether it is the END of a hunk, after which the next begins.
-    is_end: bool,
+    pub(crate) is_end: bool,
 }
 
 /// The header with its table, rows of that, or blocks, that the bytes begin with, where a longword
@@ -179,7 +179,7 @@ pub(crate) fn front_word(bytes: &[u8]) -> u32
 
 /// Blocks, and the ends of hunks with others ahead. The first may be the first of its hunk.
 #[inline(never)]
-pub(crate) fn blocks_at(hunk: OpenHunk, is_first: bool, bytes: &[u8]) -> Run
+fn blocks_at(hunk: OpenHunk, is_first: bool, bytes: &[u8]) -> Run
     ensures inside { result.size ≤ length bytes.now }
     ensures as_is { AsIs (load_at (word_at hunk is_first)) (take result.size bytes.now)
         (Long result.next) }
@@ -212,7 +212,7 @@ pub(crate) fn word_at(hunk: OpenHunk, is_first: bool) -> Position
 /// The block that the bytes begin with, and goes on to the hunk as it is after it. `None` leaves
 /// that as it was.
 #[inline(always)]
-fn pass_block(hunk: &mut OpenHunk, bytes: &[u8]) -> Option<Block>
+pub(crate) fn pass_block(hunk: &mut OpenHunk, bytes: &[u8]) -> Option<Block>
     ensures some { IfSome result (λ b. IsBlock hunk.old bytes.now b.size b.is_end hunk.new) }
     ensures none { IfNone result (hunk.new ≡ hunk.old) }
 {

@@ -6,8 +6,9 @@ ghost use Rattle.hunk_wide.specs.Plain.{plain};
 ghost use Rattle.hunk_wide.specs.declared.position.FilePosition.TheVariants.{Load};
 ghost use Rattle.hunk_wide.specs.declared.spot.Spot.TheVariants.{Filler, Half, Long, Straight};
 
-use crate::behind::{end_len, part_at};
+use crate::behind::part_at;
 use crate::halves::halves_in;
+use crate::parts::run_at;
 use crate::position::FilePosition;
 use crate::spot::{Given, ShortPart, Spot};
 use hunk_grammar::Position;
@@ -106,19 +107,42 @@ fn long_unit(position: FilePosition, rest: &[u8], n: u64) -> Option<Unit>
     if rest.len() < 4 {
         return None;
     }
-    let part = part_at(position, rest);
-    if part.size > 0 {
-        return Some(Unit {
-            size: part.size,
-            given: (end_len(part.put_in) + part.size) as u64,
-            next: Spot::Long(part.next),
-        });
+    if let Some(unit) = part_unit(position, rest, n) {
+        return Some(unit);
     }
     let word = u32::from_be_bytes([rest[0], rest[1], rest[2], rest[3]]);
     Some(Unit {
         size: 4,
         given: given_len(Given::of(position, word)),
         next: Spot::behind_long(position, word),
+    })
+}
+
+/// Bytes that are given out as they are, or that are given out before byte `n` with each END that is
+/// put in among them.
+#[inline(always)]
+fn part_unit(position: FilePosition, rest: &[u8], n: u64) -> Option<Unit>
+    ensures { IfSome result
+        (λ unit. GoesBy (Long position) rest.now n unit.size unit.given unit.next) }
+{
+    let run = run_at(position, rest);
+    if run.size > 0 {
+        return Some(Unit {
+            size: run.size,
+            given: run.size as u64,
+            next: Spot::Long(run.next),
+        });
+    }
+    // For so many bytes no more than `n` are given out.
+    let most = (rest.len() as u64).min(n / 2) as usize;
+    let part = part_at(position, &rest[..most]);
+    if part.size == 0 {
+        return None;
+    }
+    Some(Unit {
+        size: part.size,
+        given: (part.size + 4 * part.ends) as u64,
+        next: Spot::Long(part.next),
     })
 }
 

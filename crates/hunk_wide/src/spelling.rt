@@ -5,7 +5,7 @@ ghost use Rattle.hunk_wide.specs.Spellings.{BeginsWith, EndsThere};
 ghost use Rattle.hunk_wide.specs.Spellings.{ends_last, ends_of, has_end, is_short, one_if, short_blocks_of};
 ghost use Rattle.hunk_wide.specs.declared.spot.Spot.TheVariants.{Filler, Half, Long, Straight};
 
-use crate::behind::{end_len, part_at};
+use crate::behind::part_at;
 use crate::expander::is_last;
 use crate::halves::halves_in;
 use crate::place::given_len;
@@ -40,8 +40,10 @@ struct Units {
     size: usize,
     /// How many bytes are given out for them.
     given: u64,
-    /// What is given out for a longword, or for the first. Of other units nothing is counted.
-    put_in: Given,
+    /// How many words of short blocks are among them: one or none.
+    short_blocks: u64,
+    /// How many END are put in.
+    ends: u64,
     /// What the bytes after them are for.
     next: Spot,
 }
@@ -64,8 +66,8 @@ pub fn spelling_of(bytes: &[u8]) -> Spelling
     let mut ends: u64 = 0;
     'units: while let Some(units) = units_at(spot, rest) {
         len += units.given;
-        short_blocks += u64::from(is_short(units.put_in));
-        ends += u64::from(has_end(units.put_in));
+        short_blocks += units.short_blocks;
+        ends += units.ends;
         rest = &rest[units.size..];
         spot = units.next;
     }
@@ -112,7 +114,8 @@ fn has_end(given: Given) -> bool
 fn units_at(spot: Spot, rest: &[u8]) -> Option<Units>
     ensures none { IfNone result (EndsThere spot rest.now) }
     ensures some { IfSome result
-        (λ u. BeginsWith spot rest.now u.size u.given u.put_in u.next) }
+        (λ u. BeginsWith spot rest.now u.size u.given u.short_blocks u.ends
+        u.next) }
 {
     match spot {
         Spot::Passing => None,
@@ -131,7 +134,8 @@ fn units_at(spot: Spot, rest: &[u8]) -> Option<Units>
 fn straight_at(owed: u64, next: FilePosition, rest: &[u8]) -> Option<Units>
     ensures none { IfNone result (EndsThere (Straight owed next) rest.now) }
     ensures some { IfSome result
-        (λ u. BeginsWith (Straight owed next) rest.now u.size u.given u.put_in u.next) }
+        (λ u. BeginsWith (Straight owed next) rest.now u.size u.given u.short_blocks u.ends
+        u.next) }
 {
     if rest.len() as u64 <= owed {
         return None;
@@ -139,7 +143,8 @@ fn straight_at(owed: u64, next: FilePosition, rest: &[u8]) -> Option<Units>
     Some(Units {
         size: owed as usize + 1,
         given: owed + 1,
-        put_in: Given::Same,
+        short_blocks: 0,
+        ends: 0,
         next: Spot::Long(next),
     })
 }
@@ -148,7 +153,8 @@ fn straight_at(owed: u64, next: FilePosition, rest: &[u8]) -> Option<Units>
 fn long_at(position: FilePosition, rest: &[u8]) -> Option<Units>
     ensures none { IfNone result (EndsThere (Long position) rest.now) }
     ensures some { IfSome result
-        (λ u. BeginsWith (Long position) rest.now u.size u.given u.put_in u.next) }
+        (λ u. BeginsWith (Long position) rest.now u.size u.given u.short_blocks u.ends
+        u.next) }
 {
     if rest.len() < 4 {
         return None;
@@ -157,8 +163,9 @@ fn long_at(position: FilePosition, rest: &[u8]) -> Option<Units>
     if part.size > 0 {
         return Some(Units {
             size: part.size,
-            given: (end_len(part.put_in) + part.size) as u64,
-            put_in: part.put_in,
+            given: (part.size + 4 * part.ends) as u64,
+            short_blocks: 0,
+            ends: part.ends as u64,
             next: Spot::Long(part.next),
         });
     }
@@ -167,7 +174,8 @@ fn long_at(position: FilePosition, rest: &[u8]) -> Option<Units>
     Some(Units {
         size: 4,
         given: given_len(put_in),
-        put_in,
+        short_blocks: u64::from(is_short(put_in)),
+        ends: u64::from(has_end(put_in)),
         next: Spot::behind_long(position, word),
     })
 }
@@ -177,7 +185,8 @@ fn long_at(position: FilePosition, rest: &[u8]) -> Option<Units>
 fn half_at(after: FilePosition, part: ShortPart, is_odd: bool, rest: &[u8]) -> Option<Units>
     ensures none { IfNone result (EndsThere (Half after part is_odd) rest.now) }
     ensures some { IfSome result
-        (λ u. BeginsWith (Half after part is_odd) rest.now u.size u.given u.put_in u.next) }
+        (λ u. BeginsWith (Half after part is_odd) rest.now u.size u.given u.short_blocks u.ends
+        u.next) }
 {
     if rest.len() < 2 {
         return None;
@@ -186,7 +195,8 @@ fn half_at(after: FilePosition, part: ShortPart, is_odd: bool, rest: &[u8]) -> O
     Some(Units {
         size: 2 * halves.count,
         given: 4 * halves.count as u64,
-        put_in: Given::Same,
+        short_blocks: 0,
+        ends: 0,
         next: halves.next,
     })
 }
@@ -195,7 +205,8 @@ fn half_at(after: FilePosition, part: ShortPart, is_odd: bool, rest: &[u8]) -> O
 fn filler_at(after: FilePosition, rest: &[u8]) -> Option<Units>
     ensures none { IfNone result (EndsThere (Filler after) rest.now) }
     ensures some { IfSome result
-        (λ u. BeginsWith (Filler after) rest.now u.size u.given u.put_in u.next) }
+        (λ u. BeginsWith (Filler after) rest.now u.size u.given u.short_blocks u.ends
+        u.next) }
 {
     if rest.len() < 2 {
         return None;
@@ -205,14 +216,16 @@ fn filler_at(after: FilePosition, rest: &[u8]) -> Option<Units>
         return Some(Units {
             size: 2,
             given: 0,
-            put_in: Given::Same,
+            short_blocks: 0,
+            ends: 0,
             next: Spot::Long(after),
         });
     }
     Some(Units {
         size: 2,
         given: 6,
-        put_in: Given::Same,
+        short_blocks: 0,
+        ends: 0,
         next: Spot::Passing,
     })
 }

@@ -1,17 +1,20 @@
 //! Bytes of a wide spelling that lie in a piece, given out into a buffer.
-ghost use Rattle.std.specs.Prelude.{◌≡◌, ◌<◌, ◌≤◌, ◌+◌, ◌*◌, ◌/◌, ◌++◌, length, take};
-ghost use Rattle.std.specs.Int.{from_be_bytes, w32};
+ghost use Rattle.std.specs.Prelude.{◌≡◌, ◌<◌, ◌≤◌, ◌+◌, ◌*◌, ◌/◌, ◌++◌, false, length, take};
+ghost use Rattle.std.specs.Int.{from_be_bytes, to_be_bytes, w32};
+ghost use Rattle.hunk_words.specs.Bits.{end_word};
 ghost use Rattle.hunk_wide.specs.Halves.{widened};
 ghost use Rattle.hunk_wide.specs.InFile.{LeadsTo};
 ghost use Rattle.hunk_wide.specs.Longwords.{out_long};
-ghost use Rattle.hunk_wide.specs.Parts.{put_before};
+ghost use Rattle.hunk_wide.specs.Parts.{load_at, word_at};
 ghost use Rattle.hunk_wide.specs.Plain.{GivesFor};
 ghost use Rattle.hunk_wide.specs.declared.spot.Spot.TheVariants.{Filler, Half, Long, Passing, Straight};
 
-use crate::behind::{Part, part_at};
+use crate::behind::pass_spelled;
 use crate::halves::halves_in;
+use crate::parts::{Run, run_at, word_at};
 use crate::position::FilePosition;
 use crate::spot::{Given, ShortPart, Spot, long_word};
+use hunk_grammar::{OpenHunk, Phase, Position};
 
 /// The bytes at the front of a piece that were given out at the front of a buffer.
 #[derive(Clone, Copy)]
@@ -22,6 +25,15 @@ pub(crate) struct Stretch {
     pub(crate) given: usize,
     /// What the bytes after them are for.
     pub(crate) next: Spot,
+}
+
+/// The same of bytes after which a longword comes.
+#[derive(Clone, Copy)]
+struct Copied {
+    taken: usize,
+    given: usize,
+    /// What the longword is for.
+    next: FilePosition,
 }
 
 /// Gives out what the first bytes of the piece are for, as far as whole units lie in it and their
@@ -134,11 +146,13 @@ fn expand_long(position: FilePosition, piece: &[u8], buf: &mut [u8]) -> Stretch
     if piece.len() < 4 || buf.len() < 8 {
         return nothing(Spot::Long(position));
     }
-    // There is room for an END before them.
-    let room = piece.len().min(buf.len() - 4);
-    let part = part_at(position, &piece[..room]);
-    if part.size > 0 {
-        return copy_part(part, piece, buf);
+    let part = expand_part(position, piece, buf);
+    if part.taken > 0 {
+        return Stretch {
+            taken: part.taken,
+            given: part.given,
+            next: Spot::Long(part.next),
+        };
     }
     let cells = [piece[0], piece[1], piece[2], piece[3]];
     let word = u32::from_be_bytes(cells);
@@ -149,41 +163,98 @@ fn expand_long(position: FilePosition, piece: &[u8], buf: &mut [u8]) -> Stretch
     }
 }
 
-/// Copies the bytes that are given out as they are, behind the END that may be put in.
+/// A part that is given out as it is, or blocks of hunks of which some leave out END. It may be none.
 #[inline(always)]
-fn copy_part(part: Part, piece: &[u8], buf: &mut [u8]) -> Stretch
-    requires piece { part.size ≤ length piece.now }
-    requires room { part.size + 4 ≤ length buf.old }
-    ensures taken { result.taken ≡ part.size }
+fn expand_part(position: FilePosition, piece: &[u8], buf: &mut [u8]) -> Copied
+    ensures taken { result.taken ≤ length piece.now }
     ensures given { result.given ≤ length buf.new }
-    ensures bytes { take result.given buf.new
-        ≡ put_before part.put_in ++ take part.size piece.now }
-    ensures next { result.next ≡ Long part.next }
+    ensures gives { GivesFor (Long position) (take result.taken piece.now)
+        (take result.given buf.new) (Long result.next) }
+    ensures leads { LeadsTo (Long position) (take result.taken piece.now) (Long result.next) }
 {
-    let from = put_end(part.put_in, buf);
-    let given = from + part.size;
-    buf[from..given].copy_from_slice(&piece[..part.size]);
-    Stretch {
-        taken: part.size,
-        given,
-        next: Spot::Long(part.next),
+    let room = piece.len().min(buf.len());
+    let run = run_at(position, &piece[..room]);
+    if run.size > 0 {
+        return copy_run(run, piece, buf);
+    }
+    match position {
+        FilePosition::Load(Position::Body(hunk, Phase::BlockWord)) => {
+            // For so many bytes no more are given out than fit.
+            let most = piece.len().min(buf.len() / 2);
+            copy_blocks(hunk, &piece[..most], buf)
+        }
+        _ => Copied {
+            taken: 0,
+            given: 0,
+            next: position,
+        },
     }
 }
 
-/// Writes the END that may be put in, and gives the number of its bytes.
+/// Copies the bytes that are given out as they are.
 #[inline(always)]
-fn put_end(put_in: Given, buf: &mut [u8]) -> usize
-    requires { 4 ≤ length buf.old }
-    ensures inside { result ≤ 4 }
-    ensures bytes { take result buf.new ≡ put_before put_in }
+fn copy_run(run: Run, piece: &[u8], buf: &mut [u8]) -> Copied
+    requires piece { run.size ≤ length piece.now }
+    requires room { run.size ≤ length buf.old }
+    ensures taken { result.taken ≡ run.size }
+    ensures given { result.given ≤ length buf.new }
+    ensures bytes { take result.given buf.new ≡ take run.size piece.now }
+    ensures next { result.next ≡ run.next }
 {
-    match put_in {
-        Given::BehindEnd => {
-            buf[..4].copy_from_slice([0, 0, 3, 0xF2].as_slice());
-            4
-        }
-        _ => 0,
+    buf[..run.size].copy_from_slice(&piece[..run.size]);
+    Copied {
+        taken: run.size,
+        given: run.size,
+        next: run.next,
     }
+}
+
+/// Copies blocks of this hunk and of those after it, and writes each END that is left out between
+/// them.
+#[inline(never)]
+fn copy_blocks(hunk: OpenHunk, piece: &[u8], buf: &mut [u8]) -> Copied
+    requires { 2 * length piece.now ≤ length buf.old }
+    ensures taken { result.taken ≤ length piece.now }
+    ensures given { result.given ≤ length buf.new }
+    ensures gives { GivesFor (load_at (word_at hunk false)) (take result.taken piece.now)
+        (take result.given buf.new) (Long result.next) }
+    ensures leads { LeadsTo (load_at (word_at hunk false)) (take result.taken piece.now)
+        (Long result.next) }
+{
+    let mut hunk = hunk;
+    let mut is_first = false;
+    let mut at = 0;
+    // The bytes before this one are copied.
+    let mut from = 0;
+    let mut given = 0;
+    'blocks: while let Some(spelled) = pass_spelled(&mut hunk, &piece[at..]) {
+        if spelled.is_behind {
+            given += copy_and_end(&piece[from..at], &mut buf[given..]);
+            from = at;
+        }
+        at += spelled.block.size;
+        is_first = spelled.block.is_end;
+    }
+    let last = at - from;
+    buf[given..given + last].copy_from_slice(&piece[from..at]);
+    Copied {
+        taken: at,
+        given: given + last,
+        next: FilePosition::Load(word_at(hunk, is_first)),
+    }
+}
+
+/// Copies the bytes, writes END after them, and gives the number of all.
+#[inline(always)]
+fn copy_and_end(bytes: &[u8], buf: &mut [u8]) -> usize
+    requires { length bytes.now + 4 ≤ length buf.old }
+    ensures number { result ≡ length bytes.now + 4 }
+    ensures bytes { take result buf.new ≡ bytes.now ++ to_be_bytes w32 end_word }
+{
+    let end = bytes.len();
+    buf[..end].copy_from_slice(bytes);
+    buf[end..end + 4].copy_from_slice([0, 0, 3, 0xF2].as_slice());
+    end + 4
 }
 
 /// Writes what is given out for the longword of these bytes, and gives the number of bytes.

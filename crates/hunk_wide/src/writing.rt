@@ -1,10 +1,14 @@
 //! The plain spelling of an input that is in hand whole, written at once.
 ghost use Rattle.std.specs.Prelude.{◌≡◌, ◌<◌, ◌++◌, ◌⊎◌, [], IfErr, IfOk, OnErr, length, drop};
 ghost use Rattle.hunk_wide.specs.Held.{left_of, wanted};
-ghost use Rattle.hunk_wide.specs.Plain.{plain};
+ghost use Rattle.hunk_wide.specs.Plain.{plain, plain_from};
 
 use crate::expander::Expander;
+use crate::position::FilePosition;
 use crate::spelling::spelling_of;
+use crate::spot::Spot;
+use crate::units::expand;
+use hunk_grammar::Position;
 
 /// There is no room for the plain spelling.
 #[derive(Clone, Copy, Debug, PartialEq, Eq)]
@@ -56,18 +60,21 @@ fn fill(bytes: &[u8], out: &mut [u8])
     requires { length out.old ≡ length (plain bytes.now) }
     ensures { out.new ≡ plain bytes.now }
 {
-    let mut held = Expander::new();
-    let (taken, given) = held.expand(bytes, out);
-    fill_rest(held, &bytes[taken..], &mut out[given..]);
+    let on = expand(
+        Spot::Long(FilePosition::Load(Position::FirstLong)),
+        bytes,
+        out,
+    );
+    fill_rest(on.next, &bytes[on.taken..], &mut out[on.given..]);
 }
 
-/// The same, where this is held and these bytes are still to come. It goes a unit at a time.
+/// The same from here on, where the bytes are for this. It goes a unit at a time.
 #[inline(never)]
-fn fill_rest(held: Expander, bytes: &[u8], out: &mut [u8])
-    requires { length out.old ≡ length (left_of held bytes.now) }
-    ensures { out.new ≡ left_of held bytes.now }
+fn fill_rest(spot: Spot, bytes: &[u8], out: &mut [u8])
+    requires { length out.old ≡ length (plain_from spot bytes.now) }
+    ensures { out.new ≡ plain_from spot bytes.now }
 {
-    let mut held = held;
+    let mut held = Expander::at(spot);
     let mut rest = bytes;
     let mut at = 0;
     'units: loop {
@@ -82,7 +89,7 @@ fn fill_rest(held: Expander, bytes: &[u8], out: &mut [u8])
     fill_last(held, rest, &mut out[at..]);
 }
 
-/// The same, where all bytes pass, or no unit is whole.
+/// The same, where this is held, and all bytes pass, or no unit is whole.
 #[inline(never)]
 fn fill_last(held: Expander, bytes: &[u8], out: &mut [u8])
     requires ready { held.ready ≡ [] }

@@ -1,19 +1,13 @@
-use Rattle.std.proofs.Common.{ℕ, ◌+◌, ap, sym, subst, ◌∙◌}
+use Rattle.std.proofs.Common.{ℕ, ap, sym, subst, ◌∙◌}
 use Rattle.hunk_wide.specs.declared.spot.Spot.{Spot}
 use Rattle.hunk_wide.specs.declared.spot.Spot.TheVariants.{Long}
 use Rattle.hunk_wide.specs.Places.{GoesBy, count_long}
 use Rattle.hunk_wide.specs.Longwords.{behind_long, given}
-use Rattle.hunk_wide.proofs.{BehindEnds.part_goes, Placing.{front_word, long_few, long_in_front}}
+use Rattle.hunk_wide.proofs.Placing.{front_word, long_few, long_in_front}
 use Rattle.hunk_wide.proofs.place.long_unit.Goals as goal
 
 pub returns-then-rest-lt4-clause-none : goal.returns-then-rest-lt4-clause-none
 returns-then-rest-lt4-clause-none c = long_few c.args.position c.args.rest.now c.args.n c.if-rest-lt4.true
-
-pub returns-then-part-gt0-clause-some : goal.returns-then-part-gt0-clause-some
-returns-then-part-gt0-clause-some c =
-    let part = c.part_at-part.result in
-    part_goes (Long c.args.position) (Long part.next) c.args.rest.now part.put_in c.args.n part.size _ c.if-part-gt0.true c.part_at-part.ensures.inside
-    (ap (λ (k : ℕ). k + part.size) c.end_len.ensures.value) c.part_at-part.ensures.as_is
 
 pub returns-clause-some : goal.returns-clause-some
 returns-clause-some c =

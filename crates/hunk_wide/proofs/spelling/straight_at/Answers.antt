@@ -1,6 +1,5 @@
 use Rattle.std.proofs.Common.{◌≡◌, ℕ, suc, ◌+◌, subst, arith}
 use Rattle.hunk_wide.specs.declared.spot.Spot.TheVariants.{Long, Straight}
-use Rattle.hunk_wide.specs.declared.spot.Given.TheVariants.{Same}
 use Rattle.hunk_wide.specs.Spellings.{BeginsWith}
 use Rattle.hunk_wide.proofs.Counted.{straight_begins, straight_ends}
 use Rattle.hunk_wide.proofs.spelling.straight_at.Goals as goal
@@ -11,5 +10,5 @@ returns-then-rest-owed-clause-none c = straight_ends c.args.owed c.args.next c.a
 pub returns-clause-some : goal.returns-clause-some
 returns-clause-some c =
     let one : suc c.args.owed ≡ c.args.owed + 1 = omega arith in
-    subst (λ (k : ℕ). BeginsWith (Straight c.args.owed c.args.next) c.args.rest.now k k Same (Long c.args.next)) one
+    subst (λ (k : ℕ). BeginsWith (Straight c.args.owed c.args.next) c.args.rest.now k k 0 0 (Long c.args.next)) one
     (straight_begins c.args.owed c.args.next c.args.rest.now c.if-rest-owed.false)

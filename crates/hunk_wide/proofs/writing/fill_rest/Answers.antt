@@ -1,7 +1,7 @@
 use Rattle.std.proofs.Common.{◌≡◌, ℕ, ◌+◌, ◌-◌, ◌<◌, ◌≤◌, ◌⊎◌, inl, inr, List, ◌++◌, length, take, drop, sym, ap, ◌∙◌, arith}
 use Rattle.std.proofs.lemmas.List.{take-append-drop, take_rest}
 use borrow.Rule.Slice.PartMut.{put_mid}
-use Rattle.hunk_wide.specs.Held.{left_of, wanted}
+use Rattle.hunk_wide.specs.{Held.{left_of, wanted}, Plain.plain_from}
 use Rattle.hunk_wide.proofs.Written.{gave_more, none_held, part_length, put_last, put_length, room_left}
 use Rattle.hunk_wide.proofs.writing.fill_rest.Goals as goal
 
@@ -34,11 +34,11 @@ fill_last-requires c =
     let len : length new ≡ length out - at = c.give-at.auto.buf ∙ part_length at out in
     let whole : List ℕ = put_mid at (length out - at) out new in
     let inside : at + n ≤ length whole = omega (arith, put_length at out new c.units.invariant.inside len, c.give-at.ensures.number, part_length at out) in
-    let same : take (at + n) whole ++ left_of c.give-at.new.self rest ≡ left_of c.args.held c.args.bytes.now =
+    let same : take (at + n) whole ++ left_of c.give-at.new.self rest ≡ plain_from c.args.spot c.args.bytes.now =
     gave_more at n out new (left_of c.units.held rest) _ _ c.units.invariant.inside
     (omega (arith, c.give-at.ensures.number, part_length at out, len)) c.units.invariant.same (c.give-at.ensures.gives rest) in
     let room : length (left_of c.give-at.new.self rest) ≡ length whole - (at + n) =
-    room_left (at + n) whole (left_of c.give-at.new.self rest) (left_of c.args.held c.args.bytes.now) inside same
+    room_left (at + n) whole (left_of c.give-at.new.self rest) (plain_from c.args.spot c.args.bytes.now) inside same
     (put_length at out new c.units.invariant.inside len ∙ c.units.auto.out ∙ c.requires) in
     record {
       ready = none_held c.give-at.new.self rest n (length new) (omega (arith, room, len, put_length at out new c.units.invariant.inside len)) c.give-at.ensures.rest;
@@ -61,7 +61,7 @@ returns c =
     let len : length new ≡ length out - at = c.give-at.auto.buf ∙ part_length at out in
     let whole : List ℕ = put_mid at (length out - at) out new in
     let inside : at + n ≤ length whole = omega (arith, put_length at out new c.units.invariant.inside len, c.give-at.ensures.number, part_length at out) in
-    let same : take (at + n) whole ++ left_of c.give-at.new.self rest ≡ left_of c.args.held c.args.bytes.now =
+    let same : take (at + n) whole ++ left_of c.give-at.new.self rest ≡ plain_from c.args.spot c.args.bytes.now =
     gave_more at n out new (left_of c.units.held rest) _ _ c.units.invariant.inside
     (omega (arith, c.give-at.ensures.number, part_length at out, len)) c.units.invariant.same (c.give-at.ensures.gives rest) in
     put_last (at + n) whole c.fill_last.new.out inside (c.fill_last.auto.out ∙ part_length (at + n) whole)
