@@ -43,6 +43,12 @@ written n new buf l fits =
     let len : n ≡ length new = omega (arith, l, length-take n buf) in
     ap (λ (k : ℕ). take k (new ++ drop n buf)) len ∙ take-append_seam new (drop n buf)
 
+-- what is behind it
+pub after_front : (n : ℕ) (new buf : List ℕ) → length new ≡ length (take n buf) → n ≤ length buf → drop n (new ++ drop n buf) ≡ drop n buf
+after_front n new buf l fits =
+    let len : n ≡ length new = omega (arith, l, length-take n buf) in
+    ap (λ (k : ℕ). drop k (new ++ drop n buf)) len ∙ drop-append_seam new (drop n buf)
+
 pub passing_copied : (n : ℕ) (piece new buf : List ℕ) → length new ≡ length (take n buf) → n ≤ length buf → new ≡ take n piece → GivesFor Passing (take n piece) (take n (new ++ drop n buf)) Passing
 unfolding plain_from
 passing_copied n piece new buf l fits e more = ap (λ (x : List ℕ). x ++ more) (sym (written n new buf l fits ∙ e))

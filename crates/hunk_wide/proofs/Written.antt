@@ -1,10 +1,13 @@
 -- The plain spelling, written into a buffer that it fills.
-use Rattle.std.proofs.Common.{◌≡◌, ℕ, ◌+◌, ◌-◌, ◌<◌, ◌≤◌, List, [], ◌∷◌, ◌++◌, length, take, drop, length-append, refl, sym, ap, ◌∙◌, append_assoc, arith}
-use Rattle.std.proofs.lemmas.{List.{append-nil, length-drop, length-take, take-append-drop, take_rest}, Slice.{take-put_mid}}
+use Rattle.std.proofs.Common.{◌≡◌, ℕ, zero, suc, Bool, true, false, cond, eqb-true, ◌==◌, ◌+◌, ◌-◌, ◌<◌, ◌≤◌, List, [], ◌∷◌, ◌++◌, length, take, drop, length-append, refl, sym, ap, ◌∙◌, append_assoc, arith}
+use Rattle.std.proofs.Math.Seq.{drop-append_seam}
+use Rattle.std.proofs.lemmas.{List.{append-nil, drop-drop, length-drop, length-take, take-append-drop, take_rest}, Slice.{take-put_mid}}
 use borrow.Rule.Slice.PartMut.{post_of, put_mid}
 use Rattle.hunk_wide.specs.declared.spot.Spot.{Spot}
-use Rattle.hunk_wide.specs.declared.spot.Spot.TheVariants.{Passing}
-use Rattle.hunk_wide.specs.{Held.{Held, left_of, wanted, wanted_by}, Plain.{GivesFor, plain_from}}
+use Rattle.hunk_wide.specs.declared.spot.Spot.TheVariants.{Passing, Straight, Long, Half, Filler}
+use Rattle.std.specs.Int.{to_be_bytes, w32}
+use Rattle.hunk_words.specs.Bits.{end_word}
+use Rattle.hunk_wide.specs.{FileEnds.is_last, Held.{Held, left_of, wanted, wanted_by}, Plain.{GivesFor, plain_from}}
 use Rattle.hunk_wide.proofs.{Straight.take_over, Stretches.front_more}
 
 -- Where bytes are wanted, none is ready.
@@ -65,6 +68,22 @@ put_last at out new inside len =
     sym (take_over (at + length new) (put_mid at (length out - at) out new) (omega (arith, put_length at out new inside len)))
     ∙ take-put_mid at (length out - at) out new (at + length new) refl inside
 
+-- What stays behind a byte stays behind a later one.
+pub same_behind : (at n : ℕ) (out first : List ℕ) → drop at out ≡ drop at first → drop (at + n) out ≡ drop (at + n) first
+same_behind at n out first same = sym (drop-drop n at out) ∙ ap (drop n) same ∙ drop-drop n at first
+
+-- what is behind the first bytes of it, where that stays as it was
+pub put_behind : (at n : ℕ) (out new first : List ℕ) → at ≤ length out → length new ≡ length out - at → drop n new ≡ drop n (take (length out - at) (drop at out)) → drop at out ≡ drop at first
+    → drop (at + n) (put_mid at (length out - at) out new) ≡ drop (at + n) first
+put_behind at n out new first inside len stays same =
+    let front : at ≡ length (take at out) = omega (arith, length-take at out, inside) in
+    ap (drop (at + n)) (put_last at out new inside len)
+    ∙ sym (drop-drop n at (take at out ++ new))
+    ∙ ap (drop n) (ap (λ (k : ℕ). drop k (take at out ++ new)) front ∙ drop-append_seam (take at out) new)
+    ∙ stays
+    ∙ ap (drop n) (take_rest out at ∙ same)
+    ∙ drop-drop n at first
+
 -- some of it
 pub put_more : (at n : ℕ) (out new : List ℕ) → at ≤ length out → n ≤ length new → take (at + n) (put_mid at (length out - at) out new) ≡ take at out ++ take n new
 put_more at n out new inside room = front_more out new (post_of at (length out - at) out) at n inside room
@@ -95,3 +114,14 @@ first_part s t bytes buf taken given gives =
     ap (λ (x : List ℕ). take given buf ++ plain_from t x) (take_rest bytes taken)
     ∙ sym (gives (drop taken bytes))
     ∙ ap (plain_from s) (take-append-drop taken bytes)
+
+-- Nothing is left where no byte comes, and no END is put in.
+pub none_left : (s : Spot) (bytes : List ℕ) → (length bytes == 0) ≡ true → is_last s ≡ false → plain_from s bytes ≡ []
+unfolding plain_from
+none_left s (b ∷ bytes) none e = absurd (omega (arith, eqb-true (length (b ∷ bytes)) 0 none))
+none_left Passing [] none e = refl
+none_left (Straight zero next) [] none e = refl
+none_left (Straight (suc owed) next) [] none e = refl
+none_left (Long p) [] none e = ap (λ (b : Bool). cond b (to_be_bytes w32 end_word) []) e
+none_left (Half after part odd) [] none e = refl
+none_left (Filler after) [] none e = refl

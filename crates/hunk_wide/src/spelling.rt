@@ -1,8 +1,8 @@
 //! How an input spells its file: what it has otherwise than the plain spelling.
-ghost use Rattle.std.specs.Prelude.{◌≡◌, ◌+◌, ◌*◌, ◌≤◌, length, IfNone, IfSome, IsTrue};
-ghost use Rattle.hunk_wide.specs.Plain.{plain};
+ghost use Rattle.std.specs.Prelude.{◌≡◌, ◌+◌, ◌*◌, ◌^◌, ◌<◌, ◌≤◌, length, IfNone, IfSome, IsTrue};
+ghost use Rattle.hunk_wide.specs.Plain.{plain, plain_from};
 ghost use Rattle.hunk_wide.specs.Spellings.{BeginsWith, EndsThere};
-ghost use Rattle.hunk_wide.specs.Spellings.{ends_last, ends_of, has_end, is_short, one_if, short_blocks_of};
+ghost use Rattle.hunk_wide.specs.Spellings.{ends_from, ends_last, ends_of, has_end, is_short, one_if, short_blocks_from, short_blocks_of};
 ghost use Rattle.hunk_wide.specs.declared.spot.Spot.TheVariants.{Filler, Half, Long, Straight};
 
 use crate::behind::part_at;
@@ -59,7 +59,18 @@ pub fn spelling_of(bytes: &[u8]) -> Spelling
     ensures same { result.short_blocks ≡ 0 → result.ends ≡ 0 → plain bytes.now ≡ bytes.now }
     ensures bound { result.len ≤ 2 * length bytes.now }
 {
-    let mut spot = Spot::Long(FilePosition::Load(Position::FirstLong));
+    spelling_from(Spot::Long(FilePosition::Load(Position::FirstLong)), bytes)
+}
+
+/// The same of the bytes from here to the end of the input, where they are for this.
+#[inline(never)]
+pub(crate) fn spelling_from(spot: Spot, bytes: &[u8]) -> Spelling
+    requires { length (plain_from spot bytes.now) < 2 ^ 64 }
+    ensures len { result.len ≡ length (plain_from spot bytes.now) }
+    ensures short_blocks { result.short_blocks ≡ short_blocks_from spot bytes.now }
+    ensures ends { result.ends ≡ ends_from spot bytes.now }
+{
+    let mut spot = spot;
     let mut rest = bytes;
     let mut len: u64 = 0;
     let mut short_blocks: u64 = 0;

@@ -1,5 +1,5 @@
 //! Bytes of a wide spelling that lie in a piece, given out into a buffer.
-ghost use Rattle.std.specs.Prelude.{◌≡◌, ◌<◌, ◌≤◌, ◌+◌, ◌*◌, ◌/◌, ◌++◌, false, length, take};
+ghost use Rattle.std.specs.Prelude.{◌≡◌, ◌<◌, ◌≤◌, ◌+◌, ◌*◌, ◌/◌, ◌++◌, drop, false, length, take};
 ghost use Rattle.std.specs.Int.{from_be_bytes, to_be_bytes, w32};
 ghost use Rattle.hunk_words.specs.Bits.{end_word};
 ghost use Rattle.hunk_wide.specs.Halves.{widened};
@@ -42,6 +42,7 @@ struct Copied {
 pub(crate) fn expand(spot: Spot, piece: &[u8], buf: &mut [u8]) -> Stretch
     ensures taken { result.taken ≤ length piece.now }
     ensures given { result.given ≤ length buf.new }
+    ensures rest { drop result.given buf.new ≡ drop result.given buf.old }
     ensures gives { GivesFor spot (take result.taken piece.now) (take result.given buf.new)
         result.next }
     ensures leads { LeadsTo spot (take result.taken piece.now) result.next }
@@ -67,6 +68,8 @@ pub(crate) fn expand(spot: Spot, piece: &[u8], buf: &mut [u8]) -> Stretch
 fn expand_unit(spot: Spot, piece: &[u8], buf: &mut [u8]) -> Stretch
     ensures taken { result.taken ≤ length piece.now }
     ensures given { result.given ≤ length buf.new }
+    ensures rest { drop result.given buf.new ≡ drop result.given buf.old }
+    ensures few { result.given ≤ 3 * result.taken }
     ensures gives { GivesFor spot (take result.taken piece.now) (take result.given buf.new)
         result.next }
     ensures leads { LeadsTo spot (take result.taken piece.now) result.next }
@@ -101,6 +104,8 @@ fn nothing(spot: Spot) -> Stretch
 fn expand_passing(piece: &[u8], buf: &mut [u8]) -> Stretch
     ensures taken { result.taken ≤ length piece.now }
     ensures given { result.given ≤ length buf.new }
+    ensures rest { drop result.given buf.new ≡ drop result.given buf.old }
+    ensures few { result.given ≤ 3 * result.taken }
     ensures gives { GivesFor Passing (take result.taken piece.now) (take result.given buf.new)
         result.next }
     ensures leads { LeadsTo Passing (take result.taken piece.now) result.next }
@@ -119,6 +124,8 @@ fn expand_passing(piece: &[u8], buf: &mut [u8]) -> Stretch
 fn expand_straight(owed: u64, next: FilePosition, piece: &[u8], buf: &mut [u8]) -> Stretch
     ensures taken { result.taken ≤ length piece.now }
     ensures given { result.given ≤ length buf.new }
+    ensures rest { drop result.given buf.new ≡ drop result.given buf.old }
+    ensures few { result.given ≤ 3 * result.taken }
     ensures gives { GivesFor (Straight owed next) (take result.taken piece.now)
         (take result.given buf.new) result.next }
     ensures leads { LeadsTo (Straight owed next) (take result.taken piece.now) result.next }
@@ -138,6 +145,8 @@ fn expand_straight(owed: u64, next: FilePosition, piece: &[u8], buf: &mut [u8]) 
 fn expand_long(position: FilePosition, piece: &[u8], buf: &mut [u8]) -> Stretch
     ensures taken { result.taken ≤ length piece.now }
     ensures given { result.given ≤ length buf.new }
+    ensures rest { drop result.given buf.new ≡ drop result.given buf.old }
+    ensures few { result.given ≤ 3 * result.taken }
     ensures gives { GivesFor (Long position) (take result.taken piece.now)
         (take result.given buf.new) result.next }
     ensures leads { LeadsTo (Long position) (take result.taken piece.now) result.next }
@@ -168,6 +177,8 @@ fn expand_long(position: FilePosition, piece: &[u8], buf: &mut [u8]) -> Stretch
 fn expand_part(position: FilePosition, piece: &[u8], buf: &mut [u8]) -> Copied
     ensures taken { result.taken ≤ length piece.now }
     ensures given { result.given ≤ length buf.new }
+    ensures rest { drop result.given buf.new ≡ drop result.given buf.old }
+    ensures few { result.given ≤ 3 * result.taken }
     ensures gives { GivesFor (Long position) (take result.taken piece.now)
         (take result.given buf.new) (Long result.next) }
     ensures leads { LeadsTo (Long position) (take result.taken piece.now) (Long result.next) }
@@ -197,7 +208,8 @@ fn copy_run(run: Run, piece: &[u8], buf: &mut [u8]) -> Copied
     requires piece { run.size ≤ length piece.now }
     requires room { run.size ≤ length buf.old }
     ensures taken { result.taken ≡ run.size }
-    ensures given { result.given ≤ length buf.new }
+    ensures given { result.given ≡ run.size }
+    ensures rest { drop result.given buf.new ≡ drop result.given buf.old }
     ensures bytes { take result.given buf.new ≡ take run.size piece.now }
     ensures next { result.next ≡ run.next }
 {
@@ -216,6 +228,8 @@ fn copy_blocks(hunk: OpenHunk, piece: &[u8], buf: &mut [u8]) -> Copied
     requires { 2 * length piece.now ≤ length buf.old }
     ensures taken { result.taken ≤ length piece.now }
     ensures given { result.given ≤ length buf.new }
+    ensures rest { drop result.given buf.new ≡ drop result.given buf.old }
+    ensures few { result.given ≤ 3 * result.taken }
     ensures gives { GivesFor (load_at (word_at hunk false)) (take result.taken piece.now)
         (take result.given buf.new) (Long result.next) }
     ensures leads { LeadsTo (load_at (word_at hunk false)) (take result.taken piece.now)
@@ -249,6 +263,7 @@ fn copy_blocks(hunk: OpenHunk, piece: &[u8], buf: &mut [u8]) -> Copied
 fn copy_and_end(bytes: &[u8], buf: &mut [u8]) -> usize
     requires { length bytes.now + 4 ≤ length buf.old }
     ensures number { result ≡ length bytes.now + 4 }
+    ensures rest { drop result buf.new ≡ drop result buf.old }
     ensures bytes { take result buf.new ≡ bytes.now ++ to_be_bytes w32 end_word }
 {
     let end = bytes.len();
@@ -262,6 +277,7 @@ fn copy_and_end(bytes: &[u8], buf: &mut [u8]) -> usize
 fn put_long(given: Given, cells: [u8; 4], buf: &mut [u8]) -> usize
     requires { 8 ≤ length buf.old }
     ensures inside { result ≤ length buf.new }
+    ensures rest { drop result buf.new ≡ drop result buf.old }
     ensures bytes { take result buf.new ≡ out_long given cells (from_be_bytes w32 cells) }
 {
     match given {
@@ -293,6 +309,8 @@ fn expand_half(
 ) -> Stretch
     ensures taken { result.taken ≤ length piece.now }
     ensures given { result.given ≤ length buf.new }
+    ensures rest { drop result.given buf.new ≡ drop result.given buf.old }
+    ensures few { result.given ≤ 3 * result.taken }
     ensures gives { GivesFor (Half after part is_odd) (take result.taken piece.now)
         (take result.given buf.new) result.next }
     ensures leads { LeadsTo (Half after part is_odd) (take result.taken piece.now) result.next }
@@ -327,6 +345,8 @@ fn widen(halves: &[u8], longs: &mut [u8])
 fn expand_filler(after: FilePosition, piece: &[u8], buf: &mut [u8]) -> Stretch
     ensures taken { result.taken ≤ length piece.now }
     ensures given { result.given ≤ length buf.new }
+    ensures rest { drop result.given buf.new ≡ drop result.given buf.old }
+    ensures few { result.given ≤ 3 * result.taken }
     ensures gives { GivesFor (Filler after) (take result.taken piece.now)
         (take result.given buf.new) result.next }
     ensures leads { LeadsTo (Filler after) (take result.taken piece.now) result.next }

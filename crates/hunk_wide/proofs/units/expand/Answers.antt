@@ -1,8 +1,8 @@
-use Rattle.std.proofs.Common.{ℕ, ◌-◌, List, ◌++◌, length, length-append, take, drop, subst, arith}
+use Rattle.std.proofs.Common.{ℕ, ◌-◌, List, ◌++◌, length, length-append, take, drop, subst, ◌∙◌, arith}
 use Rattle.std.proofs.lemmas.List.{length-drop, length-take, take_rest}
 use borrow.Rule.Slice.PartMut.{post_of}
 use Rattle.hunk_wide.specs.Plain.{GivesFor}
-use Rattle.hunk_wide.proofs.{Leads.more_lead, Stretches.one_more}
+use Rattle.hunk_wide.proofs.{Leads.more_lead, Stretches.one_more, Written.{part_length, put_behind}}
 use Rattle.hunk_wide.proofs.units.expand.Goals as goal
 
 pub units-preserved : goal.units-preserved
@@ -27,6 +27,9 @@ units-preserved c =
             c.units.invariant.given,
             c.expand_unit-unit.ensures.given,
           );
+      rest =
+          put_behind c.units.all.given c.expand_unit-unit.result.given c.units.buf new c.args.buf.now c.units.invariant.given (c.expand_unit-unit.auto.buf ∙ part_length c.units.all.given c.units.buf)
+          c.expand_unit-unit.ensures.rest c.units.invariant.rest;
       gives =
           one_more c.args.spot c.units.all.next c.expand_unit-unit.result.next c.args.piece.now c.units.buf new post
           c.units.all.taken c.expand_unit-unit.result.taken c.units.all.given c.expand_unit-unit.result.given c.units.invariant.given c.expand_unit-unit.ensures.given c.units.invariant.gives
