@@ -1,20 +1,15 @@
 -- Parts of a file that are given out as they are, passed over at once.
-use Rattle.std.proofs.Common.{◌≡◌, ℕ, zero, suc, ◌+◌, ◌-◌, ◌*◌, ◌<◌, ◌≤◌, Bool, true, false, cond, ltb, List, [], ◌∷◌, ◌++◌, Option, None, Some, IfSome, length, take, drop, length-append, refl, sym, ap, subst, ◌∙◌, append_assoc, zero-add, arith}
+use Rattle.std.proofs.Common.{◌≡◌, ℕ, zero, suc, ◌+◌, ◌-◌, ◌*◌, ◌<◌, ◌≤◌, Bool, true, false, cond, ltb, List, [], ◌∷◌, ◌++◌, Option, None, Some, length, take, drop, length-append, refl, sym, ap, subst, ◌∙◌, append_assoc, zero-add, arith}
 use Rattle.std.specs.Int.{from_be_bytes, w32}
 use Rattle.std.proofs.lemmas.{Bool.{le-ltb, ltb-false, ltb-true}, List.{length-drop, length-take, take_rest}}
-use Rattle.hunk_words.specs.Bits.{entry_type, has_both_bits, kind, name_longs, size_longs}
-use Rattle.hunk_grammar.specs.declared.ext_shape.ExtShape.{ExtShape}
-use Rattle.hunk_grammar.specs.declared.ext_shape.ExtShape.TheVariants.{Definition}
-use Rattle.hunk_grammar.specs.ExtKinds.{ext_shape}
+use Rattle.hunk_words.specs.Bits.{has_both_bits, kind}
 use Rattle.hunk_grammar.specs.declared.phase.Phase.{Phase}
 use Rattle.hunk_grammar.specs.declared.phase.Phase.TheVariants as phases
 use Rattle.hunk_grammar.specs.declared.position.OpenHunk.{OpenHunk}
 use Rattle.hunk_grammar.specs.declared.position.Position.{Position}
 use Rattle.hunk_grammar.specs.declared.position.Position.TheVariants as positions
 use Rattle.hunk_grammar.specs.PhaseSteps as inside
-use Rattle.hunk_grammar.specs.declared.object_position.ObjectPosition.TheVariants as places
-use Rattle.hunk_grammar.specs.ObjectPositions as object
-use Rattle.hunk_grammar.specs.Positions.{after, close, onward, open_next, owe_entries}
+use Rattle.hunk_grammar.specs.Positions.{close, onward, open_next, owe_entries}
 use Rattle.hunk_wide.specs.declared.position.FilePosition.{FilePosition}
 use Rattle.hunk_wide.specs.declared.position.FilePosition.TheVariants as files
 use Rattle.hunk_wide.specs.declared.spot.Spot.{Spot}
@@ -23,7 +18,7 @@ use Rattle.hunk_wide.specs.declared.spot.Given.{Given}
 use Rattle.hunk_wide.specs.declared.spot.Given.TheVariants.{Same, BehindEnd, AsLong}
 use Rattle.hunk_wide.specs.FileEnds.{ends}
 use Rattle.hunk_wide.specs.Longwords.{after_straight, behind_block, behind_load, behind_long, given, given_block, go_on, out_long, straight}
-use Rattle.hunk_wide.specs.Parts.{AsIs, Frame, OfHunk, OfUnit, IsBlock, IsBody, IsEntry, IsNext, IsRow, front_word, in_block, load_at, past, past_block, phase_at, word_at}
+use Rattle.hunk_wide.specs.Parts.{AsIs, OfHunk, IsBlock, IsBody, IsNext, IsRow, front_word, load_at, past, word_at}
 use Rattle.hunk_wide.specs.InFile.{LeadsTo, spot_after}
 use Rattle.hunk_wide.specs.Places.{count_long, here_or, place_from}
 use Rattle.hunk_wide.specs.Plain.{plain_from}

@@ -8,7 +8,7 @@ use Rattle.hunk_words.specs.Bits.{end_word}
 use Rattle.hunk_grammar.specs.declared.position.OpenHunk.{OpenHunk}
 use Rattle.hunk_wide.specs.declared.spot.Spot.{Spot}
 use Rattle.hunk_wide.specs.InFile.{LeadsTo}
-use Rattle.hunk_wide.specs.Parts.{AsIs, AsIsBehind, IsSpelled, WithEnds, load_at, put_before, word_at}
+use Rattle.hunk_wide.specs.Parts.{AsIsBehind, IsSpelled, WithEnds, load_at, put_before, word_at}
 use Rattle.hunk_wide.specs.Places.{GoesBy, here_or, place_from}
 use Rattle.hunk_wide.specs.Plain.{GivesFor, plain_from}
 use Rattle.hunk_wide.specs.Spellings.{BeginsWith, ends_from, one_if, short_blocks_from}
@@ -19,22 +19,6 @@ use Rattle.hunk_wide.proofs.{BehindEnds.spelled_from, Cutting.{range_cut, take_a
 -- a byte that is not given out for these
 pub here_past : (size given n later : ℕ) → given ≤ n → here_or size given n later ≡ size + later
 here_past size given n later past = ap (λ (b : Bool). cond b (n - (given - size)) (size + later)) (le-ltb n given past)
-
-pub as_is_ends : (s t : Spot) (bytes : List ℕ) → AsIs s bytes t → WithEnds s bytes 0 t
-as_is_ends s t bytes part = record {
-  few = omega arith;
-  len = λ more. ap length (part.gives more) ∙ length-append bytes (plain_from t more) ∙ none (length bytes) (length (plain_from t more));
-  short_blocks = part.short_blocks;
-  ends = λ more. omega (arith, part.ends more);
-  places = λ more n past.
-      let same : n - length bytes ≡ n - (4 * 0 + length bytes) = omega arith in
-      part.places more n
-      ∙ here_past (length bytes) (length bytes) n (place_from t more (n - length bytes)) (omega (arith, past))
-      ∙ ap (λ (k : ℕ). length bytes + place_from t more k) same;
-}
-  where
-    none : (a b : ℕ) → a + b ≡ 4 * 0 + a + b
-    none a b = omega arith
 
 -- the number that a flag is taken as
 pub one_byte : (b : Bool) → bool_byte b ≡ one_if b

@@ -1,5 +1,5 @@
 -- Blocks and headers of units of an object file, passed over at once.
-use Rattle.std.proofs.Common.{◌≡◌, ℕ, zero, suc, ◌+◌, ◌-◌, ◌*◌, ◌≤◌, List, Option, Some, IfSome, length, take, drop, refl, sym, ap, subst, ◌∙◌, arith}
+use Rattle.std.proofs.Common.{◌≡◌, ℕ, zero, suc, ◌+◌, ◌-◌, ◌*◌, ◌≤◌, List, length, take, drop, refl, sym, ap, subst, ◌∙◌, arith}
 use Rattle.hunk_grammar.specs.declared.object_position.ObjectPosition.{ObjectPosition}
 use Rattle.hunk_grammar.specs.declared.object_position.ObjectPosition.TheVariants as places
 use Rattle.hunk_grammar.specs.declared.object_position.WordPlace.{WordPlace}
@@ -11,7 +11,7 @@ use Rattle.hunk_wide.specs.declared.spot.Given.{Given}
 use Rattle.hunk_wide.specs.declared.spot.Given.TheVariants.{Same}
 use Rattle.hunk_wide.specs.Longwords.{behind_word, given_object, go_on, straight}
 use Rattle.hunk_wide.specs.Parts.{AsIs, OfUnit, IsBody, IsUnitBlock, IsUnitBody, front_word, object_at}
-use Rattle.hunk_wide.proofs.AsIs.{empty_run, long_as_is, none_as_is, part_as_is, straight_as_is, word_and_run}
+use Rattle.hunk_wide.proofs.AsIs.{empty_run, long_as_is, part_as_is, straight_as_is, word_and_run}
 use Rattle.hunk_wide.proofs.Written.{part_length}
 
 -- The word leads to the position after it, at which no run is owed.
@@ -33,9 +33,6 @@ block_as_is place next p bytes size whole same steps body = record {
 }
 
 -- ---- after the word
-
-pub no_body : (place : WordPlace) (bytes : List ℕ) → IsUnitBody (places.Word place) bytes 0 place
-no_body place bytes = record { whole = omega arith; begins = refl; as_is = none_as_is (object_at (places.Word place)) }
 
 pub body_after : (next : WordPlace) (phase : Phase) (bytes : List ℕ) (size : ℕ) → IsBody phase bytes size → IsUnitBody (places.Block next phase) bytes size next
 body_after next phase bytes size body = record { whole = body.whole; begins = body.begins; as_is = body.as_is (OfUnit next) }

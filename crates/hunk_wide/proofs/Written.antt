@@ -1,13 +1,13 @@
 -- The plain spelling, written into a buffer that it fills.
 use Rattle.std.proofs.Common.{◌≡◌, ℕ, zero, suc, Bool, true, false, cond, eqb-true, ◌==◌, ◌+◌, ◌-◌, ◌<◌, ◌≤◌, List, [], ◌∷◌, ◌++◌, length, take, drop, length-append, refl, sym, ap, ◌∙◌, append_assoc, arith}
 use Rattle.std.proofs.Math.Seq.{drop-append_seam}
-use Rattle.std.proofs.lemmas.{List.{append-nil, drop-drop, length-drop, length-take, take-append-drop, take_rest}, Slice.{take-put_mid}}
+use Rattle.std.proofs.lemmas.{List.{append-nil, drop-drop, length-drop, length-take, take_rest}, Slice.{take-put_mid}}
 use borrow.Rule.Slice.PartMut.{post_of, put_mid}
 use Rattle.hunk_wide.specs.declared.spot.Spot.{Spot}
 use Rattle.hunk_wide.specs.declared.spot.Spot.TheVariants.{Passing, Straight, Long, Half, Filler}
 use Rattle.std.specs.Int.{to_be_bytes, w32}
 use Rattle.hunk_words.specs.Bits.{end_word}
-use Rattle.hunk_wide.specs.{FileEnds.is_last, Held.{Held, left_of, wanted, wanted_by}, Plain.{GivesFor, plain_from}}
+use Rattle.hunk_wide.specs.{FileEnds.is_last, Held.{Held, left_of, wanted, wanted_by}, Plain.{plain_from}}
 use Rattle.hunk_wide.proofs.{Straight.take_over, Stretches.front_more}
 
 -- Where bytes are wanted, none is ready.
@@ -107,13 +107,6 @@ none_held h rest n room len fits = go h.ready refl
     go : (xs : List ℕ) → h.ready ≡ xs → h.ready ≡ []
     go [] e = e
     go (x ∷ xs) e = fits (omega (arith, len, ap length e, length-append h.ready (plain_from h.spot (h.begun ++ rest))))
-
--- Behind a first part of the input, the rest of it is what is left.
-pub first_part : (s t : Spot) (bytes buf : List ℕ) (taken given : ℕ) → GivesFor s (take taken bytes) (take given buf) t → take given buf ++ plain_from t (take (length bytes - taken) (drop taken bytes)) ≡ plain_from s bytes
-first_part s t bytes buf taken given gives =
-    ap (λ (x : List ℕ). take given buf ++ plain_from t x) (take_rest bytes taken)
-    ∙ sym (gives (drop taken bytes))
-    ∙ ap (plain_from s) (take-append-drop taken bytes)
 
 -- Nothing is left where no byte comes, and no END is put in.
 pub none_left : (s : Spot) (bytes : List ℕ) → (length bytes == 0) ≡ true → is_last s ≡ false → plain_from s bytes ≡ []
