@@ -25,7 +25,7 @@ const END: [u8; 4] = [0, 0, 3, 0xF2];
 const EMPTY_HUNK: [u8; 12] = [0, 0, 3, 0xEB, 0, 0, 0, 0, 0, 0, 3, 0xF2];
 
 /// How many such hunks are handed over at once.
-const AT_ONCE: usize = 64;
+const AT_ONCE: usize = 16;
 
 /// So many of them.
 const EMPTY_HUNKS: [[u8; 12]; AT_ONCE] = [EMPTY_HUNK; AT_ONCE];

@@ -13,18 +13,18 @@ hunks-init g c = subst (λ (xs : List ℕ). g.T.TakesBytes.takes c.args.taker.no
 
 pub hunks-preserved : goal.hunks-preserved
 hunks-preserved g c =
-    let n : ℕ = 64 * c.hunks.counter in
-    let more : 64 * (c.hunks.counter + 1) ≡ n + 64 = omega arith in
-    let same = ap bytes_for more ∙ more_hunks n 64 ∙ ap (λ (xs : List ℕ). bytes_for n ++ xs) (sym (c.as_flattened-hunks.ensures.value ∙ hunks_bytes 64)) in
+    let n : ℕ = 16 * c.hunks.counter in
+    let more : 16 * (c.hunks.counter + 1) ≡ n + 16 = omega arith in
+    let same = ap bytes_for more ∙ more_hunks n 16 ∙ ap (λ (xs : List ℕ). bytes_for n ++ xs) (sym (c.as_flattened-hunks.ensures.value ∙ hunks_bytes 16)) in
     subst (λ (xs : List ℕ). g.T.TakesBytes.takes c.args.taker.now xs c.take.new.self) (sym same)
     (g.met.T.TakesBytes.more c.args.taker.now c.hunks.taker c.take.new.self (bytes_for n) _ c.hunks.invariant c.take.ensures)
 
 pub returns : goal.returns
 returns g c =
-    let n : ℕ = 64 * c.hunks.counter in
-    let left : ℕ = c.args.count % 64 in
+    let n : ℕ = 16 * c.hunks.counter in
+    let left : ℕ = c.args.count % 16 in
     let sum : c.args.count ≡ n + left = omega (arith, c.hunks-test.false, c.hunks.auto.counter-end) in
-    let last = ap (take (12 * left)) (c.as_flattened-hunks.ensures.value ∙ hunks_bytes 64) ∙ first_hunks 64 left (omega arith) in
+    let last = ap (take (12 * left)) (c.as_flattened-hunks.ensures.value ∙ hunks_bytes 16) ∙ first_hunks 16 left (omega arith) in
     let same = ap bytes_for sum ∙ more_hunks n left ∙ ap (λ (xs : List ℕ). bytes_for n ++ xs) (sym last) in
     subst (λ (xs : List ℕ). g.T.TakesBytes.takes c.args.taker.now xs c.take-2.new.self) (sym same)
     (g.met.T.TakesBytes.more c.args.taker.now c.hunks.taker c.take-2.new.self (bytes_for n) _ c.hunks.invariant c.take-2.ensures)
