@@ -152,17 +152,35 @@ KINDS = {make.__name__: make for make in (code, debug, offsets, hunks, targets, 
 }
 
 
-def main():
-    if len(sys.argv) != 4 or sys.argv[1] not in KINDS:
-        sys.exit(__doc__)
-    longs = max(64, int(float(sys.argv[2]) * (1 << 18)) - 64)
+def longs_of(mib):
+    """How many longwords so many MiB have, less those around the parts that are made."""
+    try:
+        number = float(mib)
+    except ValueError:
+        number = -1
+    if not 0 <= number <= 1024:
+        sys.exit(f"make.py: {mib} is no number of MiB up to 1024")
+    return max(64, int(number * (1 << 18)) - 64)
+
+
+def write_file(kind, longs, name):
     chance = random.Random(20261122)
-    with open(sys.argv[3], "wb") as out:
-        for part in KINDS[sys.argv[1]](longs, lambda count: array.array("I", chance.randbytes(4 * count))):
+    with open(name, "wb") as out:
+        for part in KINDS[kind](longs, lambda count: array.array("I", chance.randbytes(4 * count))):
             words = array.array("I", part)
             if sys.byteorder == "little":
                 words.byteswap()
             words.tofile(out)
+
+
+def main():
+    if len(sys.argv) != 4 or sys.argv[1] not in KINDS:
+        sys.exit(__doc__)
+    kind, mib, name = sys.argv[1:]
+    try:
+        write_file(kind, longs_of(mib), name)
+    except (OSError, MemoryError) as error:
+        sys.exit(f"make.py: {name}: {error.strerror if isinstance(error, OSError) else 'no memory'}")
 
 
 main()
