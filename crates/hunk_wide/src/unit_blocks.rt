@@ -1,13 +1,14 @@
 //! Blocks and headers of units of an object file that are given out as they are, passed over at once.
 ghost use Rattle.std.specs.Prelude.{◌≡◌, ◌≤◌, IfNone, IfSome, length, take};
 ghost use Rattle.hunk_grammar.specs.declared.object_position.ObjectPosition.TheVariants.{Word};
-ghost use Rattle.hunk_wide.specs.Parts.{AsIs, IsUnitBlock, IsUnitBody, object_at};
+ghost use Rattle.hunk_wide.specs.Parts.{AsIs, IsUnitBlock, IsUnitBody, front_word, object_at};
 ghost use Rattle.hunk_wide.specs.declared.spot.Spot.TheVariants.{Long};
 
 use crate::parts::{Run, body_size, counted_size, front_word};
 use crate::position::FilePosition;
 use crate::spot::Given;
-use hunk_grammar::{ObjectPosition, WordPlace};
+use hunk_grammar::{ObjectPosition, WordPlace, by_kind};
+use hunk_words::BlockWord;
 
 /// The blocks and the headers of units that the bytes begin with, where the word of one stands at
 /// this place: all that are whole, up to the word of a short block.
@@ -38,6 +39,17 @@ fn pass_block(place: &mut WordPlace, bytes: &[u8]) -> Option<usize>
         return None;
     }
     let word = front_word(bytes);
+    by_kind!(BlockWord::of(word).kind(), pass_word(place, bytes, word))
+}
+
+/// The same, by its word. It is compiled for each kind by itself.
+#[inline(always)]
+fn pass_word(place: &mut WordPlace, bytes: &[u8], word: u32) -> Option<usize>
+    requires inside { 4 ≤ length bytes.now }
+    requires word { word ≡ front_word bytes.now }
+    ensures some { IfSome result (λ size. IsUnitBlock place.old bytes.now size place.new) }
+    ensures none { IfNone result (place.new ≡ place.old) }
+{
     let here = ObjectPosition::Word(*place);
     match Given::of(FilePosition::Object(here), word) {
         Given::Same => (),
