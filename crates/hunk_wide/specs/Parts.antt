@@ -15,7 +15,7 @@ use Rattle.hunk_grammar.specs.PhaseSteps.{longest_run}
 use Rattle.hunk_wide.specs.declared.position.FilePosition.{FilePosition}
 use Rattle.hunk_wide.specs.declared.position.FilePosition.TheVariants as files
 use Rattle.hunk_wide.specs.declared.spot.Spot.{Spot}
-use Rattle.hunk_wide.specs.declared.spot.Spot.TheVariants.{Long}
+use Rattle.hunk_wide.specs.declared.spot.Spot.TheVariants.{Long, Passing}
 use Rattle.hunk_wide.specs.InFile.{LeadsTo}
 use Rattle.hunk_wide.specs.Places.{here_or, place_from}
 use Rattle.hunk_wide.specs.Plain.{GivesFor, plain_from}
@@ -127,7 +127,12 @@ pub record IsBlock (o : OpenHunk) (bytes : List ℕ) (size : ℕ) (is_end : Bool
   pub whole : size ≤ length bytes
   pub as_is : AsIs (load_at (word_at o false)) (take size bytes) (load_at (word_at next is_end))
 
--- The same, where END may be left out before the block.
+-- The bytes begin with the END of a load file, which stands at this position. After it all bytes pass.
+pub record IsFileEnd (p : FilePosition) (bytes : List ℕ) : Type 0 where
+  pub whole : 4 ≤ length bytes
+  pub as_is : AsIs (Long p) (take 4 bytes) Passing
+
+-- The same of a block, where END may be left out before it.
 pub record IsSpelled (o : OpenHunk) (bytes : List ℕ) (size : ℕ) (is_behind is_end : Bool) (next : OpenHunk) : Type 0 where
   pub word : 4 ≤ size
   pub whole : size ≤ length bytes

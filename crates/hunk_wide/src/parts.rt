@@ -1,12 +1,13 @@
 //! Parts of a file that are given out as they are, and are passed over at once.
-ghost use Rattle.std.specs.Prelude.{◌≡◌, ◌+◌, ◌*◌, ◌≤◌, ◌||◌, IfNone, IfSome, IsTrue, length, take};
+ghost use Rattle.std.specs.Prelude.{◌≡◌, ◌+◌, ◌*◌, ◌≤◌, ◌||◌, false, IfNone, IfSome, IsTrue, length, take};
 ghost use Rattle.hunk_words.specs.Bits.{kind};
 ghost use Rattle.hunk_grammar.specs.declared.phase.Phase.TheVariants as phases;
 ghost use Rattle.hunk_grammar.specs.declared.position.OpenHunk.{OpenHunk};
 ghost use Rattle.hunk_grammar.specs.declared.position.Position.TheVariants as positions;
 ghost use Rattle.hunk_grammar.specs.PhaseSteps.{begin};
-ghost use Rattle.hunk_wide.specs.Parts.{AsIs, IsBlock, IsBody, IsHeader, IsNext, IsRow};
+ghost use Rattle.hunk_wide.specs.Parts.{AsIs, IsBlock, IsBody, IsFileEnd, IsHeader, IsNext, IsRow};
 ghost use Rattle.hunk_wide.specs.Parts.{front_word, is_content, load_at, word_at};
+ghost use Rattle.hunk_wide.specs.declared.position.FilePosition.TheVariants.{Load};
 ghost use Rattle.hunk_wide.specs.declared.spot.Spot.TheVariants.{Long};
 
 use crate::entries::entries_size;
@@ -83,7 +84,7 @@ fn nothing(position: FilePosition) -> Run
 
 /// The header of a load file, its table, and blocks after that.
 #[inline(never)]
-fn header_at(bytes: &[u8]) -> Run
+pub(crate) fn header_at(bytes: &[u8]) -> Run
     ensures inside { result.size ≤ length bytes.now }
     ensures as_is { AsIs (load_at positions.FirstLong) (take result.size bytes.now)
         (Long result.next) }
@@ -91,10 +92,26 @@ fn header_at(bytes: &[u8]) -> Run
     let Some(hunks) = hunks_of_header(bytes) else {
         return nothing(FilePosition::Load(Position::FirstLong));
     };
-    let rest = table_at(hunks, hunks - 1, &bytes[HEADER_SIZE..]);
+    let table = table_at(hunks, hunks - 1, &bytes[HEADER_SIZE..]);
+    let at = HEADER_SIZE + table.size;
+    let blocks = first_blocks_at(table.next, &bytes[at..]);
     Run {
-        size: HEADER_SIZE + rest.size,
-        next: rest.next,
+        size: at + blocks.size,
+        next: blocks.next,
+    }
+}
+
+/// Blocks of the first hunk and of those after it, where it opens here: the table is whole.
+#[inline(always)]
+fn first_blocks_at(position: FilePosition, bytes: &[u8]) -> Run
+    ensures inside { result.size ≤ length bytes.now }
+    ensures as_is { AsIs (Long position) (take result.size bytes.now) (Long result.next) }
+{
+    match position {
+        FilePosition::Load(Position::Body(hunk, Phase::FirstBlock)) => {
+            blocks_at(hunk, true, bytes)
+        }
+        _ => nothing(position),
     }
 }
 
@@ -249,6 +266,32 @@ pub(crate) fn pass_end(hunk: &mut OpenHunk) -> Option<usize>
     hunk.ahead -= 1;
     hunk.has_content = false;
     Some(4)
+}
+
+/// Whether the bytes begin with the END of a load file, which stands at this position, after a block.
+#[inline(always)]
+pub(crate) fn is_file_end(position: FilePosition, bytes: &[u8]) -> bool
+    ensures { IsTrue result → IsFileEnd position bytes.now }
+{
+    match position {
+        FilePosition::Load(Position::Body(hunk, Phase::BlockWord)) => is_last_end(hunk, bytes),
+        _ => false,
+    }
+}
+
+/// Whether they begin with END, after a block of this hunk, which is the last.
+#[inline(always)]
+fn is_last_end(hunk: OpenHunk, bytes: &[u8]) -> bool
+    ensures { IsTrue result → IsFileEnd (Load (word_at hunk false)) bytes.now }
+{
+    if hunk.ahead > 0 || bytes.len() < 4 {
+        return false;
+    }
+    let word = front_word(bytes);
+    match Given::of(FilePosition::Load(word_at(hunk, false)), word) {
+        Given::Same => begun_by(word).is_none(),
+        _ => false,
+    }
 }
 
 /// What follows this block word: `None` where it ends its block.

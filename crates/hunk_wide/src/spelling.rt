@@ -8,10 +8,10 @@ ghost use Rattle.hunk_wide.specs.declared.spot.Spot.TheVariants.{Filler, Half, L
 use crate::behind::part_at;
 use crate::expander::is_last;
 use crate::halves::halves_in;
+use crate::parts::{header_at, is_file_end};
 use crate::place::given_len;
 use crate::position::FilePosition;
 use crate::spot::{Given, ShortPart, Spot};
-use hunk_grammar::Position;
 
 /// How an input spells its file.
 #[derive(Clone, Copy, Debug, PartialEq, Eq)]
@@ -59,7 +59,21 @@ pub fn spelling_of(bytes: &[u8]) -> Spelling
     ensures same { result.short_blocks ≡ 0 → result.ends ≡ 0 → plain bytes.now ≡ bytes.now }
     ensures bound { result.len ≤ 2 * length bytes.now }
 {
-    spelling_from(Spot::Long(FilePosition::Load(Position::FirstLong)), bytes)
+    let front = header_at(bytes);
+    let rest = &bytes[front.size..];
+    // Most inputs are load files that are their own plain spelling, and end here.
+    if is_file_end(front.next, rest) {
+        return Spelling {
+            len: bytes.len() as u64,
+            short_blocks: 0,
+            ends: 0,
+        };
+    }
+    let behind = spelling_from(Spot::Long(front.next), rest);
+    Spelling {
+        len: front.size as u64 + behind.len,
+        ..behind
+    }
 }
 
 /// The same of the bytes from here to the end of the input, where they are for this.
