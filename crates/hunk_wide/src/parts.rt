@@ -82,9 +82,9 @@ fn nothing(position: FilePosition) -> Run
     }
 }
 
-/// The header of a load file, its table, and blocks after that.
+/// The header of a load file, and its table.
 #[inline(never)]
-pub(crate) fn header_at(bytes: &[u8]) -> Run
+fn header_at(bytes: &[u8]) -> Run
     ensures inside { result.size ≤ length bytes.now }
     ensures as_is { AsIs (load_at positions.FirstLong) (take result.size bytes.now)
         (Long result.next) }
@@ -92,11 +92,26 @@ pub(crate) fn header_at(bytes: &[u8]) -> Run
     let Some(hunks) = hunks_of_header(bytes) else {
         return nothing(FilePosition::Load(Position::FirstLong));
     };
-    let table = table_at(hunks, hunks - 1, &bytes[HEADER_SIZE..]);
-    let at = HEADER_SIZE + table.size;
-    let blocks = first_blocks_at(table.next, &bytes[at..]);
+    let rest = table_at(hunks, hunks - 1, &bytes[HEADER_SIZE..]);
     Run {
-        size: at + blocks.size,
+        size: HEADER_SIZE + rest.size,
+        next: rest.next,
+    }
+}
+
+/// The header of a load file, its table, and blocks after that.
+///
+/// It is compiled into its caller: a call of it in `expand` takes more stack than one of the header.
+#[inline(always)]
+pub(crate) fn front_at(bytes: &[u8]) -> Run
+    ensures inside { result.size ≤ length bytes.now }
+    ensures as_is { AsIs (load_at positions.FirstLong) (take result.size bytes.now)
+        (Long result.next) }
+{
+    let header = header_at(bytes);
+    let blocks = first_blocks_at(header.next, &bytes[header.size..]);
+    Run {
+        size: header.size + blocks.size,
         next: blocks.next,
     }
 }

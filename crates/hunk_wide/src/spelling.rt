@@ -8,7 +8,7 @@ ghost use Rattle.hunk_wide.specs.declared.spot.Spot.TheVariants.{Filler, Half, L
 use crate::behind::part_at;
 use crate::expander::is_last;
 use crate::halves::halves_in;
-use crate::parts::{header_at, is_file_end};
+use crate::parts::{front_at, is_file_end};
 use crate::place::given_len;
 use crate::position::FilePosition;
 use crate::spot::{Given, ShortPart, Spot};
@@ -59,7 +59,7 @@ pub fn spelling_of(bytes: &[u8]) -> Spelling
     ensures same { result.short_blocks ≡ 0 → result.ends ≡ 0 → plain bytes.now ≡ bytes.now }
     ensures bound { result.len ≤ 2 * length bytes.now }
 {
-    let front = header_at(bytes);
+    let front = front_at(bytes);
     let rest = &bytes[front.size..];
     // Most inputs are load files that are their own plain spelling, and end here.
     if is_file_end(front.next, rest) {
