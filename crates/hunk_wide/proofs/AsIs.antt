@@ -1,7 +1,7 @@
 -- Parts of a file that are given out as they are, passed over at once.
 use Rattle.std.proofs.Common.{◌≡◌, ℕ, zero, suc, ◌+◌, ◌-◌, ◌*◌, ◌<◌, ◌≤◌, Bool, true, false, cond, ltb, List, [], ◌∷◌, ◌++◌, Option, None, Some, length, take, drop, length-append, refl, sym, ap, subst, ◌∙◌, append_assoc, zero-add, arith}
 use Rattle.std.specs.Int.{from_be_bytes, w32}
-use Rattle.std.proofs.lemmas.{Bool.{le-ltb, ltb-false, ltb-true}, List.{length-drop, length-take, take-append-drop, take_rest}}
+use Rattle.std.proofs.lemmas.{Bool.{le-ltb, ltb-false, ltb-true}, List.{length-drop, length-take, take_rest}}
 use Rattle.hunk_words.specs.Bits.{has_both_bits, kind}
 use Rattle.hunk_grammar.specs.declared.phase.Phase.{Phase}
 use Rattle.hunk_grammar.specs.declared.phase.Phase.TheVariants as phases
@@ -13,7 +13,7 @@ use Rattle.hunk_grammar.specs.Positions.{close, onward, open_next, owe_entries}
 use Rattle.hunk_wide.specs.declared.position.FilePosition.{FilePosition}
 use Rattle.hunk_wide.specs.declared.position.FilePosition.TheVariants as files
 use Rattle.hunk_wide.specs.declared.spot.Spot.{Spot}
-use Rattle.hunk_wide.specs.declared.spot.Spot.TheVariants.{Passing, Straight, Long}
+use Rattle.hunk_wide.specs.declared.spot.Spot.TheVariants.{Straight, Long}
 use Rattle.hunk_wide.specs.declared.spot.Given.{Given}
 use Rattle.hunk_wide.specs.declared.spot.Given.TheVariants.{Same, BehindEnd, AsLong}
 use Rattle.hunk_wide.specs.FileEnds.{ends}
@@ -279,30 +279,3 @@ block_as_is o next phase bytes size whole same begins body e = record {
       (subst (λ (s : Spot). AsIs (load_at (positions.Body o phases.BlockWord)) (take 4 bytes) s) (starts_there o phase body.begins) (block_word o bytes (Some phase) whole same begins))
       (body.as_is (OfHunk o)));
 }
-
--- ---- what an input that begins with them has otherwise
-
--- by what the bytes after them have, where these are lent
-pub front_counts : (s t : Spot) (bytes : List ℕ) (n : ℕ) → n ≤ length bytes → AsIs s (take n bytes) t
-    → (length (plain_from s bytes) ≡ n + length (plain_from t (take (length bytes - n) (drop n bytes)))) × (short_blocks_from s bytes ≡ short_blocks_from t (take (length bytes - n) (drop n bytes)))
-    × (ends_from s bytes ≡ ends_from t (take (length bytes - n) (drop n bytes)))
-front_counts s t bytes n whole part = (
-  omega (arith, ap (λ (x : List ℕ). length (plain_from s x)) all, ap length (part.gives rest), length-append (take n bytes) (plain_from t rest), length-take n bytes, whole),
-  ap (short_blocks_from s) all ∙ part.short_blocks rest,
-  ap (ends_from s) all ∙ part.ends rest,
-)
-  where
-    rest : List ℕ
-    rest = take (length bytes - n) (drop n bytes)
-
-    all : bytes ≡ take n bytes ++ rest
-    all = sym (take-append-drop n bytes) ∙ ap (λ (x : List ℕ). take n bytes ++ x) (sym (take_rest bytes n))
-
--- nothing, where the END of the file comes after them
-pub file_counts : (s : Spot) (p : FilePosition) (bytes : List ℕ) (n : ℕ) → n ≤ length bytes → AsIs s (take n bytes) (Long p) → IsFileEnd p (take (length bytes - n) (drop n bytes))
-    → (length (plain_from s bytes) ≡ length bytes) × (short_blocks_from s bytes ≡ 0) × (ends_from s bytes ≡ 0)
-unfolding plain_from counted
-file_counts s p bytes n whole front end =
-    let inside : n + 4 ≤ length bytes = omega (arith, end.whole, part_length n bytes) in
-    let all = front_counts s Passing bytes (n + 4) inside (part_as_is s (Long p) Passing bytes n 4 front end.as_is) in
-    (omega (arith, all.0, part_length (n + 4) bytes, inside), all.1, all.2)

@@ -11,6 +11,7 @@ pub mod FromWide
 pub mod FromWords
 pub mod Leads
 pub mod AsIs
+pub mod Fronts
 pub mod Bodies
 pub mod BehindEnds
 pub mod ManyEnds

@@ -101,7 +101,7 @@ fn header_at(bytes: &[u8]) -> Run
 
 /// The header of a load file, its table, and blocks after that.
 ///
-/// It is compiled into its caller: a call of it in `expand` takes more stack than one of the header.
+/// `run_at` passes the header alone. With the blocks, a call that writes would take more stack.
 #[inline(always)]
 pub(crate) fn front_at(bytes: &[u8]) -> Run
     ensures inside { result.size ≤ length bytes.now }

@@ -1,6 +1,5 @@
 use Rattle.std.proofs.Common.{sym, ◌∙◌, arith}
-use Rattle.hunk_wide.proofs.AsIs.{file_counts, front_counts}
-use Rattle.hunk_wide.proofs.Counted.{at_most_twice, same_input}
+use Rattle.hunk_wide.proofs.{Counted.same_input, Fronts.{file_counts, front_counts, front_fits}}
 use Rattle.hunk_wide.proofs.spelling.spelling_of.Goals as goal
 
 pub returns-then-is_file_end-clause-len : goal.returns-then-is_file_end-clause-len
@@ -27,17 +26,12 @@ returns-then-is_file_end-clause-same c =
 pub spelling_from-behind-requires : goal.spelling_from-behind-requires
 spelling_from-behind-requires c =
     let front = c.front_at-front in
-    omega (arith, (front_counts _ _ c.args.bytes.now front.result.size front.ensures.inside front.ensures.as_is).0, at_most_twice c.args.bytes.now)
+    omega (arith, front_fits _ c.args.bytes.now front.result.size front.ensures.inside front.ensures.as_is)
 
 pub overflow_add-result : goal.overflow_add-result
 overflow_add-result c =
     let front = c.front_at-front in
-    omega (
-      arith,
-      (front_counts _ _ c.args.bytes.now front.result.size front.ensures.inside front.ensures.as_is).0,
-      at_most_twice c.args.bytes.now,
-      c.spelling_from-behind.ensures.len,
-    )
+    omega (arith, front_fits _ c.args.bytes.now front.result.size front.ensures.inside front.ensures.as_is, c.spelling_from-behind.ensures.len)
 
 pub returns-clause-same : goal.returns-clause-same
 returns-clause-same c =
@@ -49,9 +43,4 @@ returns-clause-same c =
 pub returns-clause-bound : goal.returns-clause-bound
 returns-clause-bound c =
     let front = c.front_at-front in
-    omega (
-      arith,
-      (front_counts _ _ c.args.bytes.now front.result.size front.ensures.inside front.ensures.as_is).0,
-      at_most_twice c.args.bytes.now,
-      c.spelling_from-behind.ensures.len,
-    )
+    omega (arith, front_fits _ c.args.bytes.now front.result.size front.ensures.inside front.ensures.as_is, c.spelling_from-behind.ensures.len)
