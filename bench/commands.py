@@ -32,13 +32,8 @@ def left_by(program, given, out):
 
 
 def compared(rounds, program, plain, file, command, out, is_hex=False):
-    """The milliseconds of a command on a file, and what those of the quickest plain program go into it; with `!` where
-    they print or write otherwise. With `is_hex` the input is the file in hexadecimal text. An object file has no memory to
-    show."""
-    with open(file, "rb") as bytes_of_file:
-        is_object = bytes_of_file.read(4) == bytes.fromhex("000003e7")
-    if is_object and command == "relocate":
-        return ""
+    """The milliseconds of a command on a file, those of the quickest plain program, and whether they print and write the
+    same. With `is_hex` the input is the file in hexadecimal text."""
     if is_hex:
         text = file.with_suffix(".hex")
         text.write_text(file.read_bytes().hex())
@@ -49,4 +44,4 @@ def compared(rounds, program, plain, file, command, out, is_hex=False):
     same = all(left == left_by(*it, out) for it in zip(programs[1:], given[1:]))
     rows = [[milliseconds(*it) for it in zip(programs, given)] for _ in range(rounds)]
     ours, *theirs = (min(it) for it in zip(*rows))
-    return f"{ours:.1f} / {ours / max(min(theirs), 0.1):.2f}" + ("" if same else " !")
+    return [ours, min(theirs)], same
